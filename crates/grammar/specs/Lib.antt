@@ -1,0 +1,4 @@
+pub mod Parse
+pub mod Laws
+pub mod Grammar
+pub mod Splice
