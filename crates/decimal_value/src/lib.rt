@@ -54,49 +54,56 @@ fn whole(n: i64) -> f64
 pub fn value(d: Decimal) -> f64
     ensures { λ r. ⌜ r ≡ Value.valueOf d ⌝ }
 {
+    let c = whole(d.coefficient);
     let p = d.power;
     if p < 0 {
         if p < -22 {
             return 0.0;
         }
-        return whole(d.coefficient) / ten((-p) as usize);
+        return c / ten((-p) as usize);
     }
     if p > 22 {
         return 0.0;
     }
-    whole(d.coefficient) * ten(p as usize)
+    c * ten(p as usize)
 }
 
+// Whether the f64 of a is below that of b.
 pub fn less(a: Decimal, b: Decimal) -> bool
     ensures { λ r. ⌜ r ≡ Value.less a b ⌝ }
 {
     value(a) < value(b)
 }
 
+// Whether the f64 of a is at most that of b.
 pub fn at_most(a: Decimal, b: Decimal) -> bool
     ensures { λ r. ⌜ r ≡ Value.atMost a b ⌝ }
 {
     value(a) <= value(b)
 }
 
+// Whether the two f64 are equal.
 pub fn equal(a: Decimal, b: Decimal) -> bool
     ensures { λ r. ⌜ r ≡ Value.equal a b ⌝ }
 {
     value(a) == value(b)
 }
 
+// Whether the f64 is 0 or more.
 pub fn not_negative(d: Decimal) -> bool
     ensures { λ r. ⌜ r ≡ Value.notNegative d ⌝ }
 {
     value(d) >= 0.0
 }
 
+// Whether the f64 is above 0.
 pub fn positive(d: Decimal) -> bool
     ensures { λ r. ⌜ r ≡ Value.positive d ⌝ }
 {
     value(d) > 0.0
 }
 
+// Whether the f64 is 1.
 pub fn is_one(d: Decimal) -> bool
     ensures { λ r. ⌜ r ≡ Value.isOne d ⌝ }
 {
