@@ -1,24 +1,23 @@
 -- What is written reads back: reading the written bytes of a number gives that number. Assumes nothing.
-use mathlib.Core.Path.{_≡_, refl, sym, ap, _∙_, subst}
-use mathlib.Core.Bool.{Bool, true, false, cond, _&&_, _||_, not, false≢true}
+use mathlib.Core.Path.{_≡_, refl, sym, ap, _∙_}
+use mathlib.Core.Bool.{Bool, true, false, _&&_, _||_, not, false≢true}
 use mathlib.Core.List.{List, [], _∷_, _++_, append-nil}
 use mathlib.Core.Option.{Option, some}
-use Prim.Native.Nat.{ℕ, zero, suc, _+_, _/_, _%_, _^_, _≤_, _<_}
+use Prim.Native.Nat.{ℕ, zero, suc, _+_, _/_, _%_, _^_, _≤_}
 use native.Mathlib.Omega.{arith}
 use mathlib.Core.Logic.{_⊎_, inl, inr}
-use borrow.Author.Tests.{le-leb, ne-eqb, eq-eqb, eqb-true, eqb-false, leb-true, ltb-true}
+use borrow.Author.Tests.{le-leb, ne-eqb, eq-eqb, eqb-true, eqb-false, leb-true}
 use lib.Dec.{leb, ltb, eqb}
-use lib.IntN.{ℤ, pos, negsuc, negℤ, _+ℤ_, _-ℤ_, +ℤ-idr}
+use lib.IntN.{ℤ, pos, negsuc, _+ℤ_, +ℤ-idr}
 use lib.ListN.{length}
 use Rattle.decimal.specs.declared.Decimal.{Decimal}
 use Rattle.decimal.specs.declared.Token.the-variants.{Number}
 use Rattle.decimal.specs.Decimal.{size, inRange}
-use Rattle.decimal.specs.Decimal as D
 use Rattle.decimal_read.specs.Number.{Form, isMark, isEmpty, isMinus, behindSign, digitsOf, behindDigits, fractionOf, behindFraction, isExponent, exponentMinus, exponentDigits, formOf, append, withSign, scale, zeros, trailing, judged, tokenOf}
 use Rattle.decimal_read.specs.Number as Read
 use Rattle.decimal_write.specs.Written.{digits, whole, exponent, writtenOf, normal}
-use Rattle.decimal_write.specs.Laws.{written-short, written-parts, digits-short}
-use Rattle.decimal_back.specs.Digits.{numbers, digitsOf-all, behindDigits-all, length-numbers, no-minus, no-sign-before, digits-digits, digits-some, digits-say}
+use Rattle.decimal_write.specs.Laws.{written-short, written-parts, digits-short, digits-some}
+use Rattle.decimal_back.specs.Digits.{numbers, digitsOf-all, behindDigits-all, length-numbers, no-minus, no-sign-before, digits-digits, digits-say}
 
 -- ---- a whole number: its sign, then its digits
 abbrev below : ℤ → Bool

@@ -1,19 +1,19 @@
 -- The digits of a written whole number, read: they are all taken, and they say that number. Assumes nothing.
-use mathlib.Core.Path.{_≡_, refl, sym, ap, _∙_}
-use mathlib.Core.Bool.{Bool, true, false, cond, _&&_, _||_}
+use mathlib.Core.Path.{_≡_, refl, ap, _∙_}
+use mathlib.Core.Bool.{Bool, true, false, cond, _&&_}
 use mathlib.Core.List.{List, [], _∷_, _++_}
 use Prim.Native.Nat.{ℕ, zero, suc, _+_, _-_, _*_, _/_, _%_, _≤_, _<_}
 use native.Mathlib.Omega.{arith}
-use borrow.Author.Tests.{le-leb, lt-leb, ltb-true, ltb-false, ne-eqb, leb-true, lt-ltb, le-ltb}
+use borrow.Author.Tests.{le-leb, ne-eqb, leb-true}
 use lib.Dec.{ltb, leb, eqb}
-use lib.ListN.{length, length-append}
+use lib.ListN.{length}
 use Rattle.decimal_read.specs.Number.{isDigit, isMinus, behindSign, digitsOf, behindDigits, append}
 use Rattle.decimal_write.specs.Written.{digitsWithin, digits}
+use Rattle.decimal_write.specs.Laws.{Every, none, more, digits-every}
 
--- the bytes of decimal digits, and the numbers from 0 to 9 that they stand for
-pub data Digits : List ℕ → Type 0 where
-  none : Digits []
-  more : {b : ℕ} {l : List ℕ} → isDigit b ≡ true → Digits l → Digits (b ∷ l)
+-- bytes that are decimal digits, and the numbers from 0 to 9 that they stand for
+abbrev pub Digits : List ℕ → Type 0
+Digits l = Every (λ b. isDigit b ≡ true) l
 
 abbrev pub numbers : List ℕ → List ℕ
 numbers [] = []
@@ -33,10 +33,6 @@ pub behindDigits-all : {l : List ℕ} (r : List ℕ) → Digits l → behindDigi
 unfolding behindDigits
 behindDigits-all r none = refl
 behindDigits-all r (more {b} {l} d p) = rw (d, behindDigits-all r p)
-
-pub both-digits : {l m : List ℕ} → Digits l → Digits m → Digits (l ++ m)
-both-digits none q = q
-both-digits (more d p) q = more d (both-digits p q)
 
 pub numbers-append : (l m : List ℕ) → numbers (l ++ m) ≡ numbers l ++ numbers m
 numbers-append [] m = refl
@@ -71,24 +67,6 @@ no-sign-before r none h = absurd (omega arith)
 no-sign-before r (more {b} {l} d p) h = rw (no-sign b d .0, no-sign b d .1)
 
 -- ---- the digits of n
-within-digits : (f n : ℕ) → n ≤ f → Digits (digitsWithin f n)
-unfolding digitsWithin
-within-digits zero n h = more (digit-is n (omega arith)) none
-within-digits (suc f) n h = go (ltb n 10) (ltb-true n 10) (within-digits f (n / 10) (omega arith))
-  where
-    go : (t : Bool) → (t ≡ true → n < 10) → Digits (digitsWithin f (n / 10)) → Digits (cond t ((48 + n) ∷ []) (digitsWithin f (n / 10) ++ ((48 + n % 10) ∷ [])))
-    go true s p = more (digit-is n (s refl)) none
-    go false s p = both-digits p (more (digit-is (n % 10) (omega arith)) none)
-
-within-some : (f n : ℕ) → 1 ≤ length (digitsWithin f n)
-unfolding digitsWithin
-within-some zero n = omega arith
-within-some (suc f) n = go (ltb n 10)
-  where
-    go : (t : Bool) → 1 ≤ length (cond t ((48 + n) ∷ []) (digitsWithin f (n / 10) ++ ((48 + n % 10) ∷ [])))
-    go true = omega arith
-    go false = rw length-append (omega arith)
-
 within-says : (f n : ℕ) → n ≤ f → append 0 (numbers (digitsWithin f n)) ≡ n
 unfolding digitsWithin append
 within-says zero n h = omega arith
@@ -103,12 +81,7 @@ within-says (suc f) n h = go (ltb n 10) (within-says f (n / 10) (omega arith))
         omega arith
 
 pub digits-digits : (n : ℕ) → Digits (digits n)
-unfolding digits
-digits-digits n = within-digits n n (omega arith)
-
-pub digits-some : (n : ℕ) → 1 ≤ length (digits n)
-unfolding digits
-digits-some n = within-some n n
+digits-digits n = digits-every (λ b. isDigit b ≡ true) digit-is n
 
 pub digits-say : (n : ℕ) → append 0 (numbers (digits n)) ≡ n
 unfolding digits
