@@ -1,0 +1,1 @@
+// The laws of this crate stand in specs/: what is written reads back. There is no code.

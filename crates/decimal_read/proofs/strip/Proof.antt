@@ -1,0 +1,29 @@
+-- Assumes nothing.
+use Rattle.decimal_read.proofs.Loops.{Stripping, strip-start, strip-more, strip-done}
+use borrow.Author.Needs.{needs}
+use Rattle.decimal_read.proofs.strip.Statement.{statement}
+use Rattle.decimal_read.proofs.strip.Tie as tie
+
+abbrev Inv-loop : tie.InvT-loop
+Inv-loop value c₀ z₀ c z = Stripping value c z
+
+abbrev μ-loop : tie.MeasureT-loop
+μ-loop value c₀ z₀ c z = c
+
+loop-holds : tie.Need-loop-holds Inv-loop μ-loop
+loop-holds c = search strip-start
+
+add-z : tie.Need-add-z Inv-loop μ-loop
+add-z c = search needs
+
+loop-less : tie.Need-loop-less Inv-loop μ-loop
+loop-less c = search needs
+
+loop-again : tie.Need-loop-again Inv-loop μ-loop
+loop-again c = search strip-more
+
+returns : tie.Need-returns Inv-loop μ-loop
+returns c = strip-done _ _ _ (c .before .before .pre .0) (c .before .before .pre .1) (c .before .loop .inv) (c .loop-test .left)
+
+pub strip-spec : {M : Type 1} → statement M
+strip-spec = tie.close (tie.spec Inv-loop μ-loop loop-holds add-z loop-less loop-again returns)
