@@ -5,12 +5,12 @@ use mathlib.Core.List.{List, _++_}
 use mathlib.Core.Logic.{inl, inr, _↔_}
 use mathlib.Core.Option.{Option, none, some, Option·none-ne-some, Option·some-injective}
 use Prim.Native.Nat.{ℕ, _+_, _≤_, _<_}
+use native.Mathlib.Omega.{arith}
 use borrow.Author.Tests.{leb-true, leb-false, lt-leb}
 use lib.Dec.{leb}
 use lib.ListN.{length}
 use Rattle.decimal.specs.Decimal as D
 use Rattle.decimal.specs.declared.Decimal.{Decimal}
-use Rattle.decimal.specs.declared.Token.{Token}
 use Rattle.decimal.specs.declared.Token.the-variants.{Number, Malformed}
 use Rattle.decimal_read.specs.Number.{Form, behindSign, digitsOf, behindDigits, fractionOf, behindFraction, isExponent, isMinus, exponentMinus, exponentDigits, digits, normal, formOf, judged, tokenOf}
 use Rattle.decimal_read.proofs.Stands.{Small, digits-small, fraction-small, both-small}
@@ -29,21 +29,11 @@ both : (a b : Bool) → (a && b) ≡ true → (a ≡ true) × (b ≡ true)
 both true b h = (refl, h)
 both false b h = absurd (false≢true h)
 
-Number-is : Token → Bool
-Number-is (Number d) = true
-Number-is Malformed = false
-
 apart : {X : Type 0} (d : Decimal) → Malformed ≡ Number d → X
-unfolding Number-is
-apart d e = absurd (false≢true (ap Number-is e))
-
-inside : Token → Decimal → Decimal
-inside (Number d) z = d
-inside Malformed z = z
+apart d e = absurd (let z : _≡_ {A = ℕ} 0 1 = cc in omega arith)
 
 same-number : (a b : Decimal) → Number a ≡ Number b → a ≡ b
-unfolding inside
-same-number a b e = ap (λ (t : Token). inside t a) e
+same-number a b e = cc
 
 picked : (t : Bool) (a d : Decimal) → cond t (Number a) Malformed ≡ Number d → (t ≡ true) × (a ≡ d)
 picked true a d e = (refl, same-number a d e)

@@ -1,4 +1,5 @@
--- Values as rational numbers, stated with natural numbers: a sign, a whole number and a power of ten.
+-- The values of number tokens (document 01, Numbers) as rational numbers, stated with natural numbers: a sign, a whole number and a
+-- power of ten. The theorems over these definitions are proofs/Accepted, Valued and Unique.
 use mathlib.Core.Path.{_≡_}
 use mathlib.Core.Bool.{Bool, true, false}
 use mathlib.Core.List.{List}
