@@ -1,5 +1,7 @@
--- The number token of document 01 (Numbers): its form, the number that a form says, the normal form of that number, and which tokens are
--- accepted. A token is a list of bytes; 48 to 57 are the digits 0 to 9.
+-- The number token of document 01 (Numbers): 'A token of at most 64 bytes: maybe a sign, digits with or without a point (a digit on one
+-- side at least), then maybe e or E, maybe a sign, and one or two digits. It is held as a whole coefficient and a power of ten, trailing
+-- zeros moved into the power; zero is 0 and 0, and minus zero is zero. Coefficient below 10^15 in size, power from -22 to 22.'
+-- In order below: the form of a token, what a form says, the normal form of that number, and which tokens are accepted.
 use Prim.Native.Nat.{ℕ, zero, suc, _+_, _-_, _*_, _^_, _/_, _%_}
 use mathlib.Core.Bool.{Bool, true, false, cond, _&&_, _||_}
 use mathlib.Core.List.{List, [], _∷_, _++_}
@@ -15,6 +17,7 @@ use Rattle.decimal.specs.declared.Token.the-variants.{Number, Malformed}
 
 -- ── The bytes ──
 
+-- 0 to 9
 unfoldable pub isDigit : ℕ → Bool
 isDigit b = leb 48 b && leb b 57
 
@@ -24,7 +27,7 @@ isMark b = eqb b 101 || eqb b 69
 
 -- ── The parts of a token ──
 
--- 'maybe a sign': whether the bytes begin with a minus, and what stands behind a plus or a minus
+-- 'maybe a sign': whether the bytes begin with a minus (45), and what stands behind a minus or a plus (43)
 unfoldable pub isMinus : List ℕ → Bool
 isMinus [] = false
 isMinus (b ∷ l) = eqb b 45
@@ -42,7 +45,7 @@ unfoldable pub behindDigits : List ℕ → List ℕ
 behindDigits [] = []
 behindDigits (b ∷ l) = cond (isDigit b) (behindDigits l) (b ∷ l)
 
--- 'with or without a point': the digits behind a point, if the bytes begin with one, and what stands behind them
+-- 'with or without a point': the digits behind a point (46), if the bytes begin with one, and what stands behind them
 unfoldable pub fractionOf : List ℕ → List ℕ
 fractionOf [] = []
 fractionOf (b ∷ l) = cond (eqb b 46) (digitsOf l) []
@@ -81,7 +84,7 @@ pub record Form : Type 0 where
   pub down : Bool
   pub exponent : List ℕ
 
--- the form of a token, if it has one: 'a digit on one side at least'
+-- the form of a token, if it has one: a sign, digits, a point and digits, with 'a digit on one side at least', and an exponent to the end
 unfoldable pub formOf : List ℕ → Option Form
 formOf token =
     let body = behindSign token in
@@ -103,7 +106,7 @@ unfoldable pub withSign : Bool → ℕ → ℤ
 withSign true n = negℤ (pos n)
 withSign false n = pos n
 
--- a form says its sign, times all its digits as a whole number, times 10 to its scale
+-- a form says, with its sign, all its digits as a whole number, times 10 to its scale: the exponent less the number of digits behind the point
 unfoldable pub digits : Form → ℕ
 digits f = append 0 (f .whole ++ f .fraction)
 
@@ -117,7 +120,7 @@ unfoldable pub zeros : ℕ → ℕ → ℕ
 zeros zero n = 0
 zeros (suc k) n = cond (eqb (n % 10) 0) (suc (zeros k (n / 10))) 0
 
--- the zeros that a form's digits end in
+-- the zeros that a form's digits end in; its number has no more digits than the form
 unfoldable pub trailing : Form → ℕ
 trailing f = zeros (length (f .whole ++ f .fraction)) (digits f)
 
@@ -126,11 +129,13 @@ normal f =
     cond (eqb (digits f) 0) D.zero
     (record { coefficient = withSign (f .negative) (digits f / 10 ^ trailing f); power = scale f +ℤ pos (trailing f) })
 
--- ── What a token of that many bytes and that form says: a number, or refusal 9 ──
+-- ── The token ──
 
+-- what a token of n bytes says that has no form, and one that has the form f: 'at most 64 bytes', and the limits, judged on the normal form
 unfoldable pub judged : ℕ → Option Form → Token
 judged n none = Malformed
 judged n (some f) = cond (leb n 64 && inRange (normal f)) (Number (normal f)) Malformed
 
+-- what a token says: a number, or that it is no number of our form
 unfoldable pub tokenOf : List ℕ → Token
 tokenOf token = judged (length token) (formOf token)

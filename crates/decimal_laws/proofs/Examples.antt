@@ -1,0 +1,86 @@
+-- The number examples of document 01, and of its rule on forms and limits, in one table: each token and what it says. Assumes nothing.
+use mathlib.Core.Path.{_≡_, refl}
+use mathlib.Core.List.{List, [], _∷_, map}
+use Prim.Native.Nat.{ℕ}
+use lib.IntN.{ℤ, pos, negsuc}
+use Rattle.decimal.specs.declared.Token.{Token}
+use Rattle.decimal.specs.declared.Token.the-variants.{Number, Malformed}
+use Rattle.decimal_read.specs.Number.{isDigit, isMark, isMinus, behindSign, digitsOf, behindDigits, fractionOf, behindFraction, isEmpty, isExponent, exponentMinus, exponentDigits, formOf, append, withSign, digits, scale, zeros, trailing, normal, judged, tokenOf}
+
+number : ℤ → ℤ → Token
+number c p = Number (record { coefficient = c; power = p })
+
+pub tokens : List (List ℕ)
+tokens =
+    -- 0.50
+    (48 ∷ 46 ∷ 53 ∷ 48 ∷ []) ∷
+    -- -0
+    (45 ∷ 48 ∷ []) ∷
+    -- 1e22
+    (49 ∷ 101 ∷ 50 ∷ 50 ∷ []) ∷
+    -- 1e23
+    (49 ∷ 101 ∷ 50 ∷ 51 ∷ []) ∷
+    -- 0.1e23
+    (48 ∷ 46 ∷ 49 ∷ 101 ∷ 50 ∷ 51 ∷ []) ∷
+    -- 1000000000000000
+    (49 ∷ 48 ∷ 48 ∷ 48 ∷ 48 ∷ 48 ∷ 48 ∷ 48 ∷ 48 ∷ 48 ∷ 48 ∷ 48 ∷ 48 ∷ 48 ∷ 48 ∷ 48 ∷ []) ∷
+    -- 1234567890123456
+    (49 ∷ 50 ∷ 51 ∷ 52 ∷ 53 ∷ 54 ∷ 55 ∷ 56 ∷ 57 ∷ 48 ∷ 49 ∷ 50 ∷ 51 ∷ 52 ∷ 53 ∷ 54 ∷ []) ∷
+    -- NaN
+    (78 ∷ 97 ∷ 78 ∷ []) ∷
+    -- 1.
+    (49 ∷ 46 ∷ []) ∷
+    -- .5
+    (46 ∷ 53 ∷ []) ∷
+    -- 1.e5
+    (49 ∷ 46 ∷ 101 ∷ 53 ∷ []) ∷
+    -- +1
+    (43 ∷ 49 ∷ []) ∷
+    -- 1e007
+    (49 ∷ 101 ∷ 48 ∷ 48 ∷ 55 ∷ []) ∷
+    -- 10e22
+    (49 ∷ 48 ∷ 101 ∷ 50 ∷ 50 ∷ []) ∷
+    -- 10e-23
+    (49 ∷ 48 ∷ 101 ∷ 45 ∷ 50 ∷ 51 ∷ []) ∷
+    -- 0e99
+    (48 ∷ 101 ∷ 57 ∷ 57 ∷ []) ∷
+    -- -12.5e-3
+    (45 ∷ 49 ∷ 50 ∷ 46 ∷ 53 ∷ 101 ∷ 45 ∷ 51 ∷ []) ∷
+    -- no bytes
+    ([]) ∷
+    -- .
+    (46 ∷ []) ∷
+    -- 63 zeros and a 1: 64 bytes
+    (48 ∷ 48 ∷ 48 ∷ 48 ∷ 48 ∷ 48 ∷ 48 ∷ 48 ∷ 48 ∷ 48 ∷ 48 ∷ 48 ∷ 48 ∷ 48 ∷ 48 ∷ 48 ∷ 48 ∷ 48 ∷ 48 ∷ 48 ∷ 48 ∷ 48 ∷ 48 ∷ 48 ∷ 48 ∷ 48 ∷ 48 ∷ 48 ∷ 48 ∷ 48 ∷ 48 ∷ 48 ∷ 48 ∷ 48 ∷ 48 ∷ 48 ∷ 48 ∷ 48 ∷ 48 ∷ 48 ∷ 48 ∷ 48 ∷ 48 ∷ 48 ∷ 48 ∷ 48 ∷ 48 ∷ 48 ∷ 48 ∷ 48 ∷ 48 ∷ 48 ∷ 48 ∷ 48 ∷ 48 ∷ 48 ∷ 48 ∷ 48 ∷ 48 ∷ 48 ∷ 48 ∷ 48 ∷ 48 ∷ 49 ∷ []) ∷
+    -- 64 zeros and a 1: 65 bytes
+    (48 ∷ 48 ∷ 48 ∷ 48 ∷ 48 ∷ 48 ∷ 48 ∷ 48 ∷ 48 ∷ 48 ∷ 48 ∷ 48 ∷ 48 ∷ 48 ∷ 48 ∷ 48 ∷ 48 ∷ 48 ∷ 48 ∷ 48 ∷ 48 ∷ 48 ∷ 48 ∷ 48 ∷ 48 ∷ 48 ∷ 48 ∷ 48 ∷ 48 ∷ 48 ∷ 48 ∷ 48 ∷ 48 ∷ 48 ∷ 48 ∷ 48 ∷ 48 ∷ 48 ∷ 48 ∷ 48 ∷ 48 ∷ 48 ∷ 48 ∷ 48 ∷ 48 ∷ 48 ∷ 48 ∷ 48 ∷ 48 ∷ 48 ∷ 48 ∷ 48 ∷ 48 ∷ 48 ∷ 48 ∷ 48 ∷ 48 ∷ 48 ∷ 48 ∷ 48 ∷ 48 ∷ 48 ∷ 48 ∷ 48 ∷ 49 ∷ []) ∷
+    []
+
+pub answers : List Token
+answers =
+    number (pos 5) (negsuc 0) ∷
+    number (pos 0) (pos 0) ∷
+    number (pos 1) (pos 22) ∷
+    Malformed ∷
+    number (pos 1) (pos 22) ∷
+    number (pos 1) (pos 15) ∷
+    Malformed ∷
+    Malformed ∷
+    number (pos 1) (pos 0) ∷
+    number (pos 5) (negsuc 0) ∷
+    number (pos 1) (pos 5) ∷
+    number (pos 1) (pos 0) ∷
+    Malformed ∷
+    Malformed ∷
+    number (pos 1) (negsuc 21) ∷
+    number (pos 0) (pos 0) ∷
+    number (negsuc 124) (negsuc 3) ∷
+    Malformed ∷
+    Malformed ∷
+    number (pos 1) (pos 0) ∷
+    Malformed ∷
+    []
+
+pub examples : map tokenOf tokens ≡ answers
+unfolding number tokens answers isDigit isMark isMinus behindSign digitsOf behindDigits fractionOf behindFraction isEmpty isExponent exponentMinus exponentDigits formOf append withSign digits scale zeros trailing normal judged tokenOf
+examples = refl

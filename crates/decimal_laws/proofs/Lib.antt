@@ -1,0 +1,4 @@
+pub mod Accepted
+pub mod Examples
+pub mod Unique
+pub mod Valued

@@ -1,0 +1,84 @@
+// Runs the number reader over the tokens of the file `tokens`, one a line. It writes a line for each token, `coefficient:power` or the
+// refusal number 9, and then how many tokens there were and how many of them are numbers.
+use decimal::Token;
+use libc::STDOUT_FILENO;
+ghost use mathlib.Core.Path.{_≡_};
+ghost use mathlib.Core.Bool.{true, false};
+ghost use Prim.Native.Nat.{_≤_};
+ghost use lib.IntN.{pos};
+ghost use lib.Signed.{ltZ};
+
+struct Counts {
+    tokens: u64,
+    numbers: u64,
+}
+
+// The size of a negative number.
+fn below(z: i64) -> u64
+    requires { ⌜ ltZ z (pos 0) ≡ true ⌝ }
+{
+    let m = -1 - z;
+    m as u64 + 1
+}
+
+fn print_signed(z: i64) {
+    if z < 0 {
+        io::write_all(STDOUT_FILENO, b"-");
+        io::print_decimal(STDOUT_FILENO, below(z));
+    } else {
+        io::print_decimal(STDOUT_FILENO, z as u64);
+    }
+}
+
+// Answers how many numbers a token is: 1 or 0.
+fn print_token(t: Token) -> u64
+    ensures { λ r. ⌜ r ≤ 1 ⌝ }
+{
+    match t {
+        Token::Number(d) => {
+            let p = d.power;
+            print_signed(d.coefficient);
+            io::write_all(STDOUT_FILENO, b":");
+            print_signed(p as i64);
+            io::write_all(STDOUT_FILENO, b"\n");
+            1
+        }
+        Token::Malformed => {
+            io::write_all(STDOUT_FILENO, b"9\n");
+            0
+        }
+    }
+}
+
+// The tokens of s, each ended by a line feed.
+fn run(s: &[u8]) -> Counts {
+    let mut tokens: u64 = 0;
+    let mut numbers: u64 = 0;
+    let mut from = 0;
+    for i in 0..s.len() {
+        let b = s[i];
+        if b == b'\n' {
+            numbers += print_token(decimal_read::number(&s[from..i]));
+            tokens += 1;
+            from = i + 1;
+        }
+    }
+    Counts { tokens, numbers }
+}
+
+fn main() {
+    let path = b"tokens";
+    let file = os::open_read(path);
+    if file < 0 {
+        os::fail(path);
+        return;
+    }
+    let mut buffer = io::large_buffer();
+    let n = io::read_full(file, &mut buffer);
+    libc::close(file);
+    let c = run(&buffer[..n]);
+    io::print_decimal(STDOUT_FILENO, c.tokens);
+    io::write_all(STDOUT_FILENO, b" tokens, ");
+    io::print_decimal(STDOUT_FILENO, c.numbers);
+    io::write_all(STDOUT_FILENO, b" numbers\n");
+}
