@@ -1,0 +1,4 @@
+pub mod Numbers
+pub mod Nodes
+pub mod List
+pub mod Reading

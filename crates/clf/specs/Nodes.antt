@@ -1,0 +1,372 @@
+-- The four carried nodes (document 01, The file we carry): each is the grammar of what stands behind `<` and its name.
+use mathlib.Core.Bool.{Bool, true, false, cond, not, _&&_, _||_}
+use mathlib.Core.List.{List, [], _∷_, _++_}
+use mathlib.Core.Option.{Option, none, some}
+use Prim.Native.Nat.{ℕ, zero, suc, _+_, _-_, _*_}
+use lib.Dec.{eqb, leb, ltb}
+use lib.IntN.{pos}
+use lib.ListN.{length, getD, set}
+use Rattle.decimal.specs.declared.Decimal.{Decimal}
+use Rattle.decimal.specs.Decimal as Decimals
+use Rattle.decimal_value.specs.Value.{less, atMost}
+use Rattle.process_list.specs.declared.Depth.{Depth}
+use Rattle.process_list.specs.declared.Depth.the-variants.{I8, I10, I12, I16, F16, F32}
+use Rattle.process_list.specs.declared.Kind.{Kind}
+use Rattle.process_list.specs.declared.Kind.the-variants.{Matrix, Lut1d, Range, Cdl}
+use Rattle.process_list.specs.List.{Element, numbersOf}
+use Rattle.grammar.specs.Grammar.{G, ret, bad, seq, _>>=_, _>>_}
+use Rattle.xml.specs.Bytes.{bytes, same, isDigit}
+use Rattle.xml.specs.Xml.{Attribute, isNamed, textOf, Rules, plain, Tag, startTag}
+use Rattle.xml.specs.Elements.{Holder, held, textElement}
+use Rattle.clf.specs.Numbers.{numbers, anyNumber, notBelowZero, onlyOne, valueElement}
+
+abbrev pub isSome : {A : Type 0} → Option A → Bool
+isSome none = false
+isSome (some a) = true
+
+abbrev pub orElse : {A : Type 0} → A → Option A → A
+orElse a none = a
+orElse a (some b) = b
+
+-- a node as it is read: what the list holds of it, and the bytes of its first Description, none where it has none
+pub record NodeRead : Type 0 where
+  pub element : Element
+  pub description : List ℕ
+
+-- the first of a node's Descriptions
+abbrev pub firstOf : List (List ℕ) → List ℕ
+firstOf [] = []
+firstOf (t ∷ l) = t
+
+-- ---- '`inBitDepth`, `outBitDepth` from 8i, 10i, 12i, 16i, 16f, 32f'
+
+unfoldable pub depthOf : List ℕ → Option Depth
+depthOf t =
+    cond (same t (bytes "8i")) (some I8)
+    (cond (same t (bytes "10i")) (some I10)
+    (cond (same t (bytes "12i")) (some I12)
+    (cond (same t (bytes "16i")) (some I16)
+    (cond (same t (bytes "16f")) (some F16)
+    (cond (same t (bytes "32f")) (some F32) none)))))
+
+-- a text that is no depth is 8, on these two attributes; others are judged by `rest`
+abbrev pub nodeTexts : (List ℕ → List ℕ → ℕ) → List ℕ → List ℕ → ℕ
+nodeTexts rest w t = cond (same w (bytes "inBitDepth") || same w (bytes "outBitDepth")) (cond (isSome (depthOf t)) 0 8) (rest w t)
+
+-- one of the two that is missing is 8
+abbrev pub nodeMissing : List Attribute → ℕ
+nodeMissing l = cond (isNamed (bytes "inBitDepth") l && isNamed (bytes "outBitDepth") l) 0 8
+
+abbrev pub depthAt : List ℕ → List Attribute → Depth
+depthAt w l = orElse I8 (depthOf (textOf w l))
+
+-- the node of these attributes and this content
+abbrev pub nodeOf : List Attribute → Kind → List Decimal → List (List ℕ) → NodeRead
+nodeOf l kind ns about = record {
+  element = record { kind = kind; input = depthAt (bytes "inBitDepth") l; output = depthAt (bytes "outBitDepth") l; numbers = ns };
+  description = firstOf about;
+}
+
+-- the rules of a node's start tag; one that may not be empty lacks an element: 5 at the `/>`, the lowest there
+abbrev pub nodeRules : (List ℕ → ℕ) → (List ℕ → List ℕ → ℕ) → Rules
+nodeRules names texts = record { names = names; texts = nodeTexts texts; opened = nodeMissing; emptied = λ l. 5 }
+
+-- ---- Array
+
+-- 'one Array, `dim` "3 3" or "3 4"'
+unfoldable pub matrixShape : List ℕ → Option Kind
+matrixShape t = cond (same t (bytes "3 3")) (some (Matrix false)) (cond (same t (bytes "3 4")) (some (Matrix true)) none)
+
+-- the digits that a text begins with, as a whole number behind the number n, and what stands behind them
+abbrev pub wholeFrom : ℕ → List ℕ → ℕ
+wholeFrom n [] = n
+wholeFrom n (b ∷ t) = let more : ℕ = wholeFrom (n * 10 + (b - 48)) t in cond (isDigit b) more n
+
+abbrev pub behindDigits : List ℕ → List ℕ
+behindDigits [] = []
+behindDigits (b ∷ t) = let more : List ℕ = behindDigits t in cond (isDigit b) more (b ∷ t)
+
+abbrev pub beginsWithZero : List ℕ → Bool
+beginsWithZero [] = false
+beginsWithZero (b ∷ t) = eqb b 48
+
+-- '`dim` n and 1 or 3 (digits, no leading zero, one space), n from 2 to 65,536'
+unfoldable pub lutColumns : List ℕ → ℕ
+lutColumns t = cond (same t (bytes " 1")) 1 (cond (same t (bytes " 3")) 3 0)
+
+unfoldable pub lutShape : List ℕ → Option Kind
+lutShape t =
+    let n = wholeFrom 0 t in
+    let c = lutColumns (behindDigits t) in
+    cond (not (beginsWithZero t) && (leb 2 n && (leb n 65536 && ltb 0 c))) (some (Lut1d n c)) none
+
+-- another `dim`, or none, is 8; an empty Array has too few numbers
+abbrev pub arrayRules : (List ℕ → Option Kind) → Rules
+arrayRules shape = record {
+  names = λ w. 0;
+  texts = λ w t. cond (same w (bytes "dim")) (cond (isSome (shape t)) 0 8) 0;
+  opened = λ l. cond (isNamed (bytes "dim") l) 0 8;
+  emptied = λ l. cond (isNamed (bytes "dim") l) 22 8;
+}
+
+-- a table: its shape and its numbers
+abbrev pub Table : Type 0
+Table = Kind × List Decimal
+
+abbrev pub arrayOf : Option Kind → G Table
+arrayOf none = bad 8
+arrayOf (some k) = seq (numbers (bytes "Array") (numbersOf k) anyNumber) (λ l. ret (k, l))
+
+unfoldable pub array : (List ℕ → Option Kind) → G Table
+array shape = seq (startTag (arrayRules shape)) (λ tag. arrayOf (shape (textOf (bytes "dim") (tag .attributes))))
+
+-- ---- Matrix and LUT1D: Descriptions, then one Array
+
+pub record ArrayState : Type 0 where
+  pub about : List (List ℕ)
+  pub table : Option Table
+
+abbrev pub noArray : ArrayState
+noArray = record { about = []; table = none }
+
+abbrev pub arrayBody : (List ℕ → Option Kind) → ArrayState → List ℕ → G ArrayState
+arrayBody shape st w =
+    cond (same w (bytes "Array"))
+    (seq (array shape) (λ t. ret (record { about = st .about; table = some t })))
+    (seq (textElement w) (λ t. ret (record { about = st .about ++ t ∷ []; table = st .table })))
+
+-- 'Descriptions come first in it': behind the Array nothing may stand
+abbrev pub arrayHolder : List ℕ → (List ℕ → Option Kind) → Holder ArrayState
+arrayHolder w shape = record {
+  name = w;
+  missing = λ st. cond (isSome (st .table)) 0 5;
+  fault = λ st v. cond (isSome (st .table)) 5 (cond (same v (bytes "Array") || same v (bytes "Description")) 0 5);
+  body = arrayBody shape;
+}
+
+abbrev pub tableNode : List Attribute → ArrayState → NodeRead
+tableNode l st = let t = orElse (Matrix false, []) (st .table) in nodeOf l (t .0) (t .1) (st .about)
+
+unfoldable pub matrix : G NodeRead
+matrix = do
+  tag ← startTag (nodeRules (λ w. 0) (λ w t. 0))
+  st ← held (arrayHolder (bytes "Matrix") matrixShape) noArray
+  ret (tableNode (tag .attributes) st)
+
+-- 'halfDomain and rawHalfs on a LUT1D' are known but not carried: 7 at the attribute
+abbrev pub lutNames : List ℕ → ℕ
+lutNames w = cond (same w (bytes "halfDomain") || same w (bytes "rawHalfs")) 7 0
+
+-- '`interpolation`, if there, is "linear"'
+abbrev pub lutTexts : List ℕ → List ℕ → ℕ
+lutTexts w t = cond (same w (bytes "interpolation")) (cond (same t (bytes "linear")) 0 8) 0
+
+unfoldable pub lut1d : G NodeRead
+lut1d = do
+  tag ← startTag (nodeRules lutNames lutTexts)
+  st ← held (arrayHolder (bytes "LUT1D") lutShape) noArray
+  ret (tableNode (tag .attributes) st)
+
+-- ---- Range: 'minInValue, maxInValue, minOutValue, maxOutValue, each once, any order'
+
+-- the index of a value by its name, in the order in which the list holds them; 4 is none
+unfoldable pub rangeIndex : List ℕ → ℕ
+rangeIndex w =
+    cond (same w (bytes "minInValue")) 0
+    (cond (same w (bytes "maxInValue")) 1
+    (cond (same w (bytes "minOutValue")) 2
+    (cond (same w (bytes "maxOutValue")) 3 4)))
+
+pub record RangeState : Type 0 where
+  pub about : List (List ℕ)
+  pub values : List (Option Decimal)
+
+abbrev pub noValues : RangeState
+noValues = record { about = []; values = none ∷ none ∷ none ∷ none ∷ [] }
+
+abbrev pub isThere : ℕ → RangeState → Bool
+isThere i st = isSome (getD (st .values) i none)
+
+abbrev pub valueAt : ℕ → RangeState → Decimal
+valueAt i st = orElse Decimals.zero (getD (st .values) i none)
+
+abbrev pub anyThere : RangeState → Bool
+anyThere st = isThere 0 st || (isThere 1 st || (isThere 2 st || isThere 3 st))
+
+abbrev pub allThere : RangeState → Bool
+allThere st = isThere 0 st && (isThere 1 st && (isThere 2 st && isThere 3 st))
+
+-- 'maxIn > minIn; maxOut ≥ minOut'
+abbrev pub inOrder : RangeState → Bool
+inOrder st = less (valueAt 0 st) (valueAt 1 st) && atMost (valueAt 2 st) (valueAt 3 st)
+
+abbrev pub rangeFault : RangeState → List ℕ → ℕ
+rangeFault st w =
+    cond (same w (bytes "Description")) (cond (anyThere st) 5 0)
+    (cond (ltb (rangeIndex w) 4) (cond (isThere (rangeIndex w) st) 5 0) 5)
+
+-- the number of a value element
+abbrev pub oneOf : List Decimal → Decimal
+oneOf [] = Decimals.zero
+oneOf (d ∷ l) = d
+
+abbrev pub rangeBody : RangeState → List ℕ → G RangeState
+rangeBody st w =
+    cond (same w (bytes "Description"))
+    (seq (textElement w) (λ t. ret (record { about = st .about ++ t ∷ []; values = st .values })))
+    (seq (valueElement w 1 anyNumber) (λ l. ret (record { about = st .about; values = set (st .values) (rangeIndex w) (some (oneOf l)) })))
+
+-- 'A node's rule on two values is judged at its end tag': 21; a value that is missing is 5
+abbrev pub rangeHolder : Holder RangeState
+rangeHolder = record {
+  name = bytes "Range";
+  missing = λ st. cond (allThere st) (cond (inOrder st) 0 21) 5;
+  fault = rangeFault;
+  body = rangeBody;
+}
+
+-- '`style` "Clamp" (when absent) or "noClamp"'
+abbrev pub rangeTexts : List ℕ → List ℕ → ℕ
+rangeTexts w t = cond (same w (bytes "style")) (cond (same t (bytes "Clamp") || same t (bytes "noClamp")) 0 8) 0
+
+abbrev pub rangeNode : List Attribute → RangeState → NodeRead
+rangeNode l st =
+    nodeOf l (Range (not (same (textOf (bytes "style") l) (bytes "noClamp")))) (valueAt 0 st ∷ valueAt 1 st ∷ valueAt 2 st ∷ valueAt 3 st ∷ []) (st .about)
+
+unfoldable pub range : G NodeRead
+range = do
+  tag ← startTag (nodeRules (λ w. 0) rangeTexts)
+  st ← held rangeHolder noValues
+  ret (rangeNode (tag .attributes) st)
+
+-- ---- ASC_CDL: 'optional SOPNode (Slope, Offset, Power in this order, three numbers each), then optional SatNode (Saturation)'
+
+-- an element that may not be empty: 5 at the `/>`
+abbrev pub holderRules : Rules
+holderRules = record { names = λ w. 0; texts = λ w t. 0; opened = λ l. 0; emptied = λ l. 5 }
+
+-- the element that follows so many numbers in a SOPNode; none where it has all
+abbrev pub sopName : ℕ → List ℕ
+sopName n = cond (eqb n 0) (bytes "Slope") (cond (eqb n 3) (bytes "Offset") (cond (eqb n 6) (bytes "Power") []))
+
+-- the rule on its numbers
+abbrev pub sopRule : ℕ → Decimal → ℕ
+sopRule n = cond (eqb n 0) notBelowZero (cond (eqb n 3) anyNumber onlyOne)
+
+abbrev pub sopHolder : Holder (List Decimal)
+sopHolder = record {
+  name = bytes "SOPNode";
+  missing = λ l. cond (ltb (length l) 9) 5 0;
+  fault = λ l w. cond (same w (sopName (length l))) 0 5;
+  body = λ l w. seq (valueElement w 3 (sopRule (length l))) (λ m. ret (l ++ m));
+}
+
+unfoldable pub sopNode : G (List Decimal)
+sopNode = startTag holderRules >> held sopHolder []
+
+abbrev pub satHolder : Holder (List Decimal)
+satHolder = record {
+  name = bytes "SatNode";
+  missing = λ l. cond (ltb (length l) 1) 5 0;
+  fault = λ l w. cond (ltb (length l) 1) (cond (same w (bytes "Saturation")) 0 5) 5;
+  body = λ l w. seq (valueElement w 1 notBelowZero) (λ m. ret (l ++ m));
+}
+
+unfoldable pub satNode : G (List Decimal)
+satNode = startTag holderRules >> held satHolder []
+
+pub record CdlState : Type 0 where
+  pub about : List (List ℕ)
+  pub sop : Option (List Decimal)
+  pub sat : Option (List Decimal)
+
+abbrev pub noCdl : CdlState
+noCdl = record { about = []; sop = none; sat = none }
+
+abbrev pub cdlFault : CdlState → List ℕ → ℕ
+cdlFault st w =
+    cond (same w (bytes "Description")) (cond (isSome (st .sop) || isSome (st .sat)) 5 0)
+    (cond (same w (bytes "SOPNode")) (cond (isSome (st .sop) || isSome (st .sat)) 5 0)
+    (cond (same w (bytes "SatNode")) (cond (isSome (st .sat)) 5 0) 5))
+
+abbrev pub cdlBody : CdlState → List ℕ → G CdlState
+cdlBody st w =
+    cond (same w (bytes "SOPNode")) (seq sopNode (λ l. ret (record { about = st .about; sop = some l; sat = st .sat })))
+    (cond (same w (bytes "SatNode")) (seq satNode (λ l. ret (record { about = st .about; sop = st .sop; sat = some l })))
+    (seq (textElement w) (λ t. ret (record { about = st .about ++ t ∷ []; sop = st .sop; sat = st .sat }))))
+
+abbrev pub cdlHolder : Holder CdlState
+cdlHolder = record { name = bytes "ASC_CDL"; missing = λ st. 0; fault = cdlFault; body = cdlBody }
+
+-- '`style` "Fwd" (when absent) or "FwdNoClamp"'; Rev and RevNoClamp are known but not carried: 7
+abbrev pub cdlTexts : List ℕ → List ℕ → ℕ
+cdlTexts w t =
+    cond (same w (bytes "style"))
+    (cond (same t (bytes "Fwd") || same t (bytes "FwdNoClamp")) 0
+    (cond (same t (bytes "Rev") || same t (bytes "RevNoClamp")) 7 8)) 0
+
+-- 'Absent parts read as 1, 0, 1 and 1'
+abbrev pub oneNumber : Decimal
+oneNumber = record { coefficient = pos 1; power = pos 0 }
+
+abbrev pub threeTimes : Decimal → List Decimal
+threeTimes d = d ∷ d ∷ d ∷ []
+
+abbrev pub sopNumbers : CdlState → List Decimal
+sopNumbers st = orElse (threeTimes oneNumber ++ threeTimes Decimals.zero ++ threeTimes oneNumber) (st .sop)
+
+abbrev pub satNumbers : CdlState → List Decimal
+satNumbers st = orElse (oneNumber ∷ []) (st .sat)
+
+abbrev pub cdlNode : List Attribute → CdlState → NodeRead
+cdlNode l st = nodeOf l (Cdl (not (same (textOf (bytes "style") l) (bytes "FwdNoClamp")))) (sopNumbers st ++ satNumbers st) (st .about)
+
+-- an ASC_CDL may be empty
+abbrev pub cdlRules : Rules
+cdlRules = record { names = λ w. 0; texts = nodeTexts cdlTexts; opened = nodeMissing; emptied = nodeMissing }
+
+abbrev pub cdlContent : Tag → G CdlState
+cdlContent tag = cond (tag .empty) (ret noCdl) (held cdlHolder noCdl)
+
+unfoldable pub ascCdl : G NodeRead
+ascCdl = do
+  tag ← startTag cdlRules
+  st ← cdlContent tag
+  ret (cdlNode (tag .attributes) st)
+
+-- ---- a node by its name
+
+-- the names of the nodes, carried or not
+pub data NodeName : Type 0 where
+  isMatrix : NodeName
+  isLut1d : NodeName
+  isRange : NodeName
+  isCdl : NodeName
+  notCarried : NodeName
+  noNode : NodeName
+
+-- 'the seven node names (carried or not)'; 'Known but not carried: Log, Exponent, LUT3D'
+unfoldable pub nodeName : List ℕ → NodeName
+nodeName w =
+    cond (same w (bytes "Matrix")) isMatrix
+    (cond (same w (bytes "LUT1D")) isLut1d
+    (cond (same w (bytes "Range")) isRange
+    (cond (same w (bytes "ASC_CDL")) isCdl
+    (cond (same w (bytes "Log") || (same w (bytes "Exponent") || same w (bytes "LUT3D"))) notCarried noNode))))
+
+abbrev pub nodeFault : NodeName → ℕ
+nodeFault isMatrix = 0
+nodeFault isLut1d = 0
+nodeFault isRange = 0
+nodeFault isCdl = 0
+nodeFault notCarried = 7
+nodeFault noNode = 5
+
+-- a node after its name
+abbrev pub nodeBody : NodeName → G NodeRead
+nodeBody isMatrix = matrix
+nodeBody isLut1d = lut1d
+nodeBody isRange = range
+nodeBody isCdl = ascCdl
+nodeBody notCarried = bad 7
+nodeBody noNode = bad 5

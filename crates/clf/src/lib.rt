@@ -1,0 +1,1 @@
+// No code: the definition of the carried file (specs/).

@@ -1,0 +1,6 @@
+pub mod Answers
+pub mod Tests
+pub mod Words
+pub mod Names
+pub mod Comments
+pub mod Texts

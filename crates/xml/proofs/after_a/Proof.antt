@@ -1,0 +1,42 @@
+use native.Mathlib.Omega.{arith}
+use Rattle.xml.proofs.Names.{after-a-cut, after-a-m, after-a-p}
+use borrow.Author.Needs.{needs}
+use Rattle.xml.proofs.after_a.Statement.{statement}
+use Rattle.xml.proofs.after_a.Tie as tie
+
+returns : tie.Need-returns
+returns c = after-a-cut _ _ (omega arith)
+
+shared-slice-read-if2 : tie.Need-shared-slice-read-if2
+shared-slice-read-if2 c = search needs
+
+slice-aggregate-word : tie.Need-slice-aggregate-word
+slice-aggregate-word c = search needs
+
+word-requires : tie.Need-word-requires
+word-requires c κs = search needs
+
+returns-2 : tie.Need-returns-2
+returns-2 c = after-a-m _ _ (omega arith) _ (c .before .before .if2 .taken) (c .word .ensures)
+
+slice-aggregate-word-2 : tie.Need-slice-aggregate-word-2
+slice-aggregate-word-2 c = search needs
+
+word-requires-2 : tie.Need-word-requires-2
+word-requires-2 c κs = search needs
+
+returns-3 : tie.Need-returns-3
+returns-3 c = after-a-p _ _ (omega arith) _ (c .before .before .if2 .left) (c .word2 .ensures)
+
+pub after-a-spec : {M : Type 1} → statement M
+after-a-spec =
+    tie.close
+    (tie.spec
+    returns
+    shared-slice-read-if2
+    slice-aggregate-word
+    word-requires
+    returns-2
+    slice-aggregate-word-2
+    word-requires-2
+    returns-3)

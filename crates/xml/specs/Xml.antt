@@ -1,0 +1,160 @@
+-- Names, `&` forms, texts, comments and tags, as document 01 (The file we carry, Refusal numbers) carries XML. Each is a grammar: 'cut' is refusal 1, and a place is where the bytes of a fault begin.
+use mathlib.Core.Bool.{Bool, true, false, cond, not}
+use mathlib.Core.List.{List, [], _∷_, _++_}
+use Prim.Native.Nat.{ℕ}
+use lib.ListN.{length}
+use lib.Dec.{eqb, leb}
+use Rattle.grammar.specs.Parse.{Turn, again, last}
+use Rattle.grammar.specs.Grammar.{G, ret, bad, look, lookTwo, judge, settle, blame, kept, eat, span, seq, loop, _>>=_, _>>_}
+use Rattle.xml.specs.Bytes.{bytes, same, isSpace, isLetter, isNameByte, isQuote, lessThan, greaterThan, slash, exclamation, question, ampersand, equals, dash}
+
+-- the byte c, or the fault k at the byte that stands there
+abbrev pub byte : ℕ → ℕ → G ℕ
+byte c k = judge (λ b. cond (eqb b c) 0 k) eat
+
+-- the bytes of a word, or the fault k at the first byte that differs
+abbrev pub word : List ℕ → ℕ → G (Unit {0})
+word [] k = ret tt
+word (c ∷ w) k = byte c k >> word w k
+
+-- white space, if any
+unfoldable pub spaces : G (List ℕ)
+spaces = span isSpace
+
+-- 'A name is an ASCII letter, then letters, digits, `_ : - .`'; another first byte is 2 there. 'A name that touches the end of the bytes is cut short'
+unfoldable pub name : G (List ℕ)
+name = look (λ b. cond (isLetter b) (span isNameByte) (bad 2))
+
+-- ---- '`&` only as amp, lt, gt, quot or apos, any other `&` is 3', at the `&`
+
+abbrev pub afterA : ℕ → G (Unit {0})
+afterA b = cond (eqb b 109) (word (bytes "mp;") 3) (word (bytes "pos;") 3)
+
+abbrev pub afterAnd : ℕ → G (Unit {0})
+afterAnd b =
+    cond (eqb b 97) (eat >> look afterA)
+    (cond (eqb b 108) (word (bytes "lt;") 3)
+    (cond (eqb b 103) (word (bytes "gt;") 3)
+    (word (bytes "quot;") 3)))
+
+unfoldable pub entity : G (Unit {0})
+entity = blame (eat >> look afterAnd)
+
+-- ---- comments: '`--` in a comment [is] 2', 'any other `<!` [is] 3', both at the comment's first byte
+
+-- after a dash of a comment: a second one is its end, and must be
+abbrev pub afterDash : ℕ → G (Turn (Unit {0}) (Unit {0}))
+afterDash b = cond (eqb b dash) (eat >> byte greaterThan 2 >> ret (last tt)) (ret (again tt))
+
+-- a comment's bytes to the next dash
+unfoldable pub commentPart : G (Turn (Unit {0}) (Unit {0}))
+commentPart = span (λ b. not (eqb b dash)) >> eat >> look afterDash
+
+unfoldable pub comment : G (Unit {0})
+comment = blame (word (bytes "<!--") 3 >> loop (λ (st : Unit {0}). commentPart) tt)
+
+-- ---- texts: bytes and `&` forms, up to a byte that stops them and is not read
+
+-- by the next byte: the end, '`<` in an attribute's text [is] 2', an `&` form, or any other byte
+abbrev pub textByte : (ℕ → Bool) → ℕ → G (Turn (Unit {0}) (Unit {0}))
+textByte stop b =
+    cond (stop b) (ret (last tt))
+    (cond (eqb b lessThan) (bad 2)
+    (cond (eqb b ampersand) (entity >> ret (again tt)) (eat >> ret (again tt))))
+
+-- a text: its bytes as they stand
+unfoldable pub text : (ℕ → Bool) → G ((Unit {0}) × List ℕ)
+text stop = kept (loop (λ (st : Unit {0}). look (textByte stop)) tt)
+
+-- a text up to this byte: an attribute's up to its closing quote, an element's up to a `<`
+abbrev pub textTo : ℕ → G ((Unit {0}) × List ℕ)
+textTo q = text (λ b. eqb b q)
+
+-- ---- attributes
+
+pub record Attribute : Type 0 where
+  pub name : List ℕ
+  pub text : List ℕ
+
+-- whether an attribute of this name is among these
+unfoldable pub isNamed : List ℕ → List Attribute → Bool
+isNamed w [] = false
+isNamed w (a ∷ l) = cond (same w (a .name)) true (isNamed w l)
+
+-- the text of the first attribute of this name; no bytes where there is none
+unfoldable pub textOf : List ℕ → List Attribute → List ℕ
+textOf w [] = []
+textOf w (a ∷ l) = cond (same w (a .name)) (a .text) (textOf w l)
+
+-- what a tag asks of its attributes: the fault of a name, once it has ended; the fault of a text, judged at its closing quote and placed behind its first quote;
+-- what is missing at `>`, and what is missing at `/>`. 0 is no fault
+pub record Rules : Type 0 where
+  pub names : List ℕ → ℕ
+  pub texts : List ℕ → List ℕ → ℕ
+  pub opened : List Attribute → ℕ
+  pub emptied : List Attribute → ℕ
+
+-- 'On every tag, attributes not named here are passed over': a tag that asks nothing
+abbrev pub plain : Rules
+plain = record { names = λ w. 0; texts = λ w t. 0; opened = λ l. 0; emptied = λ l. 0 }
+
+-- 'At most 16 attributes on a tag, none twice': a second one of its name is 2, the seventeenth 3, at its first byte once its name has ended
+abbrev pub nameFault : Rules → List Attribute → List ℕ → ℕ
+nameFault rules seen w = cond (isNamed w seen) 2 (cond (leb 16 (length seen)) 3 (rules .names w))
+
+-- an attribute after others: 'white space may surround `=`'
+unfoldable pub attribute : Rules → List Attribute → G Attribute
+attribute rules seen = do
+  w ← judge (nameFault rules seen) name
+  spaces
+  byte equals 2
+  spaces
+  q ← judge (λ b. cond (isQuote b) 0 2) eat
+  t ← judge (λ x. rules .texts w (x .1)) (textTo q)
+  eat
+  ret (record { name = w; text = t .1 })
+
+-- ---- start tags
+
+-- where a start tag has got to: whether white space stands before what comes, and the attributes so far
+pub record TagState : Type 0 where
+  pub spaced : Bool
+  pub seen : List Attribute
+
+-- a start tag: its attributes, and whether it ends in `/>`
+pub record Tag : Type 0 where
+  pub attributes : List Attribute
+  pub empty : Bool
+
+-- the next part of a start tag: white space, its end, or an attribute, which white space parts from what stands before; any other byte is 2 there
+abbrev pub tagByte : Rules → TagState → ℕ → G (Turn TagState Tag)
+tagByte rules st b =
+    cond (isSpace b) (eat >> ret (again (record { spaced = true; seen = st .seen })))
+    (cond (eqb b greaterThan) (judge (λ x. rules .opened (st .seen)) eat >> ret (last (record { attributes = st .seen; empty = false })))
+    (cond (eqb b slash) (judge (λ x. rules .emptied (st .seen)) (word (bytes "/>") 2) >> ret (last (record { attributes = st .seen; empty = true })))
+    (cond (st .spaced)
+    (seq (attribute rules (st .seen)) (λ a. ret (again (record { spaced = false; seen = st .seen ++ a ∷ [] }))))
+    (bad 2))))
+
+-- a start tag after its name
+unfoldable pub startTag : Rules → G Tag
+startTag rules = loop (λ st. look (tagByte rules st)) (record { spaced = false; seen = [] })
+
+-- `<` and the name behind it
+unfoldable pub openName : G (List ℕ)
+openName = eat >> name
+
+-- ---- end tags
+
+-- `</` and the name behind it
+unfoldable pub closeName : G (List ℕ)
+closeName = eat >> eat >> name
+
+-- the end tag of an element: another name is 2 at its `<`, once the name has ended. What is missing before it, or broken, is the fault `missing` at its `<`:
+-- 'at the first byte of .. an end tag nothing is judged until it has ended or is not well formed'
+unfoldable pub endTag : List ℕ → ℕ → G (Unit {0})
+endTag w missing = settle missing (judge (λ n. cond (same n w) 0 2) closeName >> spaces >> byte greaterThan 2 >> ret tt)
+
+-- an end tag where no element is open is 2 at its `<`
+unfoldable pub strayEnd : G (Unit {0})
+strayEnd = judge (λ n. 2) closeName >> ret tt
