@@ -1,12 +1,13 @@
 -- Reading a file (document 01, Refusal numbers): 4 first; then the fault with the smallest place; then, only over text without fault, 12, 11, 10, 13.
-use mathlib.Core.Bool.{Bool, true, false, cond}
+use mathlib.Core.Bool.{Bool, true, false, cond, _&&_}
 use mathlib.Core.List.{List, [], _∷_, _++_, map}
-use Prim.Native.Nat.{ℕ, _-_}
-use lib.Dec.{ltb}
+use Prim.Native.Nat.{ℕ, zero, suc, _-_}
+use lib.Dec.{ltb, leb}
 use lib.ListN.{length}
+use Rattle.decimal.specs.declared.Decimal.{Decimal}
 use Rattle.process_list.specs.declared.Verdict.{Verdict}
 use Rattle.process_list.specs.declared.Verdict.the-variants.{Accepted, NoNode, TooManyNodes, DepthDiffers, TooManyNumbers}
-use Rattle.process_list.specs.List.{Element, verdict, refusalOf, placeOf}
+use Rattle.process_list.specs.List.{Element, verdict, refusalOf, placeOf, mostNumbers}
 use Rattle.grammar.specs.Parse.{Out, done, fault, cut}
 use Rattle.xml.specs.Elements.{Part, gap, child, close}
 use Rattle.clf.specs.Nodes.{NodeRead}
@@ -91,3 +92,33 @@ abbrev pub nodesIn : Reading → List NodeRead
 nodesIn (accepted l) = l
 nodesIn (faulty k p) = []
 nodesIn (unfit k p) = []
+
+-- the numbers of all nodes, in node order
+unfoldable pub numbersIn : List NodeRead → List Decimal
+numbersIn [] = []
+numbersIn (n ∷ l) = n .element .numbers ++ numbersIn l
+
+-- ---- Description and player: neither is lent a room; '13 there means over 262,144 numbers'
+
+abbrev pub readAlone : List ℕ → Reading
+readAlone s = read mostNumbers s
+
+-- 'The first Description inside node k', from 1; no bytes where there is no such node
+unfoldable pub described : ℕ → List NodeRead → List ℕ
+described zero l = []
+described (suc k) [] = []
+described (suc zero) (n ∷ l) = n .description
+described (suc (suc k)) (n ∷ l) = described (suc k) l
+
+-- 'empty when there is none or the call is refused'
+unfoldable pub descriptionOf : ℕ → List ℕ → List ℕ
+descriptionOf k s = described k (nodesIn (readAlone s))
+
+-- 'its number (reading's, then 19) is a second question'
+abbrev pub askedFor : ℕ → Reading → Reading
+askedFor k (accepted l) = cond (ltb 0 k && leb k (length l)) (accepted l) (faulty 19 0)
+askedFor k (faulty j p) = faulty j p
+askedFor k (unfit j p) = unfit j p
+
+unfoldable pub descriptionAsked : ℕ → List ℕ → Reading
+descriptionAsked k s = askedFor k (readAlone s)
