@@ -101,15 +101,16 @@ flat [] = []
 flat (x ∷ l) = x .1 ++ flat l
 
 module _ {S A : Type 0} (item : S → G A) (next : S → A → Turn S (Unit {0})) where
-  -- the items, and the items after those of a list
+  -- the items
   abbrev pub turns : S → Parser (List (A × List ℕ))
   turns st = (items item next st) .run
 
-  abbrev after : List (A × List ℕ) → S → Parser (List (A × List ℕ))
-  after l st = loopP (λ v. (oneItem item next v) .run) (st, l)
+  -- the items after those of a list
+  abbrev pub itemsAfter : List (A × List ℕ) → S → Parser (List (A × List ℕ))
+  itemsAfter l st = loopP (λ v. (oneItem item next v) .run) (st, l)
 
   -- what one turn does
-  abbrev turnItem : S → Parser (A × List ℕ)
+  abbrev pub turnItem : S → Parser (A × List ℕ)
   turnItem st = strictP (keptP ((item st) .run))
 
   abbrev front : List (A × List ℕ) → Out (List (A × List ℕ)) → Out (List (A × List ℕ))
@@ -124,63 +125,63 @@ module _ {S A : Type 0} (item : S → G A) (next : S → A → Turn S (Unit {0})
       → (oneItem item next (st, l)) .run s ≡ done (added l x (next st (x .0))) r
   turn-of l st s x r q = ap (λ (o : Out (A × List ℕ)). thenOut o (λ y. retP (added l y (next st (y .0))))) q
 
-  after-again : (l : List (A × List ℕ)) (st : S) (s : List ℕ) (x : A × List ℕ) (r : List ℕ) (st′ : S) → turnItem st s ≡ done x r → next st (x .0) ≡ again st′
-      → after l st s ≡ after (l ++ x ∷ []) st′ r
-  after-again l st s x r st′ q n =
+  pub items-again : (l : List (A × List ℕ)) (st : S) (s : List ℕ) (x : A × List ℕ) (r : List ℕ) (st′ : S) → turnItem st s ≡ done x r → next st (x .0) ≡ again st′
+      → itemsAfter l st s ≡ itemsAfter (l ++ x ∷ []) st′ r
+  items-again l st s x r st′ q n =
       loop-again (λ v. (oneItem item next v) .run) (st, l) s (st′, l ++ x ∷ []) r (turn-of l st s x r q ∙ ap (λ (y : Turn S (Unit {0})). done (added l x y) r) n)
       (strict-less (keptP ((item st) .run)) s x r q)
 
-  after-last : (l : List (A × List ℕ)) (st : S) (s : List ℕ) (x : A × List ℕ) (r : List ℕ) (u : Unit {0}) → turnItem st s ≡ done x r → next st (x .0) ≡ last u
-      → after l st s ≡ done (l ++ x ∷ []) r
-  after-last l st s x r u q n =
+  pub items-last : (l : List (A × List ℕ)) (st : S) (s : List ℕ) (x : A × List ℕ) (r : List ℕ) (u : Unit {0}) → turnItem st s ≡ done x r → next st (x .0) ≡ last u
+      → itemsAfter l st s ≡ done (l ++ x ∷ []) r
+  items-last l st s x r u q n =
       loop-last (λ v. (oneItem item next v) .run) (st, l) s (l ++ x ∷ []) r (turn-of l st s x r q ∙ ap (λ (y : Turn S (Unit {0})). done (added l x y) r) n)
 
-  after-fault : (l : List (A × List ℕ)) (st : S) (s : List ℕ) (k : ℕ) (r : List ℕ) → turnItem st s ≡ fault k r → after l st s ≡ fault k r
-  after-fault l st s k r q =
+  pub items-fault : (l : List (A × List ℕ)) (st : S) (s : List ℕ) (k : ℕ) (r : List ℕ) → turnItem st s ≡ fault k r → itemsAfter l st s ≡ fault k r
+  items-fault l st s k r q =
       loop-fault (λ v. (oneItem item next v) .run) (st, l) s k r (ap (λ (o : Out (A × List ℕ)). thenOut o (λ y. retP (added l y (next st (y .0))))) q)
 
-  after-cut : (l : List (A × List ℕ)) (st : S) (s : List ℕ) → turnItem st s ≡ cut → after l st s ≡ cut
-  after-cut l st s q =
+  pub items-cut : (l : List (A × List ℕ)) (st : S) (s : List ℕ) → turnItem st s ≡ cut → itemsAfter l st s ≡ cut
+  items-cut l st s q =
       loop-cut (λ v. (oneItem item next v) .run) (st, l) s (ap (λ (o : Out (A × List ℕ)). thenOut o (λ y. retP (added l y (next st (y .0))))) q)
 
   -- items after others are the same items, with the others in front
-  front-next : (n : ℕ) → ((l : List (A × List ℕ)) (st : S) (r : List ℕ) → length r < n → after l st r ≡ front l (after [] st r))
+  front-next : (n : ℕ) → ((l : List (A × List ℕ)) (st : S) (r : List ℕ) → length r < n → itemsAfter l st r ≡ front l (itemsAfter [] st r))
       → (l : List (A × List ℕ)) (st : S) (s : List ℕ) → length s ≤ n → (x : A × List ℕ) (r : List ℕ) → turnItem st s ≡ done x r
-      → (y : Turn S (Unit {0})) → next st (x .0) ≡ y → after l st s ≡ front l (after [] st s)
-  front-next n ih l st s h x r q (last u) m = after-last l st s x r u q m ∙ sym (ap (front l) (after-last [] st s x r u q m))
+      → (y : Turn S (Unit {0})) → next st (x .0) ≡ y → itemsAfter l st s ≡ front l (itemsAfter [] st s)
+  front-next n ih l st s h x r q (last u) m = items-last l st s x r u q m ∙ sym (ap (front l) (items-last [] st s x r u q m))
   front-next n ih l st s h x r q (again st′) m =
       let k : length r < length s = strict-less (keptP ((item st) .run)) s x r q in
-      after-again l st s x r st′ q m ∙ ih (l ++ x ∷ []) st′ r (omega arith)
-      ∙ sym (ap (front l) (after-again [] st s x r st′ q m ∙ ih (x ∷ []) st′ r (omega arith)) ∙ front-twice l (x ∷ []) (after [] st′ r))
+      items-again l st s x r st′ q m ∙ ih (l ++ x ∷ []) st′ r (omega arith)
+      ∙ sym (ap (front l) (items-again [] st s x r st′ q m ∙ ih (x ∷ []) st′ r (omega arith)) ∙ front-twice l (x ∷ []) (itemsAfter [] st′ r))
 
-  front-out : (n : ℕ) → ((l : List (A × List ℕ)) (st : S) (r : List ℕ) → length r < n → after l st r ≡ front l (after [] st r))
-      → (l : List (A × List ℕ)) (st : S) (s : List ℕ) → length s ≤ n → (o : Out (A × List ℕ)) → turnItem st s ≡ o → after l st s ≡ front l (after [] st s)
+  front-out : (n : ℕ) → ((l : List (A × List ℕ)) (st : S) (r : List ℕ) → length r < n → itemsAfter l st r ≡ front l (itemsAfter [] st r))
+      → (l : List (A × List ℕ)) (st : S) (s : List ℕ) → length s ≤ n → (o : Out (A × List ℕ)) → turnItem st s ≡ o → itemsAfter l st s ≡ front l (itemsAfter [] st s)
   front-out n ih l st s h (done x r) q = front-next n ih l st s h x r q (next st (x .0)) refl
-  front-out n ih l st s h (fault k r) q = after-fault l st s k r q ∙ sym (ap (front l) (after-fault [] st s k r q))
-  front-out n ih l st s h cut q = after-cut l st s q ∙ sym (ap (front l) (after-cut [] st s q))
+  front-out n ih l st s h (fault k r) q = items-fault l st s k r q ∙ sym (ap (front l) (items-fault [] st s k r q))
+  front-out n ih l st s h cut q = items-cut l st s q ∙ sym (ap (front l) (items-cut [] st s q))
 
-  after-front-go : (n : ℕ) (l : List (A × List ℕ)) (st : S) (s : List ℕ) → length s < n → after l st s ≡ front l (after [] st s)
+  after-front-go : (n : ℕ) (l : List (A × List ℕ)) (st : S) (s : List ℕ) → length s < n → itemsAfter l st s ≡ front l (itemsAfter [] st s)
   after-front-go zero l st s h = absurd (omega arith)
   after-front-go (suc n) l st s h = front-out n (after-front-go n) l st s (omega arith) (turnItem st s) refl
 
-  pub after-front : (l : List (A × List ℕ)) (st : S) (s : List ℕ) → after l st s ≡ front l (turns st s)
+  pub after-front : (l : List (A × List ℕ)) (st : S) (s : List ℕ) → itemsAfter l st s ≡ front l (turns st s)
   after-front l st s = after-front-go (suc (length s)) l st s (omega arith)
 
   -- one turn, by its item
   pub turns-again : (st : S) (s : List ℕ) (x : A × List ℕ) (r : List ℕ) (st′ : S) → keptP ((item st) .run) s ≡ done x r → length r < length s → next st (x .0) ≡ again st′
       → turns st s ≡ thenOut (turns st′ r) (λ l. retP (x ∷ l))
   turns-again st s x r st′ q h n =
-      after-again [] st s x r st′ (strict-done (keptP ((item st) .run)) s x r q h) n ∙ after-front (x ∷ []) st′ r
+      items-again [] st s x r st′ (strict-done (keptP ((item st) .run)) s x r q h) n ∙ after-front (x ∷ []) st′ r
 
   pub turns-last : (st : S) (s : List ℕ) (x : A × List ℕ) (r : List ℕ) (u : Unit {0}) → keptP ((item st) .run) s ≡ done x r → length r < length s → next st (x .0) ≡ last u
       → turns st s ≡ done (x ∷ []) r
-  turns-last st s x r u q h n = after-last [] st s x r u (strict-done (keptP ((item st) .run)) s x r q h) n
+  turns-last st s x r u q h n = items-last [] st s x r u (strict-done (keptP ((item st) .run)) s x r q h) n
 
   pub turns-fault : (st : S) (s : List ℕ) (k : ℕ) (r : List ℕ) → (item st) .run s ≡ fault k r → turns st s ≡ fault k r
-  turns-fault st s k r q = after-fault [] st s k r (ap (λ (o : Out A). strictOut (keptOut o s) s) q)
+  turns-fault st s k r q = items-fault [] st s k r (ap (λ (o : Out A). strictOut (keptOut o s) s) q)
 
   pub turns-cut : (st : S) (s : List ℕ) → (item st) .run s ≡ cut → turns st s ≡ cut
-  turns-cut st s q = after-cut [] st s (ap (λ (o : Out A). strictOut (keptOut o s) s) q)
+  turns-cut st s q = items-cut [] st s (ap (λ (o : Out A). strictOut (keptOut o s) s) q)
 
   -- the first item of items that are done
   pub data First (st : S) (s : List ℕ) (xs : List (A × List ℕ)) (r : List ℕ) : Type 0 where
@@ -205,8 +206,8 @@ module _ {S A : Type 0} (item : S → G A) (next : S → A → Turn S (Unit {0})
   first-out : (st : S) (s : List ℕ) (xs : List (A × List ℕ)) (r : List ℕ) → turns st s ≡ done xs r → (o : Out (A × List ℕ)) → turnItem st s ≡ o → First st s xs r
   first-out st s xs r e (done a u) q =
       first-next st s xs r a u (strict-inv (keptP ((item st) .run)) s a u q) (strict-less (keptP ((item st) .run)) s a u q) e (next st (a .0)) refl
-  first-out st s xs r e (fault k u) q = let z : turns st s ≡ fault k u = after-fault [] st s k u q in nope cc
-  first-out st s xs r e cut q = let z : turns st s ≡ cut = after-cut [] st s q in nope cc
+  first-out st s xs r e (fault k u) q = let z : turns st s ≡ fault k u = items-fault [] st s k u q in nope cc
+  first-out st s xs r e cut q = let z : turns st s ≡ cut = items-cut [] st s q in nope cc
 
   pub turns-inv : (st : S) (s : List ℕ) (xs : List (A × List ℕ)) (r : List ℕ) → turns st s ≡ done xs r → First st s xs r
   turns-inv st s xs r e = first-out st s xs r e (turnItem st s) refl
