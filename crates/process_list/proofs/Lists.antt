@@ -17,7 +17,7 @@ use Rattle.process_list.specs.declared.Node.{Node}
 use Rattle.process_list.specs.declared.ProcessList.{ProcessList}
 use Rattle.process_list.specs.declared.Verdict.{Verdict}
 use Rattle.process_list.specs.declared.Verdict.the-variants.{Accepted, NoNode, TooManyNodes, DepthDiffers, TooManyNumbers}
-use Rattle.process_list.specs.List.{mostNumbers, mostNodes, depthCode, sameDepth, numbersOf, Element, nodeOf, unplaced, total, standing, placeFrom, placed, listOf, nodesOf, nodeAt, blankNode, appended, replacedAt, placedList, differs, firstDiffers, judged, verdict}
+use Rattle.process_list.specs.List.{mostNumbers, mostNodes, depthCode, sameDepth, numbersOf, Element, nodeOf, unplaced, total, standing, placeFrom, placed, listOf, nodesOf, nodeAt, blankNode, appended, replacedAt, placedList, differs, firstDiffers, judged, verdict, refusalOf}
 use Rattle.process_list.proofs.Laws.{place-length, place-append, judged-many, judged-fine}
 
 -- ---- depths
@@ -297,3 +297,11 @@ accepted-fine room ns = go (eqb (length ns) 0) (ltb mostNodes (length ns)) (ltb 
 
 pub fine-accepted : (room : ℕ) (ns : List Node) → Fine room ns → judged room ns ≡ Accepted
 fine-accepted room ns f = judged-fine room ns (f .some) (f .few) (omega arith) (f .holds)
+
+-- the verdict whose refusal number is 0
+pub accepted-number : (v : Verdict) → refusalOf v ≡ 0 → v ≡ Accepted
+accepted-number Accepted h = refl
+accepted-number NoNode h = absurd (omega arith)
+accepted-number TooManyNodes h = absurd (omega arith)
+accepted-number (DepthDiffers k) h = absurd (omega arith)
+accepted-number TooManyNumbers h = absurd (omega arith)

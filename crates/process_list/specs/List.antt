@@ -4,7 +4,7 @@ use mathlib.Core.Path.{_≡_}
 use mathlib.Core.List.{List, [], _∷_, _++_, map}
 use Prim.Native.Nat.{ℕ, suc, _+_, _*_, _≤_, min}
 use lib.Dec.{eqb, ltb, leb}
-use lib.IntN.{pos}
+use lib.IntN.{ℤ, pos}
 use lib.ListN.{length, take, drop, set, getD, replicate}
 use lib.Ieee.{Float, binary64, ofInt}
 use Rattle.decimal.specs.declared.Decimal.{Decimal}
@@ -98,6 +98,17 @@ placeFrom at (n ∷ ns) = standing at n ∷ placeFrom (at + numbersOf (n .kind))
 -- the nodes of elements, each with its position
 unfoldable pub placed : List Element → List Node
 placed es = placeFrom 0 (map nodeOf es)
+
+-- the numbers of all elements, in node order: what the table room holds, in one slice the coefficients, in the other the powers
+unfoldable pub allNumbers : List Element → List Decimal
+allNumbers [] = []
+allNumbers (e ∷ es) = e .numbers ++ allNumbers es
+
+unfoldable pub coefficientsOf : List Element → List ℤ
+coefficientsOf es = map (λ (d : Decimal). d .coefficient) (allNumbers es)
+
+unfoldable pub powersOf : List Element → List ℤ
+powersOf es = map (λ (d : Decimal). d .power) (allNumbers es)
 
 -- ---- the list
 

@@ -5,15 +5,15 @@ use mathlib.Core.List.{List, [], _∷_}
 use Prim.Native.Nat.{ℕ, suc, _+_, _≤_, _<_}
 use native.Mathlib.Omega.{arith}
 use lib.ListN.{length, getD, drop}
-use lib.Dec.{eqb, ltb}
+use lib.Dec.{eqb}
 use borrow.Author.Tests.{eq-eqb, ne-eqb, lt-ltb}
 use Rattle.scanning.specs.Steps.{here, past}
 use Rattle.grammar.specs.Parse.{Out, done, fault, cut, Turn, again, last, thenOut, bindP, retP, lookP, eatP, spanP, turnOut, loopP}
-use Rattle.grammar.specs.Grammar.{G, ret, eat, _>>_}
+use Rattle.grammar.specs.Grammar.{ret, eat, _>>_}
 use Rattle.grammar.specs.Laws.{nope, loop-step, loop-again, loop-last, loop-cut, loop-fault}
 use Rattle.xml.specs.Bytes.{bytes, dash, greaterThan}
 use Rattle.xml.specs.Xml.{byte, word, afterDash, commentPart, comment}
-use Rattle.xml.specs.Code.{scanOut, Reads, ReadsFrom, noValue, blamedScan, Failed}
+use Rattle.xml.specs.Code.{Reads, ReadsFrom, noValue, blamedScan, Failed}
 use Rattle.xml.specs.CodeLaws.{reads-ended, reads-fewer, reads-from, reads-blame, reads-then, reads-failed}
 use Rattle.xml.specs.declared.Scan.{Scan}
 use Rattle.xml.specs.declared.Scan.the-variants.{At, Fault, Cut}

@@ -1,18 +1,18 @@
 -- Names and `&` forms, by their first bytes. Assumes nothing.
 use mathlib.Core.Path.{_≡_, refl, sym, ap, _∙_}
 use mathlib.Core.Bool.{Bool, true, false, cond}
-use mathlib.Core.List.{List, [], _∷_}
+use mathlib.Core.List.{List}
 use Prim.Native.Nat.{ℕ, _+_, _≤_, _<_}
 use native.Mathlib.Omega.{arith}
 use lib.ListN.{length, getD, drop}
 use lib.Dec.{eqb}
 use borrow.Author.Tests.{eq-eqb, ne-eqb}
 use Rattle.scanning.specs.Steps.{here}
-use Rattle.grammar.specs.Parse.{Out, done, fault, cut, Parser, lookP, eatP, spanP, bindP}
-use Rattle.grammar.specs.Grammar.{G, span, bad, eat, look, _>>_}
+use Rattle.grammar.specs.Parse.{done, Parser, lookP, eatP, spanP, bindP}
+use Rattle.grammar.specs.Grammar.{span, bad, eat, look, _>>_}
 use Rattle.xml.specs.Bytes.{bytes, isLetter, isNameByte}
 use Rattle.xml.specs.Xml.{word, name, afterA, afterAnd, entity, openName, closeName}
-use Rattle.xml.specs.Code.{part, scanOut, Reads, ReadsFrom, noValue, blamedScan}
+use Rattle.xml.specs.Code.{part, Reads, ReadsFrom, noValue, blamedScan}
 use Rattle.xml.specs.CodeLaws.{reads-ended, reads-fewer, reads-from, reads-blame, look-at, reads-look, reads-eat, reads-then, span-first}
 use Rattle.xml.proofs.Tests.{letter-in-name}
 use Rattle.xml.specs.declared.Scan.{Scan}

@@ -1,7 +1,7 @@
 -- A text, as the code goes through it. Assumes nothing.
 use mathlib.Core.Path.{_≡_, refl, sym, ap, _∙_}
 use mathlib.Core.Bool.{Bool, true, false, cond}
-use mathlib.Core.List.{List, [], _∷_}
+use mathlib.Core.List.{List, []}
 use Prim.Native.Nat.{ℕ, _+_, _-_, _≤_, _<_}
 use native.Mathlib.Omega.{arith}
 use lib.ListN.{length, take, getD, drop, length-drop}
@@ -11,9 +11,8 @@ use Rattle.scanning.specs.Steps.{here, past}
 use Rattle.grammar.specs.Parse.{Out, done, fault, cut, Turn, again, last, before, thenOut, retP, lookP, keptOut, loopP}
 use Rattle.grammar.specs.Grammar.{G, ret, bad, eat, _>>_}
 use Rattle.grammar.specs.Laws.{loop-again, loop-last, loop-cut, loop-fault}
-use Rattle.xml.specs.Bytes.{lessThan, ampersand}
 use Rattle.xml.specs.Xml.{entity, textByte, text, textTo}
-use Rattle.xml.specs.Code.{part, scanOut, Reads, noValue, Failed}
+use Rattle.xml.specs.Code.{part, Reads, noValue, Failed}
 use Rattle.xml.specs.CodeLaws.{look-at}
 use Rattle.xml.specs.declared.Scan.{Scan}
 use Rattle.xml.specs.declared.Scan.the-variants.{At, Fault, Cut}
@@ -30,9 +29,6 @@ module _ (stop : ℕ) where
 
   abbrev run : List ℕ → Out (Unit {0})
   run = loopP one tt
-
-  abbrev value : List ℕ → ℕ → ℕ → (Unit {0}) × List ℕ
-  value s at e = (tt, part s at e)
 
   -- the rest of the text, at what is left of the bytes
   pub record TextInv (s : List ℕ) (at i : ℕ) : Type 0 where

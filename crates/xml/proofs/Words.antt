@@ -1,16 +1,16 @@
 -- A byte and a word, as the code goes through them. Assumes nothing.
 use mathlib.Core.Path.{_≡_, refl, sym, ap, _∙_}
 use mathlib.Core.Bool.{Bool, true, false, cond}
-use mathlib.Core.List.{List, [], _∷_}
+use mathlib.Core.List.{List, _∷_}
 use Prim.Native.Nat.{ℕ, zero, suc, _+_, _≤_, _<_}
 use native.Mathlib.Omega.{arith}
 use lib.ListN.{length, getD, drop}
 use lib.Dec.{eqb}
 use borrow.Author.Tests.{eq-eqb, ne-eqb}
 use Rattle.scanning.specs.Steps.{here, past}
-use Rattle.grammar.specs.Parse.{Out, done, fault, cut, verdict, thenOut}
+use Rattle.grammar.specs.Parse.{Out, fault, verdict, thenOut}
 use Rattle.xml.specs.Xml.{byte, word}
-use Rattle.xml.specs.Code.{scanOut, Inside, Reads, ReadsFrom, noValue, Failed}
+use Rattle.xml.specs.Code.{Reads, ReadsFrom, noValue, Failed}
 use Rattle.xml.specs.declared.Scan.{Scan}
 use Rattle.xml.specs.declared.Scan.the-variants.{At, Fault, Cut}
 

@@ -1,6 +1,6 @@
 -- What the answers of the code mean. A place of the code is an index into the slice; it stands for the bytes from there on.
 use mathlib.Core.Path.{_≡_}
-use mathlib.Core.List.{List, [], _∷_}
+use mathlib.Core.List.{List}
 use Prim.Native.Nat.{ℕ, _+_, _-_, _≤_}
 use lib.ListN.{length, take, drop}
 use Rattle.grammar.specs.Parse.{Out, done, fault, cut, Parser}

@@ -1,15 +1,16 @@
 -- Laws of `Reads`, for proofs of functions that read a slice from a place on. None names a grammar of this crate. Assumes nothing.
 use mathlib.Core.Path.{_≡_, refl, sym, ap, _∙_}
 use mathlib.Core.Bool.{Bool, true, false, cond}
+use mathlib.Core.Logic.{_⊎_, inl, inr}
 use mathlib.Core.List.{List, [], _∷_, _++_, append-assoc, append-nil}
-use Prim.Native.Nat.{ℕ, suc, _+_, _-_, _≤_, _<_}
-use native.Mathlib.Numerals.{add-one}
+use Prim.Native.Nat.{ℕ, zero, suc, _+_, _-_, _≤_, _<_}
 use native.Mathlib.Omega.{arith}
 use lib.ListN.{length, take, drop, getD, length-drop}
-use lib.Seq.{drop-cons, take-suc, getD-drop}
+use lib.Seq.{take-suc, getD-drop}
+use borrow.Author.Tests.{lt-ltb}
 use Rattle.scanning.specs.Steps.{here, past}
-use Rattle.grammar.specs.Parse.{Out, done, fault, cut, Parser, thenOut, bindP, retP, lookP, eatP, spanP, blameOut, blameP}
-use Rattle.xml.specs.Code.{part, scanOut, Inside, Reads, ReadsFrom, blamedScan, Failed}
+use Rattle.grammar.specs.Parse.{Out, done, fault, cut, Parser, thenOut, bindP, retP, lookP, eatP, spanP, strictOut, strictP, lookTwoP, verdict, judgeOut, judgeP, blameOut, blameP}
+use Rattle.xml.specs.Code.{part, Inside, Reads, ReadsFrom, blamedScan, Failed}
 use Rattle.xml.specs.declared.Scan.{Scan}
 use Rattle.xml.specs.declared.Scan.the-variants.{At, Fault, Cut}
 
@@ -33,6 +34,13 @@ part-first s a e h k =
     ap (λ (n : ℕ). take n (drop a s)) z ∙ ap (take (suc (e - (a + 1)))) (here s a (omega arith))
 
 -- ---- one answer
+
+-- the arm of a `match` for every answer but `At`, whose tag is 0
+pub not-at : (tag : Scan → ℕ) → ((e : ℕ) → tag (At e) ≡ 0) → (r : Scan) → (tag r ≡ 1) ⊎ (tag r ≡ 2) → Failed r
+not-at tag z (At e) (inl q) = omega (arith, z e)
+not-at tag z (At e) (inr q) = omega (arith, z e)
+not-at tag z (Fault k p) h = tt
+not-at tag z Cut h = tt
 
 module _ {A : Type 0} (p : Parser A) (value : ℕ → A) (s : List ℕ) (at : ℕ) where
   -- the bytes have ended
@@ -72,6 +80,14 @@ module _ {A : Type 0} (f : ℕ → Parser A) (s : List ℕ) (at : ℕ) (h : at <
 pub reads-eat : (s : List ℕ) (at : ℕ) → at < length s → Reads 1 eatP (λ e. getD s at 0) s at (At (at + 1))
 reads-eat s at h = record { out = sym (ap eatP (here s at h)); inside = (omega arith, omega arith) }
 
+-- by the next two bytes
+pub look-two-at : {A : Type 0} (f : ℕ → ℕ → Parser A) (s : List ℕ) (at : ℕ) → at + 1 < length s
+    → lookTwoP f (drop at s) ≡ strictP (f (getD s at 0) (getD s (at + 1) 0)) (drop at s)
+look-two-at f s at h =
+    let q : drop at s ≡ getD s at 0 ∷ getD s (at + 1) 0 ∷ drop (at + 1 + 1) s =
+    here s at (omega arith) ∙ ap (λ (l : List ℕ). getD s at 0 ∷ l) (here s (at + 1) h) in
+    ap (lookTwoP f) q ∙ ap (strictP (f (getD s at 0) (getD s (at + 1) 0))) (sym q)
+
 -- ---- one after the other
 
 module _ {A B : Type 0} (p : Parser A) (value : ℕ → A) (f : A → Parser B) (value₂ : ℕ → B) (s : List ℕ) (at : ℕ) where
@@ -90,6 +106,53 @@ module _ {A B : Type 0} (p : Parser A) (value : ℕ → A) (f : A → Parser B) 
   reads-failed n m (At e) h v = absurd h
   reads-failed n m (Fault k q) h v = record { out = ap (λ (o : Out A). thenOut o f) (v .out); inside = v .inside }
   reads-failed n m Cut h v = record { out = ap (λ (o : Out A). thenOut o f) (v .out); inside = tt }
+
+module _ {A B : Type 0} (p : Parser A) (value : ℕ → A) (b : B) (s : List ℕ) (at : ℕ) where
+  -- another value in place of the one that was read
+  pub reads-ret : (n : ℕ) (r : Scan) → Reads n p value s at r → Reads n (bindP p (λ a. retP b)) (λ e. b) s at r
+  reads-ret n (At e) v = record { out = ap (λ (o : Out A). thenOut o (λ a. retP b)) (v .out); inside = v .inside }
+  reads-ret n (Fault k q) v = record { out = ap (λ (o : Out A). thenOut o (λ a. retP b)) (v .out); inside = v .inside }
+  reads-ret n Cut v = record { out = ap (λ (o : Out A). thenOut o (λ a. retP b)) (v .out); inside = tt }
+
+-- ---- a value that is judged, and a byte at least that is read
+
+pub verdict-well : {A : Type 0} (k : ℕ) (a : A) (r s : List ℕ) → k ≡ 0 → verdict k a r s ≡ done a r
+verdict-well k a r s q = rw q
+
+pub verdict-ill : {A : Type 0} (k : ℕ) (a : A) (r s : List ℕ) → (k ≡ 0 → ⊥) → verdict k a r s ≡ fault k s
+verdict-ill zero a r s q = absurd (q refl)
+verdict-ill (suc k) a r s q = refl
+
+module _ {A : Type 0} (p : Parser A) (value : ℕ → A) (s : List ℕ) (at : ℕ) where
+  module _ (j : A → ℕ) where
+    pub reads-well : (n e : ℕ) → j (value e) ≡ 0 → Reads n p value s at (At e) → Reads n (judgeP j p) value s at (At e)
+    reads-well n e q v = record {
+      out = sym (ap (λ (o : Out A). judgeOut j o (drop at s)) (sym (v .out)) ∙ verdict-well (j (value e)) (value e) (drop e s) (drop at s) q);
+      inside = v .inside;
+    }
+
+    pub reads-ill : (n m e k : ℕ) → j (value e) ≡ k → (k ≡ 0 → ⊥) → Reads n p value s at (At e) → Reads m (judgeP j p) value s at (Fault k at)
+    reads-ill n m e k q z v = record {
+      out = sym (ap (λ (o : Out A). judgeOut j o (drop at s)) (sym (v .out)) ∙ ap (λ (i : ℕ). verdict i (value e) (drop e s) (drop at s)) q
+          ∙ verdict-ill k (value e) (drop e s) (drop at s) z);
+      inside = (omega arith, omega (arith, v .inside));
+    }
+
+    pub reads-unjudged : (n m : ℕ) (r : Scan) → Failed r → Reads n p value s at r → Reads m (judgeP j p) value s at r
+    reads-unjudged n m (At e) f v = absurd f
+    reads-unjudged n m (Fault k q) f v = record { out = ap (λ (o : Out A). judgeOut j o (drop at s)) (v .out); inside = v .inside }
+    reads-unjudged n m Cut f v = record { out = ap (λ (o : Out A). judgeOut j o (drop at s)) (v .out); inside = tt }
+
+  -- it has read a byte already
+  pub reads-strict : (n : ℕ) (r : Scan) → 1 ≤ n → Reads n p value s at r → Reads n (strictP p) value s at r
+  reads-strict n (At e) h v =
+      let l : length (drop e s) < length (drop at s) = simp length-drop (omega (arith, v .inside)) in
+      record {
+        out = sym (ap (λ (o : Out A). strictOut o (drop at s)) (sym (v .out)) ∙ ap (λ (t : Bool). cond t (done (value e) (drop e s)) cut) (lt-ltb (length (drop e s)) (length (drop at s)) l));
+        inside = v .inside;
+      }
+  reads-strict n (Fault k q) h v = record { out = ap (λ (o : Out A). strictOut o (drop at s)) (v .out); inside = v .inside }
+  reads-strict n Cut h v = record { out = ap (λ (o : Out A). strictOut o (drop at s)) (v .out); inside = tt }
 
 -- ---- the bytes that pass a test
 

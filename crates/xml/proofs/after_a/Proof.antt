@@ -1,3 +1,4 @@
+-- `xml::after_a` meets its contract. Assumes nothing.
 use native.Mathlib.Omega.{arith}
 use Rattle.xml.proofs.Names.{after-a-cut, after-a-m, after-a-p}
 use borrow.Author.Needs.{needs}

@@ -1,3 +1,4 @@
+-- `xml::after_and` meets its contract. Assumes nothing.
 use native.Mathlib.Omega.{arith}
 use Rattle.xml.proofs.Names.{after-and-cut, after-and-a, after-and-l, after-and-g, after-and-q}
 use borrow.Author.Needs.{needs}

@@ -1,3 +1,4 @@
+-- `xml::blamed` meets its contract. Assumes nothing.
 use borrow.Author.Needs.{needs}
 use Rattle.xml.proofs.blamed.Statement.{statement}
 use Rattle.xml.proofs.blamed.Tie as tie

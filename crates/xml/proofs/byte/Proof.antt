@@ -1,3 +1,4 @@
+-- `xml::byte` meets its contract. Assumes nothing.
 use native.Mathlib.Omega.{arith}
 use Rattle.xml.proofs.Words.{byte-cut, byte-is, byte-any, byte-other}
 use borrow.Author.Needs.{needs}

@@ -1,3 +1,4 @@
+-- `xml::close_name` meets its contract. Assumes nothing.
 use native.Mathlib.Omega.{arith}
 use Rattle.xml.proofs.Names.{close-cut, close-name}
 use borrow.Author.Needs.{needs}

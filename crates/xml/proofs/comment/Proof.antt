@@ -1,3 +1,4 @@
+-- `xml::comment` meets its contract. Assumes nothing.
 use native.Mathlib.Omega.{arith}
 use Rattle.xml.proofs.Answers.{failed}
 use Rattle.xml.proofs.Comments.{comment-cut, comment-none, comment-rest}

@@ -1,3 +1,4 @@
+-- `xml::entity` meets its contract. Assumes nothing.
 use native.Mathlib.Omega.{arith}
 use Rattle.xml.proofs.Names.{entity-cut, entity-here}
 use borrow.Author.Needs.{needs}

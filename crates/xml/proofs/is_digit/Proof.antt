@@ -1,3 +1,4 @@
+-- `xml::is_digit` meets its contract. Assumes nothing.
 use Rattle.scanning.specs.Steps.{tests}
 use Rattle.xml.specs.Bytes.{isDigit}
 use Rattle.xml.proofs.is_digit.Statement.{statement}

@@ -1,3 +1,4 @@
+-- `xml::is_letter` meets its contract. Assumes nothing.
 use Rattle.xml.proofs.Tests.{letter-high, letter-low, letter-none}
 use Rattle.xml.proofs.is_letter.Statement.{statement}
 use Rattle.xml.proofs.is_letter.Tie as tie

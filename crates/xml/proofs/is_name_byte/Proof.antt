@@ -1,3 +1,4 @@
+-- `xml::is_name_byte` meets its contract. Assumes nothing.
 use mathlib.Core.Path.{sym, _∙_}
 use borrow.Author.Tests.{eq-eqb, ne-eqb}
 use Rattle.xml.proofs.Tests.{name-letter, name-digit, name-sign}

@@ -1,3 +1,4 @@
+-- `xml::is_quote` meets its contract. Assumes nothing.
 use Rattle.scanning.specs.Steps.{tests}
 use Rattle.xml.specs.Bytes.{isQuote}
 use Rattle.xml.proofs.is_quote.Statement.{statement}

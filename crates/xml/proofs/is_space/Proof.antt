@@ -1,3 +1,4 @@
+-- `xml::is_space` meets its contract. Assumes nothing.
 use Rattle.scanning.specs.Steps.{tests}
 use Rattle.xml.specs.Bytes.{isSpace}
 use Rattle.xml.proofs.is_space.Statement.{statement}

@@ -1,3 +1,4 @@
+-- `xml::name` meets its contract. Assumes nothing.
 use mathlib.Core.Path.{sym, _∙_}
 use native.Mathlib.Omega.{arith}
 use Rattle.xml.proofs.Names.{name-cut, name-first, name-other}

@@ -1,3 +1,4 @@
+-- `xml::open_name` meets its contract. Assumes nothing.
 use native.Mathlib.Omega.{arith}
 use Rattle.xml.proofs.Names.{open-cut, open-name}
 use borrow.Author.Needs.{needs}

@@ -1,3 +1,4 @@
+-- `xml::spaces` meets its contract. Assumes nothing.
 use Rattle.xml.specs.Xml.{spaces}
 use Prim.Native.Nat.{_-_}
 use mathlib.Core.Path.{sym, _∙_}

@@ -1,0 +1,96 @@
+// What may stand around ProcessList: the declaration, white space and comments before the root and behind it.
+ghost use mathlib.Core.Path.{_≡_};
+ghost use Prim.Native.Nat.{_<_};
+ghost use lib.ListN.{length};
+ghost use Rattle.xml.specs.Code.{Reads, ReadsFrom, noValue};
+ghost use Rattle.clf.specs.List as List;
+ghost use Rattle.around_root.specs.Code.{rootScan, lead};
+use markup::Lead;
+use xml::Scan;
+
+// A start tag before the root: the root's own, or another.
+fn root_name(s: &[u8], at: usize, e: usize) -> Scan
+    requires { ⌜ at < length (now s) ⌝ }
+    ensures { λ r. ⌜ r ≡ rootScan (now (s .entry)) at e ⌝ }
+{
+    if xml::same(tags::part(s, at + 1, e), b"ProcessList") {
+        return Scan::At(e);
+    }
+    Scan::Fault(5, at)
+}
+
+// What stands before the root, to the end of its name.
+fn prologue(s: &[u8], at: usize) -> Scan
+    ensures { λ r. ⌜ Reads 1 (List.prologue .run) noValue (now (s .entry)) at r ⌝ }
+{
+    let mut i = at;
+    while i < s.len() {
+        let l = markup::lead_at(s, i);
+        match l {
+            Lead::Gap(e) => {
+                i = e;
+            }
+            Lead::Open(e) => {
+                return root_name(s, i, e);
+            }
+            Lead::End => {
+                let r = markup::stray_end(s, i);
+                let Scan::At(e) = r else {
+                    return r;
+                };
+                i = e;
+            }
+            Lead::Fault(k, p) => {
+                return Scan::Fault(k, p);
+            }
+            Lead::Cut => {
+                return Scan::Cut;
+            }
+        }
+    }
+    Scan::Cut
+}
+
+// What stands behind the root, to the end.
+pub fn epilogue(s: &[u8], at: usize) -> Scan
+    ensures { λ r. ⌜ ReadsFrom 0 List.tail noValue (now (s .entry)) at r ⌝ }
+{
+    let mut i = at;
+    while i < s.len() {
+        let l = markup::lead_at(s, i);
+        match l {
+            Lead::Gap(e) => {
+                i = e;
+            }
+            Lead::Open(e) => {
+                return Scan::Fault(5, i);
+            }
+            Lead::End => {
+                let r = markup::stray_end(s, i);
+                let Scan::At(e) = r else {
+                    return r;
+                };
+                i = e;
+            }
+            Lead::Fault(k, p) => {
+                return Scan::Fault(k, p);
+            }
+            Lead::Cut => {
+                return Scan::Cut;
+            }
+        }
+    }
+    Scan::At(i)
+}
+
+// The declaration, and all up to the end of the root's name.
+pub fn to_root(s: &[u8]) -> Scan
+    ensures { λ r. ⌜ Reads 1 lead noValue (now (s .entry)) 0 r ⌝ }
+{
+    let r = xml::word(s, 0, b"<?xml version=\"1.0\" encoding=\"UTF-8\"?>", 3);
+    match r {
+        Scan::At(e) => prologue(s, e),
+        Scan::Fault(k, p) => Scan::Fault(k, 0),
+        Scan::Cut => Scan::Cut,
+    }
+}

@@ -1,0 +1,3 @@
+pub mod Leads
+pub mod Settled
+pub mod Between

@@ -1,0 +1,186 @@
+// Tags and what stands between them: end tags, what begins between elements, and what may not stand behind text or numbers.
+ghost use mathlib.Core.Path.{_≡_};
+ghost use Prim.Native.Nat.{_+_, _<_};
+ghost use lib.ListN.{length};
+ghost use Rattle.xml.specs.Xml as Xml;
+ghost use Rattle.xml.specs.Elements as Elements;
+ghost use Rattle.xml.specs.Code.{Reads, part, noValue};
+ghost use Rattle.markup.specs.Settled.{settledScan, refusedScan, spacesByte, endAlone};
+ghost use Rattle.markup.specs.Leads.{LeadsTo, LeadsBy, leadTwo, gapOf, openOf};
+use xml::Scan;
+
+// What stands between elements: white space or a comment up to a place; a start tag, whose name ends at a place; an end tag; or none of these.
+pub enum Lead {
+    Gap(usize),
+    Open(usize),
+    End,
+    Fault(u8, usize),
+    Cut,
+}
+
+// The answer r for what stands at `at`, where the fault v is known already; 0 is no fault.
+fn settled(v: u8, r: Scan, at: usize) -> Scan
+    ensures { λ b. ⌜ b ≡ settledScan v r at ⌝ }
+{
+    if v == 0 {
+        return r;
+    }
+    match r {
+        Scan::At(e) => Scan::Fault(v, at),
+        Scan::Fault(k, p) => {
+            if p != at {
+                return Scan::Fault(v, at);
+            }
+            if k < v {
+                return Scan::Fault(k, at);
+            }
+            Scan::Fault(v, at)
+        }
+        Scan::Cut => Scan::Cut,
+    }
+}
+
+// The answer r for what stands at `at`, which is the fault k once it is done.
+fn refused(r: Scan, k: u8, at: usize) -> Scan
+    ensures { λ b. ⌜ b ≡ refusedScan r k at ⌝ }
+{
+    match r {
+        Scan::At(e) => Scan::Fault(k, at),
+        Scan::Fault(j, p) => Scan::Fault(j, p),
+        Scan::Cut => Scan::Cut,
+    }
+}
+
+// White space, and the byte c or 2.
+fn spaces_byte(s: &[u8], at: usize, c: u8) -> Scan
+    ensures { λ r. ⌜ Reads 1 ((spacesByte c) .run) noValue (now (s .entry)) at r ⌝ }
+{
+    let r = xml::spaces(s, at);
+    let Scan::At(e) = r else {
+        return r;
+    };
+    xml::byte(s, e, c, 2)
+}
+
+// An end tag of the name w, whatever is missing before it.
+fn end_tag_alone(s: &[u8], at: usize, w: &[u8]) -> Scan
+    ensures { λ r. ⌜ Reads 1 ((endAlone (now (w .entry))) .run) noValue (now (s .entry)) at r ⌝ }
+{
+    let r = xml::close_name(s, at);
+    let Scan::At(e) = r else {
+        return r;
+    };
+    let a = at + 2;
+    if xml::same(&s[a..e], w) {
+        return spaces_byte(s, e, b'>');
+    }
+    Scan::Fault(2, at)
+}
+
+// The end tag of an element of the name w; `missing` is the fault of what lacks before it.
+pub fn end_tag(s: &[u8], at: usize, w: &[u8], missing: u8) -> Scan
+    ensures { λ r. ⌜ Reads 1 ((Xml.endTag (now (w .entry)) missing) .run) noValue (now (s .entry)) at r ⌝ }
+{
+    settled(missing, end_tag_alone(s, at, w), at)
+}
+
+// An end tag where no element is open.
+pub fn stray_end(s: &[u8], at: usize) -> Scan
+    ensures { λ r. ⌜ Reads 1 (Xml.strayEnd .run) noValue (now (s .entry)) at r ⌝ }
+{
+    refused(xml::close_name(s, at), 2, at)
+}
+
+fn gap_of(r: Scan) -> Lead
+    ensures { λ l. ⌜ l ≡ gapOf r ⌝ }
+{
+    match r {
+        Scan::At(e) => Lead::Gap(e),
+        Scan::Fault(k, p) => Lead::Fault(k, p),
+        Scan::Cut => Lead::Cut,
+    }
+}
+
+fn open_of(r: Scan) -> Lead
+    ensures { λ l. ⌜ l ≡ openOf r ⌝ }
+{
+    match r {
+        Scan::At(e) => Lead::Open(e),
+        Scan::Fault(k, p) => Lead::Fault(k, p),
+        Scan::Cut => Lead::Cut,
+    }
+}
+
+// What a `<` begins between elements.
+fn lead_markup(s: &[u8], at: usize) -> Lead
+    requires { ⌜ at < length (now s) ⌝ }
+    ensures { λ r. ⌜ LeadsBy leadTwo (now (s .entry)) at r ⌝ }
+{
+    let next = at + 1;
+    if s.len() <= next {
+        return Lead::Cut;
+    }
+    let b = s[next];
+    if b == b'/' {
+        return Lead::End;
+    }
+    if b == b'!' {
+        return gap_of(xml::comment(s, at));
+    }
+    if b == b'?' {
+        return Lead::Fault(3, at);
+    }
+    open_of(xml::open_name(s, at))
+}
+
+// What stands between elements.
+pub fn lead_at(s: &[u8], at: usize) -> Lead
+    ensures { λ r. ⌜ LeadsTo (now (s .entry)) at r ⌝ }
+{
+    if s.len() <= at {
+        return Lead::Cut;
+    }
+    let b = s[at];
+    if xml::is_space(b) {
+        return Lead::Gap(at + 1);
+    }
+    if b == b'<' {
+        return lead_markup(s, at);
+    }
+    if b == b'&' {
+        return gap_of(settled(5, xml::entity(s, at), at));
+    }
+    Lead::Fault(5, at)
+}
+
+// What a `<` begins where no element may stand, and no end tag stands: a fault, or cut short. The next byte is b.
+fn stranger(s: &[u8], at: usize, b: u8) -> Scan
+    requires { ⌜ at < length (now s) ⌝ }
+    ensures { λ r. ⌜ Reads 1 ((Elements.stranger b) .run) noValue (now (s .entry)) at r ⌝ }
+{
+    if b == b'!' {
+        return settled(3, xml::comment(s, at), at);
+    }
+    if b == b'?' {
+        return Scan::Fault(3, at);
+    }
+    refused(xml::open_name(s, at), 5, at)
+}
+
+// At a `<` behind text or numbers: the end tag of w, or what may not stand there.
+pub fn only_end(s: &[u8], at: usize, w: &[u8], missing: u8) -> Scan
+    ensures { λ r. ⌜ Reads 1 ((Elements.onlyEnd (now (w .entry)) missing) .run) noValue (now (s .entry)) at r ⌝ }
+{
+    if s.len() <= at {
+        return Scan::Cut;
+    }
+    let next = at + 1;
+    if s.len() <= next {
+        return Scan::Cut;
+    }
+    let b = s[next];
+    if b == b'/' {
+        return end_tag(s, at, w, missing);
+    }
+    stranger(s, at, b)
+}

@@ -1,0 +1,12 @@
+pub mod F64
+pub mod Bounds
+pub mod Order
+pub mod Hold
+pub mod HoldLaws
+pub mod UnitHold
+pub mod Scale
+pub mod Range
+pub mod RangeLaws
+pub mod Matrix
+pub mod Cdl
+pub mod CdlLaws

@@ -1,0 +1,68 @@
+-- `pixel_room::row_from` meets its contract. Assumes nothing.
+use mathlib.Core.Path.{_≡_}
+use mathlib.Core.Bool.{Bool, cond}
+use mathlib.Core.List.{List, [], _∷_}
+use Prim.Native.Nat.{ℕ, _+_}
+use native.Mathlib.Omega.{arith}
+use lib.IntN.{ℤ}
+use Rattle.pixel.specs.F64 as F64
+use Rattle.pixel_room.specs.Room.{numberAt, rowAt}
+use borrow.Author.Needs.{needs}
+use Rattle.pixel_room.proofs.row_from.Statement.{statement}
+use Rattle.pixel_room.proofs.row_from.Tie as tie
+
+-- a row's numbers, counted from the start of its Matrix
+counted : (coefficients powers : List ℤ) (at k : ℕ) (wide : Bool)
+    → rowAt coefficients powers (at + k) wide
+    ≡ numberAt coefficients powers (at + k)
+    ∷ numberAt coefficients powers (at + (k + 1))
+    ∷ numberAt coefficients powers (at + (k + 2))
+    ∷ cond wide (numberAt coefficients powers (at + (k + 3))) F64.zero
+    ∷ []
+unfolding rowAt
+counted coefficients powers at k wide =
+    let one : at + k + 1 ≡ at + (k + 1) = omega arith in
+    let two : at + k + 2 ≡ at + (k + 2) = omega arith in
+    let three : at + k + 3 ≡ at + (k + 3) = omega arith in
+    rw (one, two, three)
+
+number-from-requires : tie.Need-number-from-requires
+number-from-requires c κs = search needs
+
+add-number-from : tie.Need-add-number-from
+add-number-from c = search needs
+
+number-from-requires-2 : tie.Need-number-from-requires-2
+number-from-requires-2 c κs = search needs
+
+add-number-from-2 : tie.Need-add-number-from-2
+add-number-from-2 c = search needs
+
+number-from-requires-3 : tie.Need-number-from-requires-3
+number-from-requires-3 c κs = search needs
+
+add-number-from-3 : tie.Need-add-number-from-3
+add-number-from-3 c = search needs
+
+number-from-requires-4 : tie.Need-number-from-requires-4
+number-from-requires-4 c κs = search needs
+
+returns : tie.Need-returns
+returns c = simp (counted, c .before .if1 .taken) (cc)
+
+returns-2 : tie.Need-returns-2
+returns-2 c = simp (counted, c .if1 .left) (cc)
+
+pub row-from-spec : {M : Type 1} → statement M
+row-from-spec =
+    tie.close
+    (tie.spec
+    number-from-requires
+    add-number-from
+    number-from-requires-2
+    add-number-from-2
+    number-from-requires-3
+    add-number-from-3
+    number-from-requires-4
+    returns
+    returns-2)

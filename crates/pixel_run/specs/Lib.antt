@@ -1,0 +1,6 @@
+pub mod Step
+pub mod StepLaws
+pub mod Prepare
+pub mod Each
+pub mod EachLaws
+pub mod Finite

@@ -1,0 +1,19 @@
+-- A prepared node's step on a pixel. Document 01: 'A prepared node is one of four kinds: Range with four and CDL with ten numbers, each carrying its own f64 parameters; Matrix and LUT1D with where their numbers stand. For a Matrix its three rows of four are handed over by value.'
+use mathlib.Core.List.{List}
+use lib.IntN.{ℤ}
+use lib.Ieee.{Float}
+use Rattle.pixel.specs.declared.Pixel.{Pixel}
+use Rattle.pixel.specs.Range.{rangePixel}
+use Rattle.pixel.specs.Matrix.{matrixPixel}
+use Rattle.pixel.specs.Cdl.{cdlPixel}
+use Rattle.pixel_lut.specs.Table.{lut1dPixel}
+use Rattle.pixel_run.specs.declared.Prepared.{Prepared}
+use Rattle.pixel_run.specs.declared.Prepared.the-variants.{Range, Cdl, Matrix, Lut1d}
+
+-- beside the node: the rows of a Matrix, the scales of its depths, and the table room
+unfoldable pub stepPixel : Prepared → List (List Float) → Float → Float → List ℤ → List ℤ → Pixel → Pixel
+stepPixel (Range minIn maxIn minOut maxOut clamp) rows inScale outScale coefficients powers x = rangePixel minIn maxIn minOut maxOut clamp x
+stepPixel (Cdl slopeR slopeG slopeB offsetR offsetG offsetB powerR powerG powerB sat clamp) rows inScale outScale coefficients powers x =
+    cdlPixel slopeR slopeG slopeB offsetR offsetG offsetB sat clamp inScale outScale x
+stepPixel (Matrix at wide) rows inScale outScale coefficients powers x = matrixPixel rows wide x
+stepPixel (Lut1d at n columns) rows inScale outScale coefficients powers x = lut1dPixel coefficients powers at n columns inScale x

@@ -1,0 +1,217 @@
+-- The end of a start tag, and its loop, as the code goes through them. Assumes nothing.
+use mathlib.Core.Path.{_≡_, refl, sym, ap, _∙_}
+use mathlib.Core.Bool.{Bool, true, false}
+use mathlib.Core.List.{List, [], _∷_, _++_}
+use Prim.Native.Nat.{ℕ, _+_, _≤_, _<_}
+use native.Mathlib.Omega.{arith}
+use lib.ListN.{length, getD, drop, length-drop}
+use borrow.Author.Tests.{eq-eqb, ne-eqb}
+use Rattle.scanning.specs.Steps.{here, past}
+use Rattle.grammar.specs.Parse.{Out, done, fault, cut, Parser, Turn, again, last, thenOut, retP, verdict, judgeOut, lookP, eatP, turnOut, loopP}
+use Rattle.grammar.specs.Laws.{loop-step, loop-again, loop-fault, loop-cut}
+use Rattle.xml.specs.Bytes.{bytes, isSpace}
+use Rattle.xml.specs.Xml.{word, Attribute, Rules, attribute, TagState, Tag, tagByte, startTag}
+use Rattle.xml.specs.Code.{part, ReadsFrom, noValue}
+use Rattle.xml.specs.CodeLaws.{look-at}
+use Rattle.xml.specs.declared.Scan.{Scan}
+use Rattle.xml.specs.declared.Scan.the-variants as Scans
+use Rattle.tags.specs.Code.{partIn, attributesOf, noAttributes, withAttribute, attributeOut, AttributeInside, EndInside, tagOut, openEnd, emptyEnd, EndIs}
+use Rattle.tags.specs.declared.Seen.{Seen}
+use Rattle.tags.specs.declared.StartTag.{StartTag}
+use Rattle.tags.specs.declared.TagEnd.{TagEnd}
+use Rattle.tags.specs.declared.TagEnd.the-variants.{Open, Empty, Fault, Cut}
+use Rattle.tags.specs.declared.AttributeRead.the-variants as Reads
+use Rattle.tags.proofs.Lists.{Sized, sized-none, sized-more, attributes-none, attributes-more, length-attributes}
+use Rattle.tags.proofs.Words.{part-in}
+use Rattle.tags.proofs.Attributes.{verdict-bad, attribute-few}
+
+-- ---- `>`
+
+module _ (rules : Rules) (s : List ℕ) (seen : Seen) (at : ℕ) (h : at < length s) where
+  abbrev tagOf : Bool → Tag
+  tagOf empty = record { attributes = attributesOf s seen; empty = empty }
+
+  module _ (k : ℕ) (n : k ≡ rules .opened (attributesOf s seen)) where
+    open-read : (openEnd rules (attributesOf s seen)) .run (drop at s) ≡ thenOut (verdict k (getD s at 0) (drop (at + 1) s) (drop at s)) (λ x. retP (tagOf false))
+    open-read =
+        ap (λ (o : Out ℕ). thenOut (judgeOut (λ x. rules .opened (attributesOf s seen)) o (drop at s)) (λ x. retP (tagOf false))) (ap eatP (here s at h))
+        ∙ ap (λ (m : ℕ). thenOut (verdict m (getD s at 0) (drop (at + 1) s) (drop at s)) (λ x. retP (tagOf false))) (sym n)
+
+    pub open-bad : (k ≡ 0 → ⊥) → EndIs s seen at (Fault k at) ((openEnd rules (attributesOf s seen)) .run (drop at s))
+    open-bad z = record {
+      out = sym (open-read ∙ ap (λ (o : Out ℕ). thenOut o (λ x. retP (tagOf false))) (verdict-bad k (getD s at 0) (drop (at + 1) s) (drop at s) z));
+      inside = (omega arith, omega arith);
+    }
+
+    pub open-done : k ≡ 0 → EndIs s seen at (Open (at + 1)) ((openEnd rules (attributesOf s seen)) .run (drop at s))
+    open-done z = record {
+      out = sym (open-read ∙ ap (λ (m : ℕ). thenOut (verdict m (getD s at 0) (drop (at + 1) s) (drop at s)) (λ x. retP (tagOf false))) z);
+      inside = (omega arith, omega arith);
+    }
+
+  -- ---- `/>`
+
+  abbrev pub SlashRead : Scan → Type 0
+  SlashRead r = ReadsFrom 2 ((word (bytes "/>") 2) .run) noValue s at r
+
+  empty-read : (r : Out (Unit {0})) → r ≡ (word (bytes "/>") 2) .run (drop at s)
+      → (emptyEnd rules (attributesOf s seen)) .run (drop at s) ≡ thenOut (judgeOut (λ x. rules .emptied (attributesOf s seen)) r (drop at s)) (λ x. retP (tagOf true))
+  empty-read r e = ap (λ (o : Out (Unit {0})). thenOut (judgeOut (λ x. rules .emptied (attributesOf s seen)) o (drop at s)) (λ x. retP (tagOf true))) (sym e)
+
+  module _ (e : ℕ) (v : SlashRead (Scans.At e)) (k : ℕ) (n : k ≡ rules .emptied (attributesOf s seen)) where
+    empty-judged : (emptyEnd rules (attributesOf s seen)) .run (drop at s) ≡ thenOut (verdict k (tt {0}) (drop e s) (drop at s)) (λ x. retP (tagOf true))
+    empty-judged = empty-read (done (tt {0}) (drop e s)) (v .out) ∙ ap (λ (m : ℕ). thenOut (verdict m (tt {0}) (drop e s) (drop at s)) (λ x. retP (tagOf true))) (sym n)
+
+    pub empty-bad : (k ≡ 0 → ⊥) → EndIs s seen at (Fault k at) ((emptyEnd rules (attributesOf s seen)) .run (drop at s))
+    empty-bad z = record {
+      out = sym (empty-judged ∙ ap (λ (o : Out (Unit {0})). thenOut o (λ x. retP (tagOf true))) (verdict-bad k (tt {0}) (drop e s) (drop at s) z));
+      inside = (omega arith, omega arith);
+    }
+
+    pub empty-done : k ≡ 0 → EndIs s seen at (Empty e) ((emptyEnd rules (attributesOf s seen)) .run (drop at s))
+    empty-done z =
+        let i : (at + 2 ≤ e) × (e ≤ length s) = v .inside (omega arith) in
+        record {
+          out = sym (empty-judged ∙ ap (λ (m : ℕ). thenOut (verdict m (tt {0}) (drop e s) (drop at s)) (λ x. retP (tagOf true))) z);
+          inside = (omega arith, i .1);
+        }
+
+  pub empty-fault : (k p : ℕ) → SlashRead (Scans.Fault k p) → EndIs s seen at (Fault k p) ((emptyEnd rules (attributesOf s seen)) .run (drop at s))
+  empty-fault k p v = record { out = sym (empty-read (fault k (drop p s)) (v .out)); inside = v .inside (omega arith) }
+
+  pub empty-cut : SlashRead Scans.Cut → EndIs s seen at Cut ((emptyEnd rules (attributesOf s seen)) .run (drop at s))
+  empty-cut v = record { out = sym (empty-read cut (v .out)); inside = tt }
+
+-- ---- the loop
+
+abbrev state : Bool → List Attribute → TagState
+state spaced seen = record { spaced = spaced; seen = seen }
+
+abbrev turn : Rules → TagState → Parser (Turn TagState Tag)
+turn rules st = lookP (λ b. (tagByte rules st b) .run)
+
+-- the rest of a start tag
+abbrev from : Rules → TagState → Parser Tag
+from rules st = loopP (turn rules) st
+
+start-from : (rules : Rules) (l : List ℕ) → (startTag rules) .run l ≡ from rules (state false []) l
+unfolding startTag
+start-from rules l = refl
+
+-- the rest of the start tag, at what is left of the bytes
+pub record TagInv (rules : Rules) (s : List ℕ) (at : ℕ) (seen : Seen) (spaced : Bool) (i : ℕ) : Type 0 where
+  pub low : at ≤ i
+  pub sized : Sized seen
+  pub out : (startTag rules) .run (drop at s) ≡ from rules (state spaced (attributesOf s seen)) (drop i s)
+
+-- what start_tag answers
+abbrev pub TagIs : Rules → List ℕ → ℕ → StartTag → Type 0
+TagIs rules s at r = (tagOut s r ≡ (startTag rules) .run (drop at s)) × EndInside s at (r .end)
+
+pub tag-start : (rules : Rules) (s : List ℕ) (at : ℕ) → TagInv rules s at noAttributes false at
+tag-start rules s at = record {
+  low = omega arith;
+  sized = sized-none;
+  out = start-from rules (drop at s) ∙ ap (λ (l : List Attribute). from rules (state false l) (drop at s)) (sym (attributes-none s));
+}
+
+inside-from : (s : List ℕ) (at i : ℕ) (e : TagEnd) → at ≤ i → EndInside s i e → EndInside s at e
+inside-from s at i (Open e) h z = (omega arith, z .1)
+inside-from s at i (Empty e) h z = (omega arith, z .1)
+inside-from s at i (Fault k p) h z = (omega arith, z .1)
+inside-from s at i Cut h z = tt
+
+last-turn : {S B X : Type 0} (k : S → Parser B) (o : Out X) (b : B) (l : List ℕ) → turnOut k (thenOut o (λ x. retP (last b))) l ≡ thenOut o (λ x. retP b)
+last-turn k (done x r) b l = refl
+last-turn k (fault n r) b l = refl
+last-turn k cut b l = refl
+
+module _ (rules : Rules) (s : List ℕ) (at : ℕ) (seen : Seen) (spaced : Bool) (i : ℕ) (v : TagInv rules s at seen spaced i) where
+  abbrev st : TagState
+  st = state spaced (attributesOf s seen)
+
+  -- the bytes have ended
+  pub tag-end : length s ≤ i → TagIs rules s at (record { end = Cut; seen = seen })
+  tag-end h = (sym (v .out ∙ loop-cut (turn rules) st (drop i s) (ap (turn rules st) (past s i h))), tt)
+
+  module _ (h : i < length s) where
+    abbrev b : ℕ
+    b = getD s i 0
+
+    here-turn : turn rules st (drop i s) ≡ (tagByte rules st b) .run (drop i s)
+    here-turn = look-at (λ c. (tagByte rules st c) .run) s i h
+
+    -- white space
+    pub tag-space : isSpace (getD s i 0) ≡ true → TagInv rules s at seen true (i + 1)
+    tag-space q =
+        let e : (tagByte rules st b) .run (drop i s) ≡ done (again (state true (attributesOf s seen))) (drop (i + 1) s) = rw (q, here s i h) in
+        record {
+          low = omega (arith, v .low);
+          sized = v .sized;
+          out = v .out ∙ loop-again (turn rules) st (drop i s) (state true (attributesOf s seen)) (drop (i + 1) s) (here-turn ∙ e) (omega (arith, ap length (here s i h)));
+        }
+
+    module _ (q : isSpace (getD s i 0) ≡ false) where
+      ended : (o : Out Tag) (e : TagEnd) → EndIs s seen i e o → turnOut (loopP (turn rules)) ((tagByte rules st b) .run (drop i s)) (drop i s) ≡ o
+          → TagIs rules s at (record { end = e; seen = seen })
+      ended o e x z = (
+        x .out ∙ sym (v .out ∙ loop-step (turn rules) st (drop i s) ∙ ap (λ (w : Out (Turn TagState Tag)). turnOut (loopP (turn rules)) w (drop i s)) here-turn ∙ z),
+        inside-from s at i e (v .low) (x .inside),
+      )
+
+      -- `>`
+      pub tag-open : getD s i 0 ≡ 62 → (e : TagEnd) → EndIs s seen i e ((openEnd rules (attributesOf s seen)) .run (drop i s)) → TagIs rules s at (record { end = e; seen = seen })
+      tag-open g e x = ended ((openEnd rules (attributesOf s seen)) .run (drop i s)) e x
+          (rw (q, eq-eqb (getD s i 0) 62 g)
+          (last-turn (loopP (turn rules)) (judgeOut (λ y. rules .opened (attributesOf s seen)) (eatP (drop i s)) (drop i s)) (record { attributes = attributesOf s seen; empty = false }) (drop i s)))
+
+      module _ (g : getD s i 0 ≡ 62 → ⊥) where
+        -- `/>`
+        pub tag-empty : getD s i 0 ≡ 47 → (e : TagEnd) → EndIs s seen i e ((emptyEnd rules (attributesOf s seen)) .run (drop i s)) → TagIs rules s at (record { end = e; seen = seen })
+        tag-empty d e x = ended ((emptyEnd rules (attributesOf s seen)) .run (drop i s)) e x
+            (rw (q, ne-eqb (getD s i 0) 62 g, eq-eqb (getD s i 0) 47 d)
+            (last-turn (loopP (turn rules)) (judgeOut (λ y. rules .emptied (attributesOf s seen)) ((word (bytes "/>") 2) .run (drop i s)) (drop i s)) (record { attributes = attributesOf s seen; empty = true }) (drop i s)))
+
+        module _ (d : getD s i 0 ≡ 47 → ⊥) where
+          -- any other byte where no white space stands before
+          pub tag-other : spaced ≡ false → TagIs rules s at (record { end = Fault 2 i; seen = seen })
+          tag-other z =
+              let e : (tagByte rules st b) .run (drop i s) ≡ fault 2 (drop i s) = rw (q, ne-eqb (getD s i 0) 62 g, ne-eqb (getD s i 0) 47 d, z) in
+              (sym (v .out ∙ loop-fault (turn rules) st (drop i s) 2 (drop i s) (here-turn ∙ e)), (v .low, omega arith))
+
+          module _ (z : spaced ≡ true) where
+            abbrev onward : Attribute → Parser (Turn TagState Tag)
+            onward a = retP (again (state false (attributesOf s seen ++ a ∷ [])))
+
+            at-attribute : turn rules st (drop i s) ≡ thenOut ((attribute rules (attributesOf s seen)) .run (drop i s)) onward
+            at-attribute = here-turn ∙ rw (q, ne-eqb (getD s i 0) 62 g, ne-eqb (getD s i 0) 47 d, z)
+
+            pub tag-fault : (k p : ℕ) → fault k (drop p s) ≡ (attribute rules (attributesOf s seen)) .run (drop i s) → (i ≤ p) × (p ≤ length s)
+                → TagIs rules s at (record { end = Fault k p; seen = seen })
+            tag-fault k p x w =
+                (sym (v .out ∙ loop-fault (turn rules) st (drop i s) k (drop p s) (at-attribute ∙ ap (λ (o : Out Attribute). thenOut o onward) (sym x))), (omega (arith, v .low), w .1))
+
+            pub tag-cut : cut ≡ (attribute rules (attributesOf s seen)) .run (drop i s) → TagIs rules s at (record { end = Cut; seen = seen })
+            tag-cut x = (sym (v .out ∙ loop-cut (turn rules) st (drop i s) (at-attribute ∙ ap (λ (o : Out Attribute). thenOut o onward) (sym x))), tt)
+
+            module _ (e a t : ℕ) (x : attributeOut s i (Reads.At e a t) ≡ (attribute rules (attributesOf s seen)) .run (drop i s)) (w : AttributeInside s i (Reads.At e a t)) where
+              abbrev one : Attribute
+              one = record { name = part s i e; text = part s a t }
+
+              few : seen .count < 16
+              few = omega (arith, length-attributes s seen, attribute-few rules (attributesOf s seen) (drop i s) one (drop (t + 1) s) (sym x))
+
+              more : attributesOf s (withAttribute seen i e a t) ≡ attributesOf s seen ++ one ∷ []
+              more = attributes-more s seen i e a t few (v .sized)
+                  ∙ ap (λ (m : List ℕ). attributesOf s seen ++ record { name = m; text = partIn s a t } ∷ []) (sym (part-in s i e (omega arith)))
+                  ∙ ap (λ (m : List ℕ). attributesOf s seen ++ record { name = part s i e; text = m } ∷ []) (sym (part-in s a t (omega arith)))
+
+              pub tag-attribute : (n : Seen) → n ≡ withAttribute seen i e a t → TagInv rules s at n false (t + 1)
+              tag-attribute n y = rw y (record {
+                low = omega (arith, v .low);
+                sized = sized-more seen i e a t few (v .sized);
+                out = v .out
+                    ∙ loop-again (turn rules) st (drop i s) (state false (attributesOf s seen ++ one ∷ [])) (drop (t + 1) s)
+                    (at-attribute ∙ ap (λ (o : Out Attribute). thenOut o onward) (sym x)) (simp length-drop (omega arith))
+                    ∙ ap (λ (l : List Attribute). from rules (state false l) (drop (t + 1) s)) (sym more);
+              })

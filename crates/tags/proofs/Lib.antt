@@ -1,0 +1,5 @@
+pub mod Words
+pub mod Dims
+pub mod Lists
+pub mod Attributes
+pub mod Ends

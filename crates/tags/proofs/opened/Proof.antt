@@ -1,0 +1,127 @@
+use Rattle.tags.specs.Rules.{rulesOf}
+use borrow.Author.Needs.{needs}
+use Rattle.tags.proofs.opened.Statement.{statement}
+use Rattle.tags.proofs.opened.Tie as tie
+
+enum-told : tie.Need-enum-told
+enum-told c = search needs
+
+enum-told-2 : tie.Need-enum-told-2
+enum-told-2 c = search needs
+
+enum-told-3 : tie.Need-enum-told-3
+enum-told-3 c = search needs
+
+enum-told-4 : tie.Need-enum-told-4
+enum-told-4 c = search needs
+
+dim-missing-requires : tie.Need-dim-missing-requires
+dim-missing-requires c κs = search needs
+
+enum-told-5 : tie.Need-enum-told-5
+enum-told-5 c = search needs
+
+dim-missing-requires-2 : tie.Need-dim-missing-requires-2
+dim-missing-requires-2 c κs = search needs
+
+enum-told-6 : tie.Need-enum-told-6
+enum-told-6 c = search needs
+
+node-missing-requires : tie.Need-node-missing-requires
+node-missing-requires c κs = search needs
+
+enum-told-7 : tie.Need-enum-told-7
+enum-told-7 c = search needs
+
+node-missing-requires-2 : tie.Need-node-missing-requires-2
+node-missing-requires-2 c κs = search needs
+
+enum-told-8 : tie.Need-enum-told-8
+enum-told-8 c = search needs
+
+node-missing-requires-3 : tie.Need-node-missing-requires-3
+node-missing-requires-3 c κs = search needs
+
+enum-told-9 : tie.Need-enum-told-9
+enum-told-9 c = search needs
+
+node-missing-requires-4 : tie.Need-node-missing-requires-4
+node-missing-requires-4 c κs = search needs
+
+enum-told-10 : tie.Need-enum-told-10
+enum-told-10 c = search needs
+
+list-missing-requires : tie.Need-list-missing-requires
+list-missing-requires c κs = search needs
+
+returns : tie.Need-returns
+unfolding rulesOf
+returns c = rw (c .enum-told .given .1)
+
+returns-2 : tie.Need-returns-2
+unfolding rulesOf
+returns-2 c = rw (c .enum-told2 .given .1)
+
+returns-3 : tie.Need-returns-3
+unfolding rulesOf
+returns-3 c = rw (c .enum-told3 .given .1)
+
+returns-4 : tie.Need-returns-4
+unfolding rulesOf
+returns-4 c = rw (c .before .enum-told4 .given .1, c .dim-missing .ensures)
+
+returns-5 : tie.Need-returns-5
+unfolding rulesOf
+returns-5 c = rw (c .before .enum-told5 .given .1, c .dim-missing2 .ensures)
+
+returns-6 : tie.Need-returns-6
+unfolding rulesOf
+returns-6 c = rw (c .before .enum-told6 .given .1, c .node-missing .ensures)
+
+returns-7 : tie.Need-returns-7
+unfolding rulesOf
+returns-7 c = rw (c .before .enum-told7 .given .1, c .node-missing2 .ensures)
+
+returns-8 : tie.Need-returns-8
+unfolding rulesOf
+returns-8 c = rw (c .before .enum-told8 .given .1, c .node-missing3 .ensures)
+
+returns-9 : tie.Need-returns-9
+unfolding rulesOf
+returns-9 c = rw (c .before .enum-told9 .given .1, c .node-missing4 .ensures)
+
+returns-10 : tie.Need-returns-10
+unfolding rulesOf
+returns-10 c = rw (c .before .enum-told10 .given .1, c .list-missing .ensures)
+
+pub opened-spec : {M : Type 1} → statement M
+opened-spec =
+    tie.close
+    (tie.spec
+    enum-told
+    enum-told-2
+    enum-told-3
+    enum-told-4
+    dim-missing-requires
+    enum-told-5
+    dim-missing-requires-2
+    enum-told-6
+    node-missing-requires
+    enum-told-7
+    node-missing-requires-2
+    enum-told-8
+    node-missing-requires-3
+    enum-told-9
+    node-missing-requires-4
+    enum-told-10
+    list-missing-requires
+    returns
+    returns-2
+    returns-3
+    returns-4
+    returns-5
+    returns-6
+    returns-7
+    returns-8
+    returns-9
+    returns-10)

@@ -1,0 +1,161 @@
+-- What the answers of the code mean.
+use mathlib.Core.Path.{_≡_}
+use mathlib.Core.Bool.{Bool, true, false, cond}
+use mathlib.Core.List.{List, [], _∷_, _++_}
+use mathlib.Core.Option.{Option, none, some}
+use Prim.Native.Nat.{ℕ, zero, suc, _+_, _-_, _≤_, _<_, min}
+use lib.Dec.{leb, ltb}
+use lib.ListN.{length, drop, getD, set, replicate}
+use Rattle.process_list.specs.declared.Depth.{Depth}
+use Rattle.process_list.specs.declared.Kind as Kinds
+use Rattle.grammar.specs.Parse.{Out, done, fault, cut, thenOut, verdict}
+use Rattle.grammar.specs.Grammar.{G, ret, judge, eat, seq, _>>_}
+use Rattle.xml.specs.Bytes.{bytes, isQuote, equals}
+use Rattle.xml.specs.Xml.{byte, word, spaces, textTo, Attribute, isNamed, textOf, Rules, nameFault, Tag}
+use Rattle.xml.specs.Code.{part}
+use Rattle.clf.specs.Nodes.{wholeFrom, behindDigits}
+use Rattle.tags.specs.declared.Digits.{Digits}
+use Rattle.tags.specs.declared.Seen.{Seen}
+use Rattle.tags.specs.declared.Span.{Span}
+use Rattle.tags.specs.declared.TagEnd.{TagEnd}
+use Rattle.tags.specs.declared.TagEnd.the-variants as Ends
+use Rattle.tags.specs.declared.StartTag.{StartTag}
+use Rattle.tags.specs.declared.AttributeRead.{AttributeRead}
+use Rattle.tags.specs.declared.AttributeRead.the-variants as Reads
+use Rattle.tags.specs.declared.DepthRead.{DepthRead}
+use Rattle.tags.specs.declared.DepthRead.the-variants as Depths
+use Rattle.tags.specs.declared.ShapeRead.{ShapeRead}
+use Rattle.tags.specs.declared.ShapeRead.the-variants as Shapes
+
+-- the bytes of s from a up to e, none where e is no place of s
+unfoldable pub partIn : List ℕ → ℕ → ℕ → List ℕ
+partIn s a e = cond (leb e (length s)) (part s a e) []
+
+-- the attribute of index i
+abbrev pub attributeAt : List ℕ → Seen → ℕ → Attribute
+attributeAt s seen i = record {
+  name = partIn s (getD (seen .«name_start») i 0) (getD (seen .«name_end») i 0);
+  text = partIn s (getD (seen .«text_start») i 0) (getD (seen .«text_end») i 0);
+}
+
+-- the first n of a sequence
+abbrev pub firstOnes : {A : Type 0} → (ℕ → A) → ℕ → List A
+firstOnes f zero = []
+firstOnes f (suc n) = firstOnes f n ++ f n ∷ []
+
+-- the attributes so far, sixteen at most
+unfoldable pub attributesOf : List ℕ → Seen → List Attribute
+attributesOf s seen = firstOnes (attributeAt s seen) (min (seen .count) 16)
+
+-- a depth, and the shape of a table, as the definitions have them
+abbrev pub depthRead : DepthRead → Option Depth
+depthRead (Depths.Is d) = some d
+depthRead Depths.Other = none
+
+abbrev pub shapeRead : ShapeRead → Option Kinds.Kind
+shapeRead (Shapes.Is n c) = some (Kinds.the-variants.Lut1d n c)
+shapeRead Shapes.Other = none
+
+-- an attribute read from `at` on, as the grammar's answer
+abbrev pub attributeOut : List ℕ → ℕ → AttributeRead → Out Attribute
+attributeOut s at (Reads.At e a t) = done (record { name = part s at e; text = part s a t }) (drop (t + 1) s)
+attributeOut s at (Reads.Fault k p) = fault k (drop p s)
+attributeOut s at Reads.Cut = cut
+
+-- its places are within the bytes, in order
+abbrev pub AttributeInside : List ℕ → ℕ → AttributeRead → Type 0
+AttributeInside s at (Reads.At e a t) = (at < e) × (e < a) × (a ≤ t) × (t < length s)
+AttributeInside s at (Reads.Fault k p) = (at ≤ p) × (p ≤ length s)
+AttributeInside s at Reads.Cut = Unit
+
+-- a start tag, as the grammar's answer
+abbrev pub endOut : List ℕ → Seen → TagEnd → Out Tag
+endOut s seen (Ends.Open e) = done (record { attributes = attributesOf s seen; empty = false }) (drop e s)
+endOut s seen (Ends.Empty e) = done (record { attributes = attributesOf s seen; empty = true }) (drop e s)
+endOut s seen (Ends.Fault k p) = fault k (drop p s)
+endOut s seen Ends.Cut = cut
+
+-- its places are within the bytes, behind `at`
+abbrev pub EndInside : List ℕ → ℕ → TagEnd → Type 0
+EndInside s at (Ends.Open e) = (at < e) × (e ≤ length s)
+EndInside s at (Ends.Empty e) = (at < e) × (e ≤ length s)
+EndInside s at (Ends.Fault k p) = (at ≤ p) × (p ≤ length s)
+EndInside s at Ends.Cut = Unit
+
+-- the tag with its attributes
+abbrev pub tagOut : List ℕ → StartTag → Out Tag
+tagOut s r = endOut s (r .seen) (r .end)
+
+-- ---- what the steps of the code answer
+
+-- the digits that a text begins with, counted no further than 65,537
+pub record DigitsOf (t : List ℕ) (r : Digits) : Type 0 where
+  pub value : r .value ≡ min (wholeFrom 0 t) 65537
+  pub within : r .end ≤ length t
+  pub rest : drop (r .end) t ≡ behindDigits t
+
+-- no attribute yet
+abbrev pub noAttributes : Seen
+noAttributes = record { count = 0; «name_start» = replicate 16 0; «name_end» = replicate 16 0; «text_start» = replicate 16 0; «text_end» = replicate 16 0 }
+
+-- one attribute more; a full list stays as it is
+unfoldable pub withAttribute : Seen → ℕ → ℕ → ℕ → ℕ → Seen
+withAttribute seen a b c d =
+    let n = seen .count in
+    cond (ltb n 16)
+    (record {
+      count = n + 1;
+      «name_start» = set (seen .«name_start») n a;
+      «name_end» = set (seen .«name_end») n b;
+      «text_start» = set (seen .«text_start») n c;
+      «text_end» = set (seen .«text_end») n d;
+    })
+    seen
+
+-- the index of the first attribute of the name w, 16 where there is none
+pub record IndexOf (s : List ℕ) (seen : Seen) (w : List ℕ) (r : ℕ) : Type 0 where
+  pub named : isNamed w (attributesOf s seen) ≡ ltb r 16
+  pub found : r < 16 → textOf w (attributesOf s seen) ≡ (attributeAt s seen r) .text
+  pub missing : 16 ≤ r → textOf w (attributesOf s seen) ≡ []
+
+-- the byte before a place
+abbrev pub byteBefore : List ℕ → ℕ → ℕ
+byteBefore s e = getD s (e - 1) 0
+
+-- ---- an attribute by its parts: `attribute` is its name, then these
+
+-- white space and a quote
+abbrev pub quote : G ℕ
+quote = seq spaces (λ x. judge (λ b. cond (isQuote b) 0 2) eat)
+
+-- behind the name, up to the first quote
+abbrev pub toQuote : G ℕ
+toQuote = seq spaces (λ x. seq (byte equals 2) (λ y. quote))
+
+-- behind the first quote, q, of the attribute of the name w
+abbrev pub behindQuote : Rules → List ℕ → ℕ → G Attribute
+behindQuote rules w q = seq (judge (λ x. rules .texts w (x .1)) (textTo q)) (λ t. seq eat (λ y. ret (record { name = w; text = t .1 })))
+
+-- the attribute that starts at s, whose name w is followed by r
+abbrev pub named : Rules → List Attribute → List ℕ → List ℕ → List ℕ → Out Attribute
+named rules seen w r s = thenOut (verdict (nameFault rules seen w) w r s) (λ v. (seq toQuote (behindQuote rules v)) .run)
+
+-- the answer r, read from `at` on, is o
+pub record AttributeIs (s : List ℕ) (at : ℕ) (r : AttributeRead) (o : Out Attribute) : Type 0 where
+  pub out : attributeOut s at r ≡ o
+  pub inside : AttributeInside s at r
+
+-- ---- the end of a start tag
+
+-- `>` behind these attributes
+abbrev pub openEnd : Rules → List Attribute → G Tag
+openEnd rules l = judge (λ x. rules .opened l) eat >> ret (record { attributes = l; empty = false })
+
+-- `/>` behind them
+abbrev pub emptyEnd : Rules → List Attribute → G Tag
+emptyEnd rules l = judge (λ x. rules .emptied l) (word (bytes "/>") 2) >> ret (record { attributes = l; empty = true })
+
+-- the end r, read from `at` on behind the attributes of `seen`, is o
+pub record EndIs (s : List ℕ) (seen : Seen) (at : ℕ) (r : TagEnd) (o : Out Tag) : Type 0 where
+  pub out : endOut s seen r ≡ o
+  pub inside : EndInside s at r

@@ -1,0 +1,707 @@
+// Start tags: their attributes, and what a tag asks of them.
+ghost use mathlib.Core.Path.{_≡_};
+ghost use mathlib.Core.Bool.{cond, _&&_, _||_};
+ghost use Prim.Native.Nat.{_+_, _-_, _*_, _≤_, _<_, min};
+ghost use lib.ListN.{length, drop};
+ghost use Rattle.xml.specs.Bytes as Bytes;
+ghost use Rattle.xml.specs.Xml as Xml;
+ghost use Rattle.xml.specs.Code.{Reads, part};
+ghost use Rattle.clf.specs.Nodes as Nodes;
+ghost use Rattle.clf.specs.List as List;
+ghost use Rattle.tags.specs.Rules.{rulesOf};
+ghost use Rattle.tags.specs.Code as Code;
+use process_list::Depth;
+use xml::Scan;
+
+// The tags, by what they ask.
+pub enum TagKind {
+    // nothing
+    Plain,
+    // a value element, which may not be empty
+    Value,
+    // an element that holds elements, which may not be empty
+    Holder,
+    MatrixArray,
+    Lut1dArray,
+    Matrix,
+    Lut1d,
+    Range,
+    Cdl,
+    ProcessList,
+}
+
+// The attributes of a tag so far: where the name and the text of each stand.
+pub struct Seen {
+    pub count: usize,
+    pub name_start: [usize; 16],
+    pub name_end: [usize; 16],
+    pub text_start: [usize; 16],
+    pub text_end: [usize; 16],
+}
+
+// How a start tag ends: open or empty, with the next place.
+pub enum TagEnd {
+    Open(usize),
+    Empty(usize),
+    Fault(u8, usize),
+    Cut,
+}
+
+pub struct StartTag {
+    pub end: TagEnd,
+    pub seen: Seen,
+}
+
+// An attribute: where its name ends, and where its text stands.
+pub enum AttributeRead {
+    At {
+        name_end: usize,
+        text_start: usize,
+        text_end: usize,
+    },
+    Fault(u8, usize),
+    Cut,
+}
+
+// A part of the bytes.
+pub struct Span {
+    pub start: usize,
+    pub end: usize,
+}
+
+pub enum DepthRead {
+    Is(Depth),
+    Other,
+}
+
+// The digits that a text begins with: their number, counted no further than 65,537, and the place behind them.
+struct Digits {
+    value: usize,
+    end: usize,
+}
+
+// The shape of a LUT1D's Array by its `dim`.
+pub enum ShapeRead {
+    Is { entries: usize, columns: usize },
+    Other,
+}
+
+// The depth that a text says.
+pub fn depth_of(text: &[u8]) -> DepthRead
+    ensures { λ r. ⌜ Code.depthRead r ≡ Nodes.depthOf (now (text .entry)) ⌝ }
+{
+    if xml::same(text, b"8i") {
+        return DepthRead::Is(Depth::I8);
+    }
+    if xml::same(text, b"10i") {
+        return DepthRead::Is(Depth::I10);
+    }
+    if xml::same(text, b"12i") {
+        return DepthRead::Is(Depth::I12);
+    }
+    if xml::same(text, b"16i") {
+        return DepthRead::Is(Depth::I16);
+    }
+    if xml::same(text, b"16f") {
+        return DepthRead::Is(Depth::F16);
+    }
+    if xml::same(text, b"32f") {
+        return DepthRead::Is(Depth::F32);
+    }
+    DepthRead::Other
+}
+
+// The columns that stand behind the entries of a `dim`, 0 where none do.
+fn columns_of(text: &[u8]) -> usize
+    ensures { λ r. ⌜ r ≡ Nodes.lutColumns (now (text .entry)) ⌝ }
+{
+    if xml::same(text, b" 1") {
+        return 1;
+    }
+    if xml::same(text, b" 3") {
+        return 3;
+    }
+    0
+}
+
+// The number of a digit.
+fn digit(b: u8) -> usize
+    ensures { λ r. ⌜ r ≡ b - 48 ⌝ }
+{
+    if b < 48 {
+        return 0;
+    }
+    (b - 48) as usize
+}
+
+// One digit more, counted no further than 65,537.
+fn with_digit(n: usize, b: u8) -> usize
+    ensures { λ r. ⌜ r ≡ min (n * 10 + (b - 48)) 65537 ⌝ }
+{
+    if 65536 < n {
+        return 65537;
+    }
+    let m = n * 10 + digit(b);
+    if 65536 < m {
+        return 65537;
+    }
+    m
+}
+
+// The digits that a text begins with.
+fn digits_of(text: &[u8]) -> Digits
+    ensures { λ r. ⌜ Code.DigitsOf (now (text .entry)) r ⌝ }
+{
+    let mut n: usize = 0;
+    let mut i = 0;
+    while i < text.len() {
+        let b = text[i];
+        if !xml::is_digit(b) {
+            return Digits { value: n, end: i };
+        }
+        n = with_digit(n, b);
+        i += 1;
+    }
+    Digits { value: n, end: i }
+}
+
+fn begins_with_zero(text: &[u8]) -> bool
+    ensures { λ r. ⌜ r ≡ Nodes.beginsWithZero (now (text .entry)) ⌝ }
+{
+    if text.len() == 0 {
+        return false;
+    }
+    text[0] == 48
+}
+
+// The shape that a `dim` says.
+pub fn shape_of(text: &[u8]) -> ShapeRead
+    ensures { λ r. ⌜ Code.shapeRead r ≡ Nodes.lutShape (now (text .entry)) ⌝ }
+{
+    let d = digits_of(text);
+    let n = d.value;
+    let end = d.end;
+    if begins_with_zero(text) {
+        return ShapeRead::Other;
+    }
+    if n < 2 {
+        return ShapeRead::Other;
+    }
+    if 65536 < n {
+        return ShapeRead::Other;
+    }
+    let columns = columns_of(&text[end..]);
+    if columns == 0 {
+        return ShapeRead::Other;
+    }
+    ShapeRead::Is {
+        entries: n,
+        columns,
+    }
+}
+
+// The fault k unless `ok`.
+fn unless(ok: bool, k: u8) -> u8
+    ensures { λ r. ⌜ r ≡ cond ok 0 k ⌝ }
+{
+    if ok {
+        return 0;
+    }
+    k
+}
+
+fn depth_fault(text: &[u8]) -> u8
+    ensures { λ r. ⌜ r ≡ cond (Nodes.isSome (Nodes.depthOf (now (text .entry)))) 0 8 ⌝ }
+{
+    let d = depth_of(text);
+    match d {
+        DepthRead::Is(depth) => 0,
+        DepthRead::Other => 8,
+    }
+}
+
+// Whether the text is one of two words.
+fn either(text: &[u8], a: &[u8], b: &[u8]) -> bool
+    ensures { λ r. ⌜ r ≡ (Bytes.same (now (text .entry)) (now (a .entry)) || Bytes.same (now (text .entry)) (now (b .entry))) ⌝ }
+{
+    if xml::same(text, a) {
+        return true;
+    }
+    xml::same(text, b)
+}
+
+// An attribute of a node: a depth, or another one, whose fault is `rest`.
+fn node_text_fault(name: &[u8], text: &[u8], rest: u8) -> u8
+    ensures { λ r. ⌜ r ≡ Nodes.nodeTexts (λ w t. rest) (now (name .entry)) (now (text .entry)) ⌝ }
+{
+    if either(name, b"inBitDepth", b"outBitDepth") {
+        return depth_fault(text);
+    }
+    rest
+}
+
+fn lut_text_fault(name: &[u8], text: &[u8]) -> u8
+    ensures { λ r. ⌜ r ≡ Nodes.lutTexts (now (name .entry)) (now (text .entry)) ⌝ }
+{
+    if xml::same(name, b"interpolation") {
+        return unless(xml::same(text, b"linear"), 8);
+    }
+    0
+}
+
+fn range_text_fault(name: &[u8], text: &[u8]) -> u8
+    ensures { λ r. ⌜ r ≡ Nodes.rangeTexts (now (name .entry)) (now (text .entry)) ⌝ }
+{
+    if xml::same(name, b"style") {
+        return unless(either(text, b"Clamp", b"noClamp"), 8);
+    }
+    0
+}
+
+fn cdl_text_fault(name: &[u8], text: &[u8]) -> u8
+    ensures { λ r. ⌜ r ≡ Nodes.cdlTexts (now (name .entry)) (now (text .entry)) ⌝ }
+{
+    if xml::same(name, b"style") {
+        if either(text, b"Fwd", b"FwdNoClamp") {
+            return 0;
+        }
+        if either(text, b"Rev", b"RevNoClamp") {
+            return 7;
+        }
+        return 8;
+    }
+    0
+}
+
+fn matrix_dim_fault(name: &[u8], text: &[u8]) -> u8
+    ensures { λ r. ⌜ r ≡ (Nodes.arrayRules Nodes.matrixShape) .texts (now (name .entry)) (now (text .entry)) ⌝ }
+{
+    if xml::same(name, b"dim") {
+        return unless(either(text, b"3 3", b"3 4"), 8);
+    }
+    0
+}
+
+fn lut_shape_fault(text: &[u8]) -> u8
+    ensures { λ r. ⌜ r ≡ cond (Nodes.isSome (Nodes.lutShape (now (text .entry)))) 0 8 ⌝ }
+{
+    let shape = shape_of(text);
+    match shape {
+        ShapeRead::Is { entries, columns } => 0,
+        ShapeRead::Other => 8,
+    }
+}
+
+fn lut_dim_fault(name: &[u8], text: &[u8]) -> u8
+    ensures { λ r. ⌜ r ≡ (Nodes.arrayRules Nodes.lutShape) .texts (now (name .entry)) (now (text .entry)) ⌝ }
+{
+    if xml::same(name, b"dim") {
+        return lut_shape_fault(text);
+    }
+    0
+}
+
+fn list_text_fault(name: &[u8], text: &[u8]) -> u8
+    ensures { λ r. ⌜ r ≡ List.listTexts (now (name .entry)) (now (text .entry)) ⌝ }
+{
+    if xml::same(name, b"id") {
+        if text.len() == 0 {
+            return 8;
+        }
+        return 0;
+    }
+    if xml::same(name, b"compCLFversion") {
+        return unless(xml::same(text, b"3.0"), 6);
+    }
+    0
+}
+
+// What is wrong with an attribute's text.
+pub fn text_fault(kind: TagKind, name: &[u8], text: &[u8]) -> u8
+    ensures { λ r. ⌜ r ≡ (rulesOf kind) .texts (now (name .entry)) (now (text .entry)) ⌝ }
+{
+    match kind {
+        TagKind::Plain => 0,
+        TagKind::Value => 0,
+        TagKind::Holder => 0,
+        TagKind::MatrixArray => matrix_dim_fault(name, text),
+        TagKind::Lut1dArray => lut_dim_fault(name, text),
+        TagKind::Matrix => node_text_fault(name, text, 0),
+        TagKind::Lut1d => node_text_fault(name, text, lut_text_fault(name, text)),
+        TagKind::Range => node_text_fault(name, text, range_text_fault(name, text)),
+        TagKind::Cdl => node_text_fault(name, text, cdl_text_fault(name, text)),
+        TagKind::ProcessList => list_text_fault(name, text),
+    }
+}
+
+fn lut_name_fault(name: &[u8]) -> u8
+    ensures { λ r. ⌜ r ≡ Nodes.lutNames (now (name .entry)) ⌝ }
+{
+    if either(name, b"halfDomain", b"rawHalfs") {
+        return 7;
+    }
+    0
+}
+
+// What is wrong with an attribute's name alone.
+pub fn name_rule(kind: TagKind, name: &[u8]) -> u8
+    ensures { λ r. ⌜ r ≡ (rulesOf kind) .names (now (name .entry)) ⌝ }
+{
+    match kind {
+        TagKind::Plain => 0,
+        TagKind::Value => 0,
+        TagKind::Holder => 0,
+        TagKind::MatrixArray => 0,
+        TagKind::Lut1dArray => 0,
+        TagKind::Matrix => 0,
+        TagKind::Lut1d => lut_name_fault(name),
+        TagKind::Range => 0,
+        TagKind::Cdl => 0,
+        TagKind::ProcessList => 0,
+    }
+}
+
+// No attribute yet.
+pub fn no_attributes() -> Seen
+    ensures { λ r. ⌜ r ≡ Code.noAttributes ⌝ }
+{
+    Seen {
+        count: 0,
+        name_start: [0; 16],
+        name_end: [0; 16],
+        text_start: [0; 16],
+        text_end: [0; 16],
+    }
+}
+
+// One attribute more; a full list stays as it is.
+fn with_attribute(
+    seen: Seen,
+    name_start: usize,
+    name_end: usize,
+    text_start: usize,
+    text_end: usize,
+) -> Seen
+    ensures { λ r. ⌜ r ≡ Code.withAttribute seen «name_start» «name_end» «text_start» «text_end» ⌝ }
+{
+    let n = seen.count;
+    if n < 16 {
+        let mut next = seen;
+        next.name_start[n] = name_start;
+        next.name_end[n] = name_end;
+        next.text_start[n] = text_start;
+        next.text_end[n] = text_end;
+        next.count = n + 1;
+        return next;
+    }
+    seen
+}
+
+// The bytes from a to e, none where these are no places of s in order.
+pub fn part(s: &[u8], a: usize, e: usize) -> &[u8]
+    ensures { λ r. ⌜ now r ≡ Code.partIn (now (s .entry)) a e ⌝ }
+{
+    if e < a {
+        return &s[0..0];
+    }
+    if s.len() < e {
+        return &s[0..0];
+    }
+    &s[a..e]
+}
+
+// The index of the first attribute of the name w, 16 where there is none.
+fn index_of(s: &[u8], seen: Seen, w: &[u8]) -> usize
+    ensures { λ r. ⌜ Code.IndexOf (now (s .entry)) seen (now (w .entry)) r ⌝ }
+{
+    let count = seen.count;
+    let mut i = 0;
+    while i < 16 {
+        if count <= i {
+            return 16;
+        }
+        let a = seen.name_start[i];
+        let e = seen.name_end[i];
+        if xml::same(w, part(s, a, e)) {
+            return i;
+        }
+        i += 1;
+    }
+    16
+}
+
+// Whether there is an attribute of the name w.
+pub fn is_named(s: &[u8], seen: Seen, w: &[u8]) -> bool
+    ensures { λ r. ⌜ r ≡ Xml.isNamed (now (w .entry)) (Code.attributesOf (now (s .entry)) seen) ⌝ }
+{
+    index_of(s, seen, w) < 16
+}
+
+// Where the text of the first attribute of the name w stands.
+pub fn text_of(s: &[u8], seen: Seen, w: &[u8]) -> Span
+    ensures { λ r. ⌜ Code.partIn (now (s .entry)) (r .start) (r .end) ≡ Xml.textOf (now (w .entry)) (Code.attributesOf (now (s .entry)) seen) ⌝ }
+{
+    let i = index_of(s, seen, w);
+    if i < 16 {
+        return Span {
+            start: seen.text_start[i],
+            end: seen.text_end[i],
+        };
+    }
+    Span { start: 0, end: 0 }
+}
+
+// What is wrong with the name w behind the attributes so far.
+fn name_fault(s: &[u8], w: &[u8], kind: TagKind, seen: Seen) -> u8
+    ensures { λ r. ⌜ r ≡ Xml.nameFault (rulesOf kind) (Code.attributesOf (now (s .entry)) seen) (now (w .entry)) ⌝ }
+{
+    if is_named(s, seen, w) {
+        return 2;
+    }
+    let count = seen.count;
+    if 16 <= count {
+        return 3;
+    }
+    name_rule(kind, w)
+}
+
+// White space and a quote.
+fn quote(s: &[u8], at: usize) -> Scan
+    ensures { λ r. ⌜ Reads 1 (Code.quote .run) (Code.byteBefore (now (s .entry))) (now (s .entry)) at r ⌝ }
+{
+    let r = xml::spaces(s, at);
+    let Scan::At(p) = r else {
+        return r;
+    };
+    if s.len() <= p {
+        return Scan::Cut;
+    }
+    if xml::is_quote(s[p]) {
+        return Scan::At(p + 1);
+    }
+    Scan::Fault(2, p)
+}
+
+// Behind an attribute's name: `=` and a quote, with white space before each.
+fn to_quote(s: &[u8], at: usize) -> Scan
+    ensures { λ r. ⌜ Reads 2 (Code.toQuote .run) (Code.byteBefore (now (s .entry))) (now (s .entry)) at r ⌝ }
+{
+    let r = xml::spaces(s, at);
+    let Scan::At(a) = r else {
+        return r;
+    };
+    let q = xml::byte(s, a, b'=', 2);
+    let Scan::At(e) = q else {
+        return q;
+    };
+    quote(s, e)
+}
+
+// An attribute behind its first quote, which stands at `q - 1`; its name stands from `at` to e.
+fn attribute_text(s: &[u8], at: usize, e: usize, q: usize, kind: TagKind) -> AttributeRead
+    requires { ⌜ (at < e) × (e < q) × (q ≤ length (now s)) ⌝ }
+    ensures { λ r. ⌜ Code.AttributeIs (now (s .entry)) at r ((Code.behindQuote (rulesOf kind) (part (now (s .entry)) at e) (Code.byteBefore (now (s .entry)) q)) .run (drop q (now (s .entry)))) ⌝ }
+{
+    let r = xml::text_to(s, q, s[q - 1]);
+    match r {
+        Scan::At(t) => {
+            let k = text_fault(kind, part(s, at, e), part(s, q, t));
+            if k != 0 {
+                return AttributeRead::Fault(k, q);
+            }
+            if s.len() <= t {
+                return AttributeRead::Cut;
+            }
+            AttributeRead::At {
+                name_end: e,
+                text_start: q,
+                text_end: t,
+            }
+        }
+        Scan::Fault(k, p) => AttributeRead::Fault(k, p),
+        Scan::Cut => AttributeRead::Cut,
+    }
+}
+
+// An attribute whose name stands from `at` to e.
+fn attribute_named(s: &[u8], at: usize, e: usize, kind: TagKind, seen: Seen) -> AttributeRead
+    requires { ⌜ (at < e) × (e ≤ length (now s)) ⌝ }
+    ensures { λ r. ⌜ Code.AttributeIs (now (s .entry)) at r (Code.named (rulesOf kind) (Code.attributesOf (now (s .entry)) seen) (part (now (s .entry)) at e) (drop e (now (s .entry))) (drop at (now (s .entry)))) ⌝ }
+{
+    let k = name_fault(s, part(s, at, e), kind, seen);
+    if k != 0 {
+        return AttributeRead::Fault(k, at);
+    }
+    let r = to_quote(s, e);
+    match r {
+        Scan::At(q) => attribute_text(s, at, e, q, kind),
+        Scan::Fault(n, p) => AttributeRead::Fault(n, p),
+        Scan::Cut => AttributeRead::Cut,
+    }
+}
+
+// The attribute at `at`, behind those seen.
+pub fn attribute(s: &[u8], at: usize, kind: TagKind, seen: Seen) -> AttributeRead
+    ensures { λ r. ⌜ (Code.attributeOut (now (s .entry)) at r ≡ (Xml.attribute (rulesOf kind) (Code.attributesOf (now (s .entry)) seen)) .run (drop at (now (s .entry)))) × Code.AttributeInside (now (s .entry)) at r ⌝ }
+{
+    let r = xml::name(s, at);
+    match r {
+        Scan::At(e) => attribute_named(s, at, e, kind, seen),
+        Scan::Fault(k, p) => AttributeRead::Fault(k, p),
+        Scan::Cut => AttributeRead::Cut,
+    }
+}
+
+// The fault k unless there are attributes of both names.
+fn both_or(s: &[u8], seen: Seen, a: &[u8], b: &[u8], k: u8) -> u8
+    ensures { λ r. ⌜ r ≡ cond (Xml.isNamed (now (a .entry)) (Code.attributesOf (now (s .entry)) seen) && Xml.isNamed (now (b .entry)) (Code.attributesOf (now (s .entry)) seen)) 0 k ⌝ }
+{
+    if is_named(s, seen, a) {
+        return unless(is_named(s, seen, b), k);
+    }
+    k
+}
+
+fn node_missing(s: &[u8], seen: Seen) -> u8
+    ensures { λ r. ⌜ r ≡ Nodes.nodeMissing (Code.attributesOf (now (s .entry)) seen) ⌝ }
+{
+    both_or(s, seen, b"inBitDepth", b"outBitDepth", 8)
+}
+
+fn list_missing(s: &[u8], seen: Seen) -> u8
+    ensures { λ r. ⌜ r ≡ List.listMissing (Code.attributesOf (now (s .entry)) seen) ⌝ }
+{
+    both_or(s, seen, b"id", b"compCLFversion", 8)
+}
+
+fn dim_missing(s: &[u8], seen: Seen, there: u8) -> u8
+    ensures { λ r. ⌜ r ≡ cond (Xml.isNamed (Bytes.bytes "dim") (Code.attributesOf (now (s .entry)) seen)) there 8 ⌝ }
+{
+    if is_named(s, seen, b"dim") {
+        return there;
+    }
+    8
+}
+
+// What is missing at `>`.
+fn opened(s: &[u8], kind: TagKind, seen: Seen) -> u8
+    ensures { λ r. ⌜ r ≡ (rulesOf kind) .opened (Code.attributesOf (now (s .entry)) seen) ⌝ }
+{
+    match kind {
+        TagKind::Plain => 0,
+        TagKind::Value => 0,
+        TagKind::Holder => 0,
+        TagKind::MatrixArray => dim_missing(s, seen, 0),
+        TagKind::Lut1dArray => dim_missing(s, seen, 0),
+        TagKind::Matrix => node_missing(s, seen),
+        TagKind::Lut1d => node_missing(s, seen),
+        TagKind::Range => node_missing(s, seen),
+        TagKind::Cdl => node_missing(s, seen),
+        TagKind::ProcessList => list_missing(s, seen),
+    }
+}
+
+// What is missing at `/>`.
+fn emptied(s: &[u8], kind: TagKind, seen: Seen) -> u8
+    ensures { λ r. ⌜ r ≡ (rulesOf kind) .emptied (Code.attributesOf (now (s .entry)) seen) ⌝ }
+{
+    match kind {
+        TagKind::Plain => 0,
+        TagKind::Value => 22,
+        TagKind::Holder => 5,
+        TagKind::MatrixArray => dim_missing(s, seen, 22),
+        TagKind::Lut1dArray => dim_missing(s, seen, 22),
+        TagKind::Matrix => 5,
+        TagKind::Lut1d => 5,
+        TagKind::Range => 5,
+        TagKind::Cdl => node_missing(s, seen),
+        TagKind::ProcessList => list_missing(s, seen),
+    }
+}
+
+// A tag's `>`.
+fn open_end(s: &[u8], at: usize, kind: TagKind, seen: Seen) -> TagEnd
+    requires { ⌜ at < length (now s) ⌝ }
+    ensures { λ r. ⌜ Code.EndIs (now (s .entry)) seen at r ((Code.openEnd (rulesOf kind) (Code.attributesOf (now (s .entry)) seen)) .run (drop at (now (s .entry)))) ⌝ }
+{
+    let k = opened(s, kind, seen);
+    if k != 0 {
+        return TagEnd::Fault(k, at);
+    }
+    TagEnd::Open(at + 1)
+}
+
+// A tag's `/>`, whose `/` stands at `at`.
+fn empty_end(s: &[u8], at: usize, kind: TagKind, seen: Seen) -> TagEnd
+    requires { ⌜ at < length (now s) ⌝ }
+    ensures { λ r. ⌜ Code.EndIs (now (s .entry)) seen at r ((Code.emptyEnd (rulesOf kind) (Code.attributesOf (now (s .entry)) seen)) .run (drop at (now (s .entry)))) ⌝ }
+{
+    let r = xml::word(s, at, b"/>", 2);
+    match r {
+        Scan::At(e) => {
+            let k = emptied(s, kind, seen);
+            if k != 0 {
+                return TagEnd::Fault(k, at);
+            }
+            TagEnd::Empty(e)
+        }
+        Scan::Fault(k, p) => TagEnd::Fault(k, p),
+        Scan::Cut => TagEnd::Cut,
+    }
+}
+
+// A start tag behind its name.
+pub fn start_tag(s: &[u8], at: usize, kind: TagKind) -> StartTag
+    ensures { λ r. ⌜ (Code.tagOut (now (s .entry)) r ≡ (Xml.startTag (rulesOf kind)) .run (drop at (now (s .entry)))) × Code.EndInside (now (s .entry)) at (r .end) ⌝ }
+{
+    let mut seen = no_attributes();
+    let mut spaced = false;
+    let mut i = at;
+    while i < s.len() {
+        let b = s[i];
+        if xml::is_space(b) {
+            spaced = true;
+            i += 1;
+        } else if b == b'>' {
+            let end = open_end(s, i, kind, seen);
+            return StartTag { end, seen };
+        } else if b == b'/' {
+            let end = empty_end(s, i, kind, seen);
+            return StartTag { end, seen };
+        } else if spaced {
+            let a = attribute(s, i, kind, seen);
+            match a {
+                AttributeRead::At {
+                    name_end,
+                    text_start,
+                    text_end,
+                } => {
+                    seen = with_attribute(seen, i, name_end, text_start, text_end);
+                    spaced = false;
+                    i = text_end + 1;
+                }
+                AttributeRead::Fault(k, p) => {
+                    return StartTag {
+                        end: TagEnd::Fault(k, p),
+                        seen,
+                    };
+                }
+                AttributeRead::Cut => {
+                    return StartTag {
+                        end: TagEnd::Cut,
+                        seen,
+                    };
+                }
+            }
+        } else {
+            return StartTag {
+                end: TagEnd::Fault(2, i),
+                seen,
+            };
+        }
+    }
+    StartTag {
+        end: TagEnd::Cut,
+        seen,
+    }
+}
