@@ -10,6 +10,7 @@ ghost use Rattle.clf.specs.Nodes as Nodes;
 ghost use Rattle.clf.specs.List as List;
 ghost use Rattle.tags.specs.Rules.{rulesOf};
 ghost use Rattle.tags.specs.Code as Code;
+ghost use Rattle.tags.specs.Ended.{behindTag};
 use process_list::Depth;
 use xml::Scan;
 
@@ -703,5 +704,17 @@ pub fn start_tag(s: &[u8], at: usize, kind: TagKind) -> StartTag
     StartTag {
         end: TagEnd::Cut,
         seen,
+    }
+}
+
+// The place behind a start tag, open or empty.
+pub fn behind(end: TagEnd) -> Scan
+    ensures { λ r. ⌜ r ≡ behindTag end ⌝ }
+{
+    match end {
+        TagEnd::Open(q) => Scan::At(q),
+        TagEnd::Empty(q) => Scan::At(q),
+        TagEnd::Fault(k, p) => Scan::Fault(k, p),
+        TagEnd::Cut => Scan::Cut,
     }
 }

@@ -1,13 +1,12 @@
 -- What refusal 16 comes to: a list and a room are valid exactly if they are what a reading of elements without fault leaves.
 -- `made` has it one way, `parts` the other. Assumes nothing.
 use mathlib.Core.Path.{_≡_, refl, sym, ap, _∙_}
-use mathlib.Core.Bool.{Bool, true, false, not, _&&_}
-use mathlib.Core.List.{List, [], _∷_, _++_, map, append-assoc, append-nil}
-use Prim.Native.Nat.{ℕ, zero, suc, _+_, _-_, _≤_, _<_, min}
+use mathlib.Core.Bool.{Bool, true, false, _&&_}
+use mathlib.Core.List.{List, [], _∷_, _++_, map, append-assoc}
+use Prim.Native.Nat.{ℕ, zero, suc, _+_, _-_, _≤_}
 use native.Mathlib.Omega.{arith}
-use native.Mathlib.Nat.{add-zero, zero-add, add-assoc}
-use borrow.Author.Tests.{eqb-true, eq-eqb, le-leb}
-use lib.Dec.{eqb, leb}
+use borrow.Author.Tests.{eqb-true, eq-eqb}
+use lib.Dec.{eqb}
 use lib.IntN.{ℤ, pos, negsuc}
 use lib.ListN.{length, take, drop, replicate, length-append, length-take, length-drop, length-replicate, length-map, take-append-drop}
 use lib.Seq.{take-at, drop-at, take-add, drop-drop, take-take}
@@ -19,18 +18,22 @@ use Rattle.process_list.specs.declared.Depth.the-variants.{I8}
 use Rattle.process_list.specs.declared.Node.{Node}
 use Rattle.process_list.specs.declared.ProcessList.{ProcessList}
 use Rattle.process_list.specs.declared.Verdict.the-variants.{Accepted}
-use Rattle.process_list.specs.List.{Element, mostNodes, mostNumbers, numbersOf, nodeOf, unplaced, standing, total, placeFrom, placed, blankNode, listOf, nodesOf, judged, verdict, sameDepth, allNumbers, coefficientsOf, powersOf}
-use Rattle.process_list.proofs.Laws.{place-length, same-depth-refl}
+use Rattle.process_list.specs.List.{Element, mostNodes, numbersOf, nodeOf, unplaced, standing, total, placeFrom, placed, blankNode, listOf, nodesOf, judged, verdict, sameDepth, allNumbers, coefficientsOf, powersOf}
+use Rattle.process_list.proofs.Laws.{same-depth-refl}
 use Rattle.process_list.proofs.Lists.{same-depth, list-nodes, list-count, list-is, place-judged, total-place, heads-length, placed-length, accepted-fine, Fine}
 use Rattle.room.specs.Room.{roomLength, filled}
-use Rattle.room.proofs.Contents.{filled-length, filled-run, filled-behind}
+use Rattle.room.proofs.Contents.{filled-length, filled-run}
 use Rattle.valid.specs.Valid.{every, pairs, numbersAt, elementOf, elementsOf, sound, shapeRight, carried, rulesHold, gapless, isBlank, isSmallMatrix, listRight, isZero, restZero, isValid}
-use Rattle.valid.proofs.Elements.{both-true, Right, right-parts, right-made, right-few, right-holds}
+use Rattle.valid.proofs.Elements.{both-true, Right, right-parts, right-made, right-holds}
 
 -- ---- lists of tests
 pub every-cons : {A : Type 0} (p : A → Bool) (x : A) (xs : List A) → every p (x ∷ xs) ≡ true → (p x ≡ true) × (every p xs ≡ true)
 unfolding every
 every-cons p x xs h = both-true (p x) (every p xs) h
+
+pub every-made : {A : Type 0} (p : A → Bool) (x : A) (xs : List A) → p x ≡ true → every p xs ≡ true → every p (x ∷ xs) ≡ true
+unfolding every
+every-made p x xs h i = simp (h, i)
 
 every-replicate : {A : Type 0} (p : A → Bool) (n : ℕ) (a : A) → p a ≡ true → every p (replicate n a) ≡ true
 unfolding every
@@ -78,10 +81,14 @@ map-append : {A B : Type 0} (f : A → B) (xs ys : List A) → map f (xs ++ ys) 
 map-append f [] ys = refl
 map-append f (x ∷ xs) ys = ap (λ (l : List _). f x ∷ l) (map-append f xs ys)
 
+-- three runs, one part f of each number
+pub parts-of : (f : Decimal → ℤ) (x o y : List Decimal) → map f (x ++ o ++ y) ≡ map f x ++ map f o ++ map f y
+parts-of f x o y = rw (map-append f (x ++ o) y, map-append f x o) refl
+
 -- the run o between x and y, in a room that holds one part f of each number
 part : (f : Decimal → ℤ) (n : ℕ) (x o y : List Decimal) (s : List ℤ) → take (length o) (drop (length x) (filled n (pos 0) (map f (x ++ o ++ y)) s)) ≡ map f o
 part f n x o y s =
-    let e1 : map f (x ++ o ++ y) ≡ map f x ++ map f o ++ map f y = rw (map-append f (x ++ o) y, map-append f x o) refl in
+    let e1 = parts-of f x o y in
     let e2 : length (map f x) ≡ length x = length-map x f in
     let e3 : length (map f o) ≡ length o = length-map o f in
     let r = filled-run n (pos 0) (map f x) (map f o) (map f y) s in

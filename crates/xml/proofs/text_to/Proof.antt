@@ -2,6 +2,8 @@
 use Prim.Native.Nat.{_-_}
 use native.Mathlib.Omega.{arith}
 use lib.ListN.{length}
+use lib.Dec.{eqb}
+use borrow.Author.Tests.{eq-eqb, ne-eqb}
 use Rattle.xml.proofs.Answers.{failed}
 use Rattle.xml.proofs.Texts.{TextInv, text-start, text-end, text-stop, text-less, text-more, text-and, text-failed}
 use borrow.Author.Needs.{needs}
@@ -9,7 +11,7 @@ use Rattle.xml.proofs.text_to.Statement.{statement}
 use Rattle.xml.proofs.text_to.Tie as tie
 
 abbrev Inv-loop : tie.InvT-loop
-Inv-loop s at stop i₀ i = TextInv stop s at i
+Inv-loop s at stop i₀ i = TextInv (λ b. eqb b stop) s at i
 
 abbrev μ-loop : tie.MeasureT-loop
 μ-loop s at stop i₀ i = length s - i
@@ -21,10 +23,10 @@ shared-slice-read-b : tie.Need-shared-slice-read-b Inv-loop μ-loop
 shared-slice-read-b c = search needs
 
 returns : tie.Need-returns Inv-loop μ-loop
-returns c = text-stop _ _ _ _ (c .before .before .before .loop .inv) (omega arith) (c .if1 .taken)
+returns c = text-stop _ _ _ _ (c .before .before .before .loop .inv) (omega arith) (eq-eqb _ _ (c .if1 .taken))
 
 returns-2 : tie.Need-returns-2 Inv-loop μ-loop
-returns-2 c = text-less _ _ _ _ (c .before .before .before .before .loop .inv) (omega arith) (c .before .if1 .left) (c .if2 .taken)
+returns-2 c = text-less _ _ _ _ (c .before .before .before .before .loop .inv) (omega arith) (ne-eqb _ _ (c .before .if1 .left)) (c .if2 .taken)
 
 entity-requires : tie.Need-entity-requires Inv-loop μ-loop
 entity-requires c κs = search needs
@@ -33,13 +35,13 @@ enum-known-r : tie.Need-enum-known-r Inv-loop μ-loop
 enum-known-r c = search needs
 
 returns-3 : tie.Need-returns-3 Inv-loop μ-loop
-returns-3 c = text-failed _ _ _ _ (c .before .before .before .before .before .before .before .loop .inv) (omega arith) (c .before .before .before .before .if1 .left) (c .before .before .before .if2 .left) (c .before .before .if3 .taken) _ (failed (c .before .entity .result) (c .match .keys2)) (c .before .entity .ensures)
+returns-3 c = text-failed _ _ _ _ (c .before .before .before .before .before .before .before .loop .inv) (omega arith) (ne-eqb _ _ (c .before .before .before .before .if1 .left)) (c .before .before .before .if2 .left) (c .before .before .if3 .taken) _ (failed (c .before .entity .result) (c .match .keys2)) (c .before .entity .ensures)
 
 loop-less : tie.Need-loop-less Inv-loop μ-loop
 loop-less c = omega (arith, (rw (c .before .r .given .1) at (c .before .before .before .entity .ensures)) .inside)
 
 loop-again : tie.Need-loop-again Inv-loop μ-loop
-loop-again c = text-and _ _ _ _ (c .before .before .before .before .before .before .before .before .before .loop .inv) (omega arith) (c .before .before .before .before .before .before .if1 .left) (c .before .before .before .before .before .if2 .left) (c .before .before .before .before .if3 .taken) _ (rw (c .before .r .given .1) at (c .before .before .before .entity .ensures))
+loop-again c = text-and _ _ _ _ (c .before .before .before .before .before .before .before .before .before .loop .inv) (omega arith) (ne-eqb _ _ (c .before .before .before .before .before .before .if1 .left)) (c .before .before .before .before .before .if2 .left) (c .before .before .before .before .if3 .taken) _ (rw (c .before .r .given .1) at (c .before .before .before .entity .ensures))
 
 add-i : tie.Need-add-i Inv-loop μ-loop
 add-i c = search needs
@@ -48,7 +50,7 @@ loop-less-2 : tie.Need-loop-less-2 Inv-loop μ-loop
 loop-less-2 c = omega arith
 
 loop-again-2 : tie.Need-loop-again-2 Inv-loop μ-loop
-loop-again-2 c = text-more _ _ _ _ (c .before .before .before .before .before .loop .inv) (omega arith) (c .before .before .if1 .left) (c .before .if2 .left) (c .if3 .left)
+loop-again-2 c = text-more _ _ _ _ (c .before .before .before .before .before .loop .inv) (omega arith) (ne-eqb _ _ (c .before .before .if1 .left)) (c .before .if2 .left) (c .if3 .left)
 
 returns-4 : tie.Need-returns-4 Inv-loop μ-loop
 returns-4 c = text-end _ _ _ _ (c .before .loop .inv) (omega arith)

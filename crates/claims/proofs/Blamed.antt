@@ -1,0 +1,184 @@
+-- Which numbers the faults of a text have: XML, and elements. Assumes nothing.
+use mathlib.Core.Path.{_≡_, refl}
+use mathlib.Core.Bool.{Bool, true, false, cond, not}
+use mathlib.Core.List.{List, [], _∷_, _++_}
+use Prim.Native.Nat.{ℕ, zero, suc}
+use lib.Dec.{eqb, leb}
+use lib.ListN.{length}
+use Rattle.grammar.specs.Parse.{again, last}
+use Rattle.grammar.specs.Grammar.{G}
+use Rattle.xml.specs.Bytes.{bytes, same, isSpace, isLetter, isNameByte, isQuote, lessThan, greaterThan, slash, exclamation, question, ampersand, equals, dash}
+use Rattle.xml.specs.Xml.{spaces, name, entity, commentPart, comment, text, Attribute, isNamed, Rules, plain, nameFault, attribute, TagState, Tag, tagByte, startTag, openName, closeName, endTag, strayEnd}
+use Rattle.xml.specs.Elements.{gap, child, close, markup, between, Holder, afterPart, held, stranger, onlyEnd, textContent, textElement, infoByte, infoRest, infoElement, info}
+use Rattle.claims.specs.Refusals.{isTextFault}
+use Rattle.claims.proofs.Faults.{Blames, Fair, fair-zero, fair-by, fair-cond, blames-ret, blames-bad, blames-cond, blames-look, blames-lookTwo, blames-judge, blames-settle, blames-blame, blames-kept, blames-eat, blames-span, blames-byte, blames-word, blames-seq, blames-loop}
+
+abbrev pub Textual : ℕ → Type 0
+Textual k = isTextFault k ≡ true
+
+abbrev pub Well : {A : Type 0} → G A → Type 0
+Well p = Blames Textual p
+
+abbrev pub Right : ℕ → Type 0
+Right k = Fair Textual k
+
+pub two : Right 2
+two = fair-by 2 refl
+
+pub three : Right 3
+three = fair-by 3 refl
+
+pub five : Right 5
+five = fair-by 5 refl
+
+-- ---- names, `&` forms, comments
+
+pub name-well : Well name
+unfolding name
+name-well = blames-look (λ b. blames-cond (isLetter b) (blames-span isNameByte) (blames-bad 2 refl))
+
+pub spaces-well : Well spaces
+unfolding spaces
+spaces-well = blames-span isSpace
+
+pub entity-well : Well entity
+unfolding entity
+entity-well =
+    blames-blame (blames-seq blames-eat (λ a. blames-look (λ b.
+    blames-cond (eqb b 97) (blames-seq blames-eat (λ a. blames-look (λ c. blames-cond (eqb c 109) (blames-word (bytes "mp;") 3 three) (blames-word (bytes "pos;") 3 three))))
+    (blames-cond (eqb b 108) (blames-word (bytes "lt;") 3 three)
+    (blames-cond (eqb b 103) (blames-word (bytes "gt;") 3 three) (blames-word (bytes "quot;") 3 three))))))
+
+part-well : Well commentPart
+unfolding commentPart
+part-well =
+    blames-seq (blames-seq (blames-span (λ b. not (eqb b dash))) (λ a. blames-eat)) (λ a. blames-look (λ b.
+    blames-cond (eqb b dash) (blames-seq (blames-seq blames-eat (λ a. blames-byte greaterThan 2 two)) (λ a. blames-ret (last tt))) (blames-ret (again tt))))
+
+pub comment-well : Well comment
+unfolding comment
+comment-well = blames-blame (blames-seq (blames-word (bytes "<!--") 3 three) (λ a. blames-loop (λ st. part-well) tt))
+
+-- ---- texts and tags
+
+pub text-well : (stop : ℕ → Bool) → Well (text stop)
+unfolding text
+text-well stop =
+    blames-kept (blames-loop (λ st. blames-look (λ b.
+    blames-cond (stop b) (blames-ret (last tt))
+    (blames-cond (eqb b lessThan) (blames-bad 2 refl)
+    (blames-cond (eqb b ampersand) (blames-seq entity-well (λ a. blames-ret (again tt))) (blames-seq blames-eat (λ a. blames-ret (again tt))))))) tt)
+
+pub record RightRules (rules : Rules) : Type 0 where
+  pub names : (w : List ℕ) → Right (rules .names w)
+  pub texts : (w t : List ℕ) → Right (rules .texts w t)
+  pub opened : (l : List Attribute) → Right (rules .opened l)
+  pub emptied : (l : List Attribute) → Right (rules .emptied l)
+
+pub plain-right : RightRules plain
+plain-right = record { names = λ w. fair-zero; texts = λ w t. fair-zero; opened = λ l. fair-zero; emptied = λ l. fair-zero }
+
+module _ (rules : Rules) (right : RightRules rules) where
+  attribute-well : (seen : List Attribute) → Well (attribute rules seen)
+  unfolding attribute
+  attribute-well seen =
+      blames-seq (blames-judge (nameFault rules seen) (λ w. fair-cond (isNamed w seen) two (fair-cond (leb 16 (length seen)) three (right .names w))) name-well)
+      (λ w. blames-seq spaces-well (λ a. blames-seq (blames-byte equals 2 two) (λ a. blames-seq spaces-well
+      (λ a. blames-seq (blames-judge (λ b. cond (isQuote b) 0 2) (λ b. fair-cond (isQuote b) fair-zero two) blames-eat)
+      (λ q. blames-seq (blames-judge (λ x. rules .texts w (x .1)) (λ x. right .texts w (x .1)) (text-well (λ b. eqb b q)))
+      (λ t. blames-seq blames-eat (λ a. blames-ret (record { name = w; text = t .1 }))))))))
+
+  tag-well : (st : TagState) (b : ℕ) → Well (tagByte rules st b)
+  tag-well st b =
+      blames-cond (isSpace b) (blames-seq blames-eat (λ a. blames-ret (again (record { spaced = true; seen = st .seen }))))
+      (blames-cond (eqb b greaterThan)
+      (blames-seq (blames-judge (λ x. rules .opened (st .seen)) (λ x. right .opened (st .seen)) blames-eat) (λ a. blames-ret (last (record { attributes = st .seen; empty = false }))))
+      (blames-cond (eqb b slash)
+      (blames-seq (blames-judge (λ x. rules .emptied (st .seen)) (λ x. right .emptied (st .seen)) (blames-word (bytes "/>") 2 two)) (λ a. blames-ret (last (record { attributes = st .seen; empty = true }))))
+      (blames-cond (st .spaced) (blames-seq (attribute-well (st .seen)) (λ a. blames-ret (again (record { spaced = false; seen = st .seen ++ a ∷ [] })))) (blames-bad 2 refl))))
+
+  pub startTag-well : Well (startTag rules)
+  unfolding startTag
+  startTag-well = blames-loop (λ st. blames-look (tag-well st)) (record { spaced = false; seen = [] })
+
+pub openName-well : Well openName
+unfolding openName
+openName-well = blames-seq blames-eat (λ a. name-well)
+
+closeName-well : Well closeName
+unfolding closeName
+closeName-well = blames-seq (blames-seq blames-eat (λ a. blames-eat)) (λ a. name-well)
+
+pub endTag-well : (w : List ℕ) (missing : ℕ) → Right missing → Well (endTag w missing)
+unfolding endTag
+endTag-well w missing h =
+    blames-settle missing h
+    (blames-seq (blames-seq (blames-seq (blames-judge (λ n. cond (same n w) 0 2) (λ n. fair-cond (same n w) fair-zero two) closeName-well) (λ a. spaces-well)) (λ a. blames-byte greaterThan 2 two)) (λ a. blames-ret tt))
+
+pub strayEnd-well : Well strayEnd
+unfolding strayEnd
+strayEnd-well = blames-seq (blames-judge (λ n. 2) (λ n. two) closeName-well) (λ a. blames-ret tt)
+
+-- ---- between elements
+
+module _ {C : Type 0} {end : G (Unit {0})} (fault : List ℕ → ℕ) {body : List ℕ → G C} (ends : Well end) (names : (w : List ℕ) → Right (fault w)) (bodies : (w : List ℕ) → Well (body w)) where
+  markup-well : (a b : ℕ) → Well (markup end fault body a b)
+  markup-well a b =
+      blames-cond (eqb b slash) (blames-seq ends (λ u. blames-ret close))
+      (blames-cond (eqb b exclamation) (blames-seq comment-well (λ u. blames-ret gap))
+      (blames-cond (eqb b question) (blames-bad 3 refl)
+      (blames-seq (blames-judge fault names openName-well) (λ w. blames-seq (bodies w) (λ v. blames-ret (child v))))))
+
+  pub between-well : Well (between end fault body)
+  unfolding between
+  between-well =
+      blames-look (λ b. blames-cond (isSpace b) (blames-seq blames-eat (λ u. blames-ret gap))
+      (blames-cond (eqb b lessThan) (blames-lookTwo markup-well)
+      (blames-cond (eqb b ampersand) (blames-seq (blames-settle 5 five entity-well) (λ u. blames-bad 5 refl)) (blames-bad 5 refl))))
+
+pub held-well : {S : Type 0} (h : Holder S) → ((st : S) → Right (h .missing st)) → ((st : S) (w : List ℕ) → Right (h .fault st w)) → ((st : S) (w : List ℕ) → Well (h .body st w))
+    → (st : S) → Well (held h st)
+held-well h m f b st =
+    blames-loop (λ st. blames-seq (between-well (h .fault st) (endTag-well (h .name) (h .missing st) (m st)) (f st) (b st)) (λ p. blames-ret (afterPart st p))) st
+
+-- ---- where no element may stand, and text
+
+stranger-well : {A : Type 0} (b : ℕ) → Well (stranger {A = A} b)
+stranger-well b =
+    blames-cond (eqb b exclamation) (blames-seq (blames-settle 3 three comment-well) (λ u. blames-bad 3 refl))
+    (blames-cond (eqb b question) (blames-bad 3 refl) (blames-seq (blames-judge (λ w. 5) (λ w. five) openName-well) (λ u. blames-bad 5 refl)))
+
+pub onlyEnd-well : (w : List ℕ) (missing : ℕ) → Right missing → Well (onlyEnd w missing)
+unfolding onlyEnd
+onlyEnd-well w missing h = blames-lookTwo (λ a b. blames-cond (eqb b slash) (endTag-well w missing h) (stranger-well b))
+
+content-well : (w : List ℕ) → Well (textContent w)
+unfolding textContent
+content-well w = blames-seq (text-well (λ b. eqb b lessThan)) (λ t. blames-seq (onlyEnd-well w 0 fair-zero) (λ u. blames-ret (t .1)))
+
+pub textElement-well : (w : List ℕ) → Well (textElement w)
+unfolding textElement
+textElement-well w = blames-seq (startTag-well plain plain-right) (λ tag. blames-cond (tag .empty) (blames-ret []) (content-well w))
+
+-- ---- Info
+
+module _ (element : G (Unit {0})) (inner : Well element) where
+  infoByte-well : (w : List ℕ) (b : ℕ) → Well (infoByte element w b)
+  infoByte-well w b =
+      blames-cond (eqb b lessThan) (blames-lookTwo (λ a c.
+      blames-cond (eqb c slash) (blames-seq (endTag-well w 0 fair-zero) (λ u. blames-ret (last tt)))
+      (blames-cond (eqb c exclamation) (blames-seq comment-well (λ u. blames-ret (again tt)))
+      (blames-cond (eqb c question) (blames-bad 3 refl) (blames-seq inner (λ u. blames-ret (again tt)))))))
+      (blames-cond (eqb b ampersand) (blames-seq entity-well (λ u. blames-ret (again tt))) (blames-seq blames-eat (λ u. blames-ret (again tt))))
+
+  infoRest-well : (w : List ℕ) (tag : Tag) → Well (infoRest element w tag)
+  infoRest-well w tag = blames-cond (tag .empty) (blames-ret tt) (blames-loop (λ st. blames-look (infoByte-well w)) tt)
+
+infoElement-well : (n : ℕ) → Well (infoElement n)
+unfolding infoElement
+infoElement-well zero = blames-seq (blames-judge (λ w. 3) (λ w. three) openName-well) (λ u. blames-ret tt)
+infoElement-well (suc n) = blames-seq openName-well (λ w. blames-seq (startTag-well plain plain-right) (λ tag. infoRest-well (infoElement n) (infoElement-well n) w tag))
+
+pub info-well : Well info
+unfolding info
+info-well = blames-seq (startTag-well plain plain-right) (infoRest-well (infoElement 16) (infoElement-well 16) (bytes "Info"))

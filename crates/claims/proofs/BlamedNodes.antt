@@ -1,0 +1,202 @@
+-- Which numbers the faults of a text have: nodes. Assumes nothing.
+use mathlib.Core.Path.{refl}
+use mathlib.Core.Bool.{Bool, true, false, cond, _&&_, _||_}
+use mathlib.Core.List.{List, [], _∷_, _++_}
+use mathlib.Core.Option.{Option, none, some}
+use Prim.Native.Nat.{ℕ}
+use lib.Dec.{eqb, leb, ltb}
+use lib.ListN.{length, set}
+use Rattle.decimal.specs.declared.Decimal.{Decimal}
+use Rattle.decimal.specs.declared.Token.{Token}
+use Rattle.decimal.specs.declared.Token.the-variants.{Number, Malformed}
+use Rattle.decimal_read.specs.Number.{tokenOf}
+use Rattle.decimal_value.specs.Value.{notNegative, positive, isOne}
+use Rattle.process_list.specs.declared.Kind.{Kind}
+use Rattle.process_list.specs.List.{numbersOf}
+use Rattle.grammar.specs.Parse.{again, last}
+use Rattle.xml.specs.Bytes.{bytes, same, isSpace, lessThan}
+use Rattle.xml.specs.Xml.{Attribute, isNamed, textOf}
+use Rattle.xml.specs.Elements.{held}
+use Rattle.clf.specs.Numbers.{endsToken, token, saidBy, faultOf, numbers, anyNumber, notBelowZero, onlyOne, valueRules, valueElement}
+use Rattle.clf.specs.Nodes.{isSome, depthOf, nodeTexts, nodeMissing, nodeRules, matrixShape, lutShape, arrayRules, arrayOf, array, noArray, arrayHolder, tableNode, matrix, lutNames, lutTexts, lut1d, rangeIndex, noValues, isThere, anyThere, allThere, inOrder, oneOf, rangeHolder, rangeTexts, rangeNode, range, holderRules, sopName, sopRule, sopHolder, sopNode, satHolder, satNode, CdlState, noCdl, cdlFault, cdlBody, cdlHolder, cdlTexts, cdlNode, cdlRules, ascCdl, NodeName, isMatrix, isLut1d, isRange, isCdl, notCarried, noNode, nodeFault, nodeBody}
+use Rattle.claims.proofs.Faults.{fair-zero, fair-by, fair-cond, blames-ret, blames-bad, blames-cond, blames-look, blames-judge, blames-eat, blames-seq, blames-loop}
+use Rattle.claims.proofs.Blamed.{Well, Right, five, RightRules, text-well, startTag-well, held-well, onlyEnd-well, textElement-well}
+
+seven : Right 7
+seven = fair-by 7 refl
+
+pub eight : Right 8
+eight = fair-by 8 refl
+
+nine : Right 9
+nine = fair-by 9 refl
+
+twentyOne : Right 21
+twentyOne = fair-by 21 refl
+
+twentyTwo : Right 22
+twentyTwo = fair-by 22 refl
+
+-- ---- numbers
+
+token-right : (n : ℕ) (rule : Decimal → ℕ) → ((d : Decimal) → Right (rule d)) → (count : ℕ) (t : Token) → Right (faultOf n rule count t)
+token-right n rule h count (Number d) = fair-cond (leb n count) twentyTwo (h d)
+token-right n rule h count Malformed = nine
+
+module _ (w : List ℕ) (n : ℕ) (rule : Decimal → ℕ) (h : (d : Decimal) → Right (rule d)) where
+  numbers-well : Well (numbers w n rule)
+  unfolding numbers token
+  numbers-well =
+      blames-loop (λ l. blames-look (λ b.
+      blames-cond (isSpace b) (blames-seq blames-eat (λ a. blames-ret (again l)))
+      (blames-cond (eqb b lessThan) (blames-seq (onlyEnd-well w (cond (ltb (length l) n) 22 0) (fair-cond (ltb (length l) n) twentyTwo fair-zero)) (λ a. blames-ret (last l)))
+      (blames-seq (blames-judge (λ t. faultOf n rule (length l) (tokenOf (t .1))) (λ t. token-right n rule h (length l) (tokenOf (t .1))) (text-well endsToken))
+      (λ t. blames-ret (again (l ++ saidBy (tokenOf (t .1)) ∷ []))))))) []
+
+  value-well : Well (valueElement w n rule)
+  unfolding valueElement
+  value-well = blames-seq (startTag-well valueRules (record { names = λ w. fair-zero; texts = λ w t. fair-zero; opened = λ l. fair-zero; emptied = λ l. twentyTwo })) (λ a. numbers-well)
+
+any-right : (d : Decimal) → Right (anyNumber d)
+any-right d = fair-zero
+
+below-right : (d : Decimal) → Right (notBelowZero d)
+below-right d = fair-cond (notNegative d) fair-zero twentyOne
+
+one-right : (d : Decimal) → Right (onlyOne d)
+one-right d = fair-cond (positive d) (fair-cond (isOne d) fair-zero seven) twentyOne
+
+-- ---- start tags of nodes
+
+node-texts : (rest : List ℕ → List ℕ → ℕ) → ((w t : List ℕ) → Right (rest w t)) → (w t : List ℕ) → Right (nodeTexts rest w t)
+node-texts rest h w t = fair-cond (same w (bytes "inBitDepth") || same w (bytes "outBitDepth")) (fair-cond (isSome (depthOf t)) fair-zero eight) (h w t)
+
+node-missing : (l : List Attribute) → Right (nodeMissing l)
+node-missing l = fair-cond (isNamed (bytes "inBitDepth") l && isNamed (bytes "outBitDepth") l) fair-zero eight
+
+node-rules : (names : List ℕ → ℕ) (texts : List ℕ → List ℕ → ℕ) → ((w : List ℕ) → Right (names w)) → ((w t : List ℕ) → Right (texts w t)) → RightRules (nodeRules names texts)
+node-rules names texts a b = record { names = a; texts = node-texts texts b; opened = node-missing; emptied = λ l. five }
+
+-- ---- Matrix and LUT1D
+
+module _ (shape : List ℕ → Option Kind) where
+  arrayOf-well : (o : Option Kind) → Well (arrayOf o)
+  arrayOf-well none = blames-bad 8 refl
+  arrayOf-well (some k) = blames-seq (numbers-well (bytes "Array") (numbersOf k) anyNumber any-right) (λ l. blames-ret (k, l))
+
+  array-rules : RightRules (arrayRules shape)
+  array-rules = record {
+    names = λ w. fair-zero;
+    texts = λ w t. fair-cond (same w (bytes "dim")) (fair-cond (isSome (shape t)) fair-zero eight) fair-zero;
+    opened = λ l. fair-cond (isNamed (bytes "dim") l) fair-zero eight;
+    emptied = λ l. fair-cond (isNamed (bytes "dim") l) twentyTwo eight;
+  }
+
+  array-well : Well (array shape)
+  unfolding array
+  array-well = blames-seq (startTag-well (arrayRules shape) array-rules) (λ tag. arrayOf-well (shape (textOf (bytes "dim") (tag .attributes))))
+
+  table-well : (w : List ℕ) → Well (held (arrayHolder w shape) noArray)
+  table-well w =
+      held-well (arrayHolder w shape) (λ st. fair-cond (isSome (st .table)) fair-zero five)
+      (λ st v. fair-cond (isSome (st .table)) five (fair-cond (same v (bytes "Array") || same v (bytes "Description")) fair-zero five))
+      (λ st v. blames-cond (same v (bytes "Array")) (blames-seq array-well (λ t. blames-ret (record { about = st .about; table = some t })))
+      (blames-seq (textElement-well v) (λ t. blames-ret (record { about = st .about ++ t ∷ []; table = st .table }))))
+      noArray
+
+matrix-well : Well matrix
+unfolding matrix
+matrix-well =
+    blames-seq (startTag-well (nodeRules (λ w. 0) (λ w t. 0)) (node-rules (λ w. 0) (λ w t. 0) (λ w. fair-zero) (λ w t. fair-zero)))
+    (λ tag. blames-seq (table-well matrixShape (bytes "Matrix")) (λ st. blames-ret (tableNode (tag .attributes) st)))
+
+lut1d-well : Well lut1d
+unfolding lut1d
+lut1d-well =
+    blames-seq (startTag-well (nodeRules lutNames lutTexts) (node-rules lutNames lutTexts
+    (λ w. fair-cond (same w (bytes "halfDomain") || same w (bytes "rawHalfs")) seven fair-zero)
+    (λ w t. fair-cond (same w (bytes "interpolation")) (fair-cond (same t (bytes "linear")) fair-zero eight) fair-zero)))
+    (λ tag. blames-seq (table-well lutShape (bytes "LUT1D")) (λ st. blames-ret (tableNode (tag .attributes) st)))
+
+-- ---- Range
+
+range-content : Well (held rangeHolder noValues)
+range-content =
+    held-well rangeHolder (λ st. fair-cond (allThere st) (fair-cond (inOrder st) fair-zero twentyOne) five)
+    (λ st w. fair-cond (same w (bytes "Description")) (fair-cond (anyThere st) five fair-zero) (fair-cond (ltb (rangeIndex w) 4) (fair-cond (isThere (rangeIndex w) st) five fair-zero) five))
+    (λ st w. blames-cond (same w (bytes "Description")) (blames-seq (textElement-well w) (λ t. blames-ret (record { about = st .about ++ t ∷ []; values = st .values })))
+    (blames-seq (value-well w 1 anyNumber any-right) (λ l. blames-ret (record { about = st .about; values = set (st .values) (rangeIndex w) (some (oneOf l)) }))))
+    noValues
+
+range-well : Well range
+unfolding range
+range-well =
+    blames-seq (startTag-well (nodeRules (λ w. 0) rangeTexts) (node-rules (λ w. 0) rangeTexts (λ w. fair-zero)
+    (λ w t. fair-cond (same w (bytes "style")) (fair-cond (same t (bytes "Clamp") || same t (bytes "noClamp")) fair-zero eight) fair-zero)))
+    (λ tag. blames-seq range-content (λ st. blames-ret (rangeNode (tag .attributes) st)))
+
+-- ---- ASC_CDL
+
+holder-rules : RightRules holderRules
+holder-rules = record { names = λ w. fair-zero; texts = λ w t. fair-zero; opened = λ l. fair-zero; emptied = λ l. five }
+
+sop-right : (v w : Bool) (d : Decimal) → Right (cond v notBelowZero (cond w anyNumber onlyOne) d)
+sop-right true w d = below-right d
+sop-right false true d = any-right d
+sop-right false false d = one-right d
+
+sop-well : Well sopNode
+unfolding sopNode
+sop-well =
+    blames-seq (startTag-well holderRules holder-rules) (λ tag.
+    held-well sopHolder (λ l. fair-cond (ltb (length l) 9) five fair-zero) (λ l w. fair-cond (same w (sopName (length l))) fair-zero five)
+    (λ l w. blames-seq (value-well w 3 (sopRule (length l)) (sop-right (eqb (length l) 0) (eqb (length l) 3))) (λ m. blames-ret (l ++ m))) [])
+
+sat-well : Well satNode
+unfolding satNode
+sat-well =
+    blames-seq (startTag-well holderRules holder-rules) (λ tag.
+    held-well satHolder (λ l. fair-cond (ltb (length l) 1) five fair-zero) (λ l w. fair-cond (ltb (length l) 1) (fair-cond (same w (bytes "Saturation")) fair-zero five) five)
+    (λ l w. blames-seq (value-well w 1 notBelowZero below-right) (λ m. blames-ret (l ++ m))) [])
+
+cdl-fault : (st : CdlState) (w : List ℕ) → Right (cdlFault st w)
+cdl-fault st w =
+    fair-cond (same w (bytes "Description")) (fair-cond (isSome (st .sop) || isSome (st .sat)) five fair-zero)
+    (fair-cond (same w (bytes "SOPNode")) (fair-cond (isSome (st .sop) || isSome (st .sat)) five fair-zero)
+    (fair-cond (same w (bytes "SatNode")) (fair-cond (isSome (st .sat)) five fair-zero) five))
+
+cdl-body : (st : CdlState) (w : List ℕ) → Well (cdlBody st w)
+cdl-body st w =
+    blames-cond (same w (bytes "SOPNode")) (blames-seq sop-well (λ l. blames-ret (record { about = st .about; sop = some l; sat = st .sat })))
+    (blames-cond (same w (bytes "SatNode")) (blames-seq sat-well (λ l. blames-ret (record { about = st .about; sop = st .sop; sat = some l })))
+    (blames-seq (textElement-well w) (λ t. blames-ret (record { about = st .about ++ t ∷ []; sop = st .sop; sat = st .sat }))))
+
+cdl-texts : (w t : List ℕ) → Right (cdlTexts w t)
+cdl-texts w t =
+    fair-cond (same w (bytes "style"))
+    (fair-cond (same t (bytes "Fwd") || same t (bytes "FwdNoClamp")) fair-zero (fair-cond (same t (bytes "Rev") || same t (bytes "RevNoClamp")) seven eight)) fair-zero
+
+cdl-well : Well ascCdl
+unfolding ascCdl
+cdl-well =
+    blames-seq (startTag-well cdlRules (record { names = λ w. fair-zero; texts = node-texts cdlTexts cdl-texts; opened = node-missing; emptied = node-missing }))
+    (λ tag. blames-seq (blames-cond (tag .empty) (blames-ret noCdl) (held-well cdlHolder (λ st. fair-zero) cdl-fault cdl-body noCdl))
+    (λ st. blames-ret (cdlNode (tag .attributes) st)))
+
+-- ---- a node by its name
+
+pub name-right : (n : NodeName) → Right (nodeFault n)
+name-right isMatrix = fair-zero
+name-right isLut1d = fair-zero
+name-right isRange = fair-zero
+name-right isCdl = fair-zero
+name-right notCarried = seven
+name-right noNode = five
+
+pub node-well : (n : NodeName) → Well (nodeBody n)
+node-well isMatrix = matrix-well
+node-well isLut1d = lut1d-well
+node-well isRange = range-well
+node-well isCdl = cdl-well
+node-well notCarried = blames-bad 7 refl
+node-well noNode = blames-bad 5 refl

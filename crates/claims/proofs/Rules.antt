@@ -1,0 +1,86 @@
+-- Every accepted list keeps all rules of document 01; with its room it is what refusal 16 asks for. Assumes nothing.
+use mathlib.Core.Path.{_≡_, refl, ap, _∙_}
+use mathlib.Core.Bool.{Bool, true, false, cond}
+use mathlib.Core.List.{List, [], _∷_, _++_, map}
+use Prim.Native.Nat.{ℕ, _≤_}
+use native.Mathlib.Omega.{arith}
+use borrow.Author.Tests.{ltb-false}
+use lib.Dec.{ltb}
+use lib.IntN.{ℤ, pos}
+use lib.ListN.{length, length-map}
+use Rattle.decimal.specs.declared.Decimal.{Decimal}
+use Rattle.process_list.specs.declared.Verdict.the-variants.{Accepted}
+use Rattle.process_list.specs.List.{Element, nodeOf, placed, listOf, allNumbers, coefficientsOf, powersOf, verdict}
+use Rattle.process_list.proofs.Lists.{heads-length, Fine, accepted-fine}
+use Rattle.room.specs.Room.{roomLength, filled}
+use Rattle.valid.specs.Valid.{every, sound, isValid}
+use Rattle.valid.proofs.Readings.{all-length, made}
+use Rattle.grammar.specs.Laws.{nope}
+use Rattle.clf.specs.Nodes.{NodeRead}
+use Rattle.clf.specs.Reading.{accepted, faulty, mostBytes, elementsOf, numbersIn, readText, read}
+use Rattle.claims.specs.Rules.{AllRules}
+use Rattle.claims.proofs.Numbers.{Each}
+use Rattle.claims.proofs.Sound.{every-true}
+use Rattle.claims.proofs.Accepted.{SoundNode, Whole, text-whole}
+
+-- what is accepted is at most 16 MiB, and accepted without that limit
+pub record Short (room : ℕ) (s : List ℕ) (l : List NodeRead) : Type 0 where
+  pub most : length s ≤ mostBytes
+  pub text : readText room s ≡ accepted l
+
+pub read-short : (room : ℕ) (s : List ℕ) (l : List NodeRead) → read room s ≡ accepted l → Short room s l
+unfolding read
+read-short room s l e = go (ltb mostBytes (length s)) refl e
+  where
+    go : (v : Bool) → ltb mostBytes (length s) ≡ v → cond v (faulty 4 0) (readText room s) ≡ accepted l → Short room s l
+    go true q z = nope cc
+    go false q z = record { most = ltb-false mostBytes (length s) q; text = z }
+
+-- the elements of an accepted list
+pub record WholeElements (room : ℕ) (es : List Element) : Type 0 where
+  pub sounds : every sound es ≡ true
+  pub fits : verdict room es ≡ Accepted
+
+each-elements : (l : List NodeRead) → Each SoundNode l → Each (λ e. sound e ≡ true) (elementsOf l)
+each-elements [] h = tt
+each-elements (m ∷ l) h = (h .0, each-elements l (h .1))
+
+pub text-elements : (room : ℕ) (s : List ℕ) (l : List NodeRead) → readText room s ≡ accepted l → WholeElements room (elementsOf l)
+text-elements room s l e =
+    let w : Whole room l = text-whole room s l e in
+    record { sounds = every-true sound (elementsOf l) (each-elements l (w .nodes)); fits = w .fits }
+
+whole-rules : (room : ℕ) (l : List NodeRead) → WholeElements room (elementsOf l) → AllRules room l
+unfolding verdict
+whole-rules room l w =
+    let f : Fine room (map nodeOf (elementsOf l)) = accepted-fine room (map nodeOf (elementsOf l)) (w .fits) in
+    let n : length (map nodeOf (elementsOf l)) ≡ length l = heads-length (elementsOf l) ∙ length-map l (λ (m : NodeRead). m .element) in
+    record {
+      some = omega (arith, f .some);
+      few = omega (arith, f .few);
+      chained = f .chained;
+      holds = omega (arith, f .holds, all-length (elementsOf l) (w .sounds));
+      nodes = w .sounds;
+    }
+
+-- ALL RULES
+pub accepted-text-rules : (room : ℕ) (s : List ℕ) (l : List NodeRead) → readText room s ≡ accepted l → AllRules room l
+accepted-text-rules room s l e = whole-rules room l (text-elements room s l e)
+
+pub accepted-rules : (room : ℕ) (s : List ℕ) (l : List NodeRead) → read room s ≡ accepted l → AllRules room l
+accepted-rules room s l e = accepted-text-rules room s l (read-short room s l e .text)
+
+-- READ IMPLIES VALID: the list, and the room that was c and p, as an accepted reading leaves them
+pub accepted-valid : (c p : List ℤ) (s : List ℕ) (l : List NodeRead) → read (roomLength c p) s ≡ accepted l
+    → isValid (listOf (placed (elementsOf l)))
+    (filled (roomLength c p) (pos 0) (coefficientsOf (elementsOf l)) c)
+    (filled (roomLength c p) (pos 0) (powersOf (elementsOf l)) p) ≡ true
+accepted-valid c p s l e =
+    let w : WholeElements (roomLength c p) (elementsOf l) = text-elements (roomLength c p) s l (read-short (roomLength c p) s l e .text) in
+    made (roomLength c p) c p (elementsOf l) (w .sounds) (w .fits) refl
+
+-- the numbers of the nodes are those of their elements
+pub numbers-in : (l : List NodeRead) → numbersIn l ≡ allNumbers (elementsOf l)
+unfolding numbersIn allNumbers
+numbers-in [] = refl
+numbers-in (m ∷ l) = ap (λ (x : List Decimal). m .element .numbers ++ x) (numbers-in l)

@@ -1,0 +1,54 @@
+use Rattle.xml.specs.Elements.{infoElement}
+use Rattle.info.proofs.Contents.{rest-open, rest-empty, rest-fault, rest-cut, info-rest}
+use borrow.Author.Needs.{needs}
+use Rattle.info.proofs.info.Statement.{statement}
+use Rattle.info.proofs.info.Tie as tie
+
+start-tag-requires : tie.Need-start-tag-requires
+start-tag-requires c κs = search needs
+
+enum-known-end : tie.Need-enum-known-end
+enum-known-end c = search needs
+
+slice-aggregate-content : tie.Need-slice-aggregate-content
+slice-aggregate-content c = search needs
+
+content-requires : tie.Need-content-requires
+content-requires c κs = search needs
+
+enum-known-end-2 : tie.Need-enum-known-end-2
+enum-known-end-2 c = search needs
+
+enum-known-end-3 : tie.Need-enum-known-end-3
+enum-known-end-3 c = search needs
+
+enum-told : tie.Need-enum-told
+enum-told c = search needs
+
+returns : tie.Need-returns
+returns c = info-rest _ _ _ (rest-open (infoElement 16) _ _ _ (c .before .before .before .before .before .start-tag .result) (c .before .before .before .before .before .start-tag .ensures) _ _ (c .before .before .before .end .given .1) (c .content .ensures))
+
+returns-2 : tie.Need-returns-2
+returns-2 c = info-rest _ _ _ (rest-empty (infoElement 16) _ _ _ (c .before .before .before .start-tag .result) (c .before .before .before .start-tag .ensures) _ (c .before .end2 .given .1))
+
+returns-3 : tie.Need-returns-3
+returns-3 c = info-rest _ _ _ (rest-fault (infoElement 16) _ _ _ (c .before .before .before .start-tag .result) (c .before .before .before .start-tag .ensures) _ _ (c .before .end3 .given .1))
+
+returns-4 : tie.Need-returns-4
+returns-4 c = info-rest _ _ _ (rest-cut (infoElement 16) _ _ _ (c .before .before .start-tag .result) (c .before .before .start-tag .ensures) (c .enum-told .given .1))
+
+pub info-spec : {M : Type 1} → statement M
+info-spec =
+    tie.close
+    (tie.spec
+    start-tag-requires
+    enum-known-end
+    slice-aggregate-content
+    content-requires
+    enum-known-end-2
+    enum-known-end-3
+    enum-told
+    returns
+    returns-2
+    returns-3
+    returns-4)

@@ -1,0 +1,58 @@
+use native.Mathlib.Omega.{arith}
+use Rattle.info.proofs.Pieces.{piece-and, piece-text, piece-cut, piece-end, piece-comment, piece-question, piece-child}
+use borrow.Author.Needs.{needs}
+use Rattle.info.proofs.piece_at.Statement.{statement}
+use Rattle.info.proofs.piece_at.Tie as tie
+
+shared-slice-read-b : tie.Need-shared-slice-read-b
+shared-slice-read-b c = search needs
+
+add-next : tie.Need-add-next
+add-next c = search needs
+
+entity-requires : tie.Need-entity-requires
+entity-requires c κs = search needs
+
+returns : tie.Need-returns
+returns c = piece-and _ _ (omega arith) _ (c .before .if1 .taken) (c .entity .ensures)
+
+returns-2 : tie.Need-returns-2
+returns-2 c = piece-text _ _ (omega arith) (c .before .if1 .left) (c .if2 .taken)
+
+returns-3 : tie.Need-returns-3
+returns-3 c = piece-cut _ _ (omega arith) (c .before .if2 .left) (c .if3 .taken)
+
+shared-slice-read-c : tie.Need-shared-slice-read-c
+shared-slice-read-c c = search needs
+
+returns-4 : tie.Need-returns-4
+returns-4 c = piece-end (c .before .before .before .before .before .before .before .args .s .now) (c .before .before .before .before .before .before .before .args .at) (omega arith) (c .before .before .before .if2 .left) (omega arith) (c .if4 .taken)
+
+comment-requires : tie.Need-comment-requires
+comment-requires c κs = search needs
+
+returns-5 : tie.Need-returns-5
+returns-5 c = piece-comment _ _ (omega arith) (c .before .before .before .before .before .if2 .left) (omega arith) (c .before .before .if4 .left) _ (c .before .if5 .taken) (c .comment .ensures)
+
+returns-6 : tie.Need-returns-6
+returns-6 c = piece-question _ _ (omega arith) (c .before .before .before .before .before .if2 .left) (omega arith) (c .before .before .if4 .left) (c .before .if5 .left) (c .if6 .taken)
+
+returns-7 : tie.Need-returns-7
+returns-7 c = piece-child (c .before .before .before .before .before .before .before .before .before .args .s .now) (c .before .before .before .before .before .before .before .before .before .args .at) (omega arith) (c .before .before .before .before .before .if2 .left) (omega arith) (c .before .before .if4 .left) (c .before .if5 .left) (c .if6 .left)
+
+pub piece-at-spec : {M : Type 1} → statement M
+piece-at-spec =
+    tie.close
+    (tie.spec
+    shared-slice-read-b
+    add-next
+    entity-requires
+    returns
+    returns-2
+    returns-3
+    shared-slice-read-c
+    returns-4
+    comment-requires
+    returns-5
+    returns-6
+    returns-7)

@@ -1,0 +1,28 @@
+use Rattle.xml.proofs.Answers.{failed}
+use Rattle.info.proofs.Texts.{content-failed, content-closed}
+use borrow.Author.Needs.{needs}
+use Rattle.info.proofs.text_content.Statement.{statement}
+use Rattle.info.proofs.text_content.Tie as tie
+
+text-to-requires : tie.Need-text-to-requires
+text-to-requires c κs = search needs
+
+enum-known-r : tie.Need-enum-known-r
+enum-known-r c = search needs
+
+no-text-requires : tie.Need-no-text-requires
+no-text-requires c κs = search needs
+
+returns : tie.Need-returns
+returns c = rw (c .no-text .ensures) (content-failed _ _ _ _ (failed (c .before .before .text-to .result) (c .before .match .keys2)) (c .before .before .text-to .ensures))
+
+only-end-requires : tie.Need-only-end-requires
+only-end-requires c κs = search needs
+
+returns-2 : tie.Need-returns-2
+returns-2 c = content-closed _ _ _ _ _ (rw (c .before .before .r .given .1) at (c .before .before .before .before .text-to .ensures)) (c .only-end .ensures)
+
+pub text-content-spec : {M : Type 1} → statement M
+text-content-spec =
+    tie.close
+    (tie.spec text-to-requires enum-known-r no-text-requires returns only-end-requires returns-2)

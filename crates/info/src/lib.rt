@@ -1,0 +1,160 @@
+// Text-only elements and Info: what is passed over.
+ghost use mathlib.Core.Path.{_≡_};
+ghost use Prim.Native.Nat.{_<_};
+ghost use lib.ListN.{length};
+ghost use Rattle.xml.specs.Elements as Elements;
+ghost use Rattle.xml.specs.Code.{Reads, noValue};
+ghost use Rattle.info.specs.Code.{TextReads, noText, PieceIs};
+use tags::TagEnd;
+use tags::TagKind;
+use xml::Scan;
+
+// A text-only element: how it reads, and where its text stands.
+pub struct TextRead {
+    pub scan: Scan,
+    pub start: usize,
+    pub end: usize,
+}
+
+// What stands inside Info, by its first bytes: text, an `&` form or a comment, which are passed; an end tag; or a child.
+enum Piece {
+    Passed(Scan),
+    End,
+    Child,
+}
+
+// The answer of an element without text.
+fn no_text(scan: Scan) -> TextRead
+    ensures { λ r. ⌜ r ≡ noText scan ⌝ }
+{
+    TextRead {
+        scan,
+        start: 0,
+        end: 0,
+    }
+}
+
+// The content of a text-only element of the name w, and its end tag.
+fn text_content(s: &[u8], at: usize, w: &[u8]) -> TextRead
+    ensures { λ r. ⌜ TextReads ((Elements.textContent (now (w .entry))) .run) (now (s .entry)) at r ⌝ }
+{
+    let r = xml::text_to(s, at, b'<');
+    let Scan::At(e) = r else {
+        return no_text(r);
+    };
+    let scan = markup::only_end(s, e, w, 0);
+    TextRead {
+        scan,
+        start: at,
+        end: e,
+    }
+}
+
+// A text-only element of the name w, behind its name.
+pub fn text_element(s: &[u8], at: usize, w: &[u8]) -> TextRead
+    ensures { λ r. ⌜ TextReads ((Elements.textElement (now (w .entry))) .run) (now (s .entry)) at r ⌝ }
+{
+    let tag = tags::start_tag(s, at, TagKind::Plain);
+    let end = tag.end;
+    match end {
+        TagEnd::Open(q) => text_content(s, q, w),
+        TagEnd::Empty(q) => no_text(Scan::At(q)),
+        TagEnd::Fault(k, p) => no_text(Scan::Fault(k, p)),
+        TagEnd::Cut => no_text(Scan::Cut),
+    }
+}
+
+// What stands at a place inside Info.
+fn piece_at(s: &[u8], at: usize) -> Piece
+    requires { ⌜ at < length (now s) ⌝ }
+    ensures { λ r. ⌜ PieceIs (now (s .entry)) at r ⌝ }
+{
+    let b = s[at];
+    let next = at + 1;
+    if b == b'&' {
+        let r = xml::entity(s, at);
+        return Piece::Passed(r);
+    }
+    if b != b'<' {
+        return Piece::Passed(Scan::At(next));
+    }
+    if s.len() <= next {
+        return Piece::Passed(Scan::Cut);
+    }
+    let c = s[next];
+    if c == b'/' {
+        return Piece::End;
+    }
+    if c == b'!' {
+        let r = xml::comment(s, at);
+        return Piece::Passed(r);
+    }
+    if c == b'?' {
+        return Piece::Passed(Scan::Fault(3, at));
+    }
+    Piece::Child
+}
+
+// An element inside Info, below which `left` levels may nest.
+fn element(s: &[u8], at: usize, left: usize) -> Scan
+    ensures { λ r. ⌜ Reads 1 ((Elements.infoElement left) .run) noValue (now (s .entry)) at r ⌝ }
+{
+    let r = xml::open_name(s, at);
+    let Scan::At(e) = r else {
+        return r;
+    };
+    if left == 0 {
+        return Scan::Fault(3, at);
+    }
+    let tag = tags::start_tag(s, e, TagKind::Plain);
+    let end = tag.end;
+    match end {
+        TagEnd::Open(q) => content(s, q, tags::part(s, at + 1, e), left - 1),
+        TagEnd::Empty(q) => Scan::At(q),
+        TagEnd::Fault(k, p) => Scan::Fault(k, p),
+        TagEnd::Cut => Scan::Cut,
+    }
+}
+
+// The content of an element of the name w, below which `left` levels may nest, and its end tag.
+fn content(s: &[u8], at: usize, w: &[u8], left: usize) -> Scan
+    ensures { λ r. ⌜ Reads 1 ((Elements.infoContent (Elements.infoElement left) (now (w .entry))) .run) noValue (now (s .entry)) at r ⌝ }
+{
+    let mut i = at;
+    while i < s.len() {
+        let p = piece_at(s, i);
+        match p {
+            Piece::Passed(r) => {
+                let Scan::At(q) = r else {
+                    return r;
+                };
+                i = q;
+            }
+            Piece::End => {
+                return markup::end_tag(s, i, w, 0);
+            }
+            Piece::Child => {
+                let r = element(s, i, left);
+                let Scan::At(q) = r else {
+                    return r;
+                };
+                i = q;
+            }
+        }
+    }
+    Scan::Cut
+}
+
+// Info, behind its name.
+pub fn info(s: &[u8], at: usize) -> Scan
+    ensures { λ r. ⌜ Reads 1 (Elements.info .run) noValue (now (s .entry)) at r ⌝ }
+{
+    let tag = tags::start_tag(s, at, TagKind::Plain);
+    let end = tag.end;
+    match end {
+        TagEnd::Open(q) => content(s, q, b"Info", 16),
+        TagEnd::Empty(q) => Scan::At(q),
+        TagEnd::Fault(k, p) => Scan::Fault(k, p),
+        TagEnd::Cut => Scan::Cut,
+    }
+}

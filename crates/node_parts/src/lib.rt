@@ -1,0 +1,130 @@
+// What the nodes share: a Description, depths, the record of a node, and small rooms.
+ghost use mathlib.Core.Path.{_≡_};
+ghost use Rattle.xml.specs.Bytes.{same, bytes};
+ghost use Rattle.xml.specs.Xml.{textOf};
+ghost use Rattle.clf.specs.Nodes as Nodes;
+ghost use Rattle.tags.specs.Code.{attributesOf};
+ghost use Rattle.values.specs.Code.{Laid};
+ghost use Rattle.node_parts.specs.Code as Code;
+use decimal::Decimal;
+use process_list::Depth;
+use process_list::Kind;
+use process_list::Node;
+use tags::DepthRead;
+use tags::Seen;
+use xml::Scan;
+
+// The first Description of a node, where its text stands.
+pub struct About {
+    pub found: bool,
+    pub start: usize,
+    pub end: usize,
+}
+
+// A node: how it reads, what the list holds of it but for the position, and its Description.
+pub struct NodeStep {
+    pub scan: Scan,
+    pub node: Node,
+    pub about: About,
+}
+
+pub fn no_about() -> About
+    ensures { λ r. ⌜ r ≡ Code.noAbout ⌝ }
+{
+    About {
+        found: false,
+        start: 0,
+        end: 0,
+    }
+}
+
+// One Description more: the first one stays.
+pub fn with_about(about: About, start: usize, end: usize) -> About
+    ensures { λ r. ⌜ r ≡ Code.withAbout about start end ⌝ }
+{
+    if about.found {
+        return about;
+    }
+    About {
+        found: true,
+        start,
+        end,
+    }
+}
+
+pub fn depth_at(s: &[u8], seen: Seen, w: &[u8]) -> Depth
+    ensures { λ r. ⌜ r ≡ Nodes.depthAt (now (w .entry)) (attributesOf (now (s .entry)) seen) ⌝ }
+{
+    let span = tags::text_of(s, seen, w);
+    let a = span.start;
+    let e = span.end;
+    let d = tags::depth_of(tags::part(s, a, e));
+    match d {
+        DepthRead::Is(depth) => depth,
+        DepthRead::Other => Depth::I8,
+    }
+}
+
+pub fn style_is(s: &[u8], seen: Seen, w: &[u8]) -> bool
+    ensures { λ r. ⌜ r ≡ same (textOf (bytes "style") (attributesOf (now (s .entry)) seen)) (now (w .entry)) ⌝ }
+{
+    let span = tags::text_of(s, seen, b"style");
+    let a = span.start;
+    let e = span.end;
+    xml::same(tags::part(s, a, e), w)
+}
+
+// The node of these attributes.
+pub fn finished(s: &[u8], seen: Seen, scan: Scan, kind: Kind, about: About) -> NodeStep
+    ensures { λ r. ⌜ r ≡ Code.finishedNode (now (s .entry)) seen scan kind about ⌝ }
+{
+    let input = depth_at(s, seen, b"inBitDepth");
+    let output = depth_at(s, seen, b"outBitDepth");
+    let node = process_list::unplaced(kind, input, output);
+    NodeStep { scan, node, about }
+}
+
+pub fn no_node(scan: Scan) -> NodeStep
+    ensures { λ r. ⌜ r ≡ Code.noNode scan ⌝ }
+{
+    NodeStep {
+        scan,
+        node: process_list::blank(),
+        about: no_about(),
+    }
+}
+
+// The number of index k of a small room.
+pub fn number_at(coefficients: &[i64], powers: &[i8], k: usize) -> Decimal
+    ensures { λ r. ⌜ r ≡ Code.numberAt (now (coefficients .entry)) (now (powers .entry)) k ⌝ }
+{
+    if k < room::length(coefficients, powers) {
+        return Decimal {
+            coefficient: coefficients[k],
+            power: powers[k],
+        };
+    }
+    Decimal {
+        coefficient: 0,
+        power: 0,
+    }
+}
+
+// Stores the numbers of a small room from `base` on.
+pub fn store_all(
+    small: &[i64],
+    small_powers: &[i8],
+    coefficients: &mut [i64],
+    powers: &mut [i8],
+    base: usize,
+)
+    ensures { λ _. ⌜ Laid base (Code.numbersFrom (now (small .entry)) (now («small_powers» .entry))) (now (coefficients .entry)) (now (powers .entry)) (now (coefficients .exit)) (now (powers .exit)) ⌝ }
+{
+    let n = room::length(small, small_powers);
+    let mut j = 0;
+    while j < n {
+        let d = number_at(small, small_powers, j);
+        values::store(coefficients, powers, base, j, d);
+        j += 1;
+    }
+}

@@ -1,0 +1,267 @@
+// Range: Descriptions, then four values in any order.
+ghost use mathlib.Core.Path.{_≡_};
+ghost use mathlib.Core.Bool.{true};
+ghost use Prim.Native.Nat.{_+_, _≤_};
+ghost use lib.ListN.{length, set};
+ghost use Rattle.xml.specs.Elements.{held};
+ghost use Rattle.clf.specs.Nodes as Nodes;
+ghost use Rattle.node_parts.specs.Code.{NodeReads};
+ghost use Rattle.node_parts.specs.Held.{Goes, ReadsTo};
+ghost use Rattle.range_node.specs.Code as Code;
+use markup::Lead;
+use node_parts::About;
+use node_parts::NodeStep;
+use process_list::Kind;
+use tags::TagKind;
+use values::Rule;
+use xml::Scan;
+
+// The content of a Range so far: its Description, and which of its four values were there.
+pub struct RangeStep {
+    pub scan: Scan,
+    pub about: About,
+    pub found: [bool; 4],
+}
+
+fn range_index(w: &[u8]) -> usize
+    ensures { λ r. ⌜ r ≡ Nodes.rangeIndex (now (w .entry)) ⌝ }
+{
+    if xml::same(w, b"minInValue") {
+        return 0;
+    }
+    if xml::same(w, b"maxInValue") {
+        return 1;
+    }
+    if xml::same(w, b"minOutValue") {
+        return 2;
+    }
+    if xml::same(w, b"maxOutValue") {
+        return 3;
+    }
+    4
+}
+
+fn range_any(found: [bool; 4]) -> bool
+    ensures { λ r. ⌜ r ≡ Code.anyOf found ⌝ }
+{
+    if found[0] {
+        return true;
+    }
+    if found[1] {
+        return true;
+    }
+    if found[2] {
+        return true;
+    }
+    found[3]
+}
+
+fn range_all(found: [bool; 4]) -> bool
+    ensures { λ r. ⌜ r ≡ Code.allOf found ⌝ }
+{
+    if !found[0] {
+        return false;
+    }
+    if !found[1] {
+        return false;
+    }
+    if !found[2] {
+        return false;
+    }
+    found[3]
+}
+
+// Whether the rule on two values is kept, by the numbers of a small room.
+fn in_order(coefficients: &[i64], powers: &[i8]) -> bool
+    ensures { λ r. ⌜ r ≡ Code.orderedIn (now (coefficients .entry)) (now (powers .entry)) ⌝ }
+{
+    let a = node_parts::number_at(coefficients, powers, 0);
+    let b = node_parts::number_at(coefficients, powers, 1);
+    let c = node_parts::number_at(coefficients, powers, 2);
+    let d = node_parts::number_at(coefficients, powers, 3);
+    if decimal_value::less(a, b) {
+        return decimal_value::at_most(c, d);
+    }
+    false
+}
+
+fn range_missing(found: [bool; 4], coefficients: &[i64], powers: &[i8]) -> u8
+    ensures { λ r. ⌜ r ≡ Code.missingOf found (now (coefficients .entry)) (now (powers .entry)) ⌝ }
+{
+    if range_all(found) {
+        if in_order(coefficients, powers) {
+            return 0;
+        }
+        return 21;
+    }
+    5
+}
+
+// What is wrong with a child's name.
+fn range_fault(w: &[u8], found: [bool; 4]) -> u8
+    ensures { λ r. ⌜ r ≡ Code.faultOf found (now (w .entry)) ⌝ }
+{
+    if xml::same(w, b"Description") {
+        if range_any(found) {
+            return 5;
+        }
+        return 0;
+    }
+    let k = range_index(w);
+    if 4 <= k {
+        return 5;
+    }
+    if found[k] {
+        return 5;
+    }
+    0
+}
+
+// The flags with that of index k set.
+fn with_found(found: [bool; 4], k: usize) -> [bool; 4]
+    ensures { λ r. ⌜ r ≡ set found k true ⌝ }
+{
+    let mut next = found;
+    if k < 4 {
+        next[k] = true;
+    }
+    next
+}
+
+// The state with another answer.
+fn range_with(state: RangeStep, scan: Scan) -> RangeStep
+    ensures { λ r. ⌜ r ≡ Code.withScan state scan ⌝ }
+{
+    let about = state.about;
+    let found = state.found;
+    RangeStep { scan, about, found }
+}
+
+// A child of a Range, of the name w, behind its name. Its number goes into a room of four.
+fn range_body(
+    s: &[u8],
+    at: usize,
+    w: &[u8],
+    state: RangeStep,
+    coefficients: &mut [i64],
+    powers: &mut [i8],
+) -> RangeStep
+    ensures { λ r. ⌜ ((st : Nodes.RangeState) → Code.RangeStands (now (s .entry)) (now (coefficients .entry)) (now (powers .entry)) state st → ReadsTo ((Nodes.rangeBody st (now (w .entry))) .run) (now (s .entry)) at (r .scan) (Code.RangeStands (now (s .entry)) (now (coefficients .exit)) (now (powers .exit)) r) (Unit {0})) ⌝ }
+{
+    let about = state.about;
+    let found = state.found;
+    if xml::same(w, b"Description") {
+        let t = info::text_element(s, at, w);
+        let more = node_parts::with_about(about, t.start, t.end);
+        let scan = t.scan;
+        return RangeStep {
+            scan,
+            about: more,
+            found,
+        };
+    }
+    let k = range_index(w);
+    let scan = values::value_element(s, at, w, 1, Rule::Any, coefficients, powers, k);
+    let next = with_found(found, k);
+    RangeStep {
+        scan,
+        about,
+        found: next,
+    }
+}
+
+// A child of a Range: its `<` stands at `at`, and its name ends at e.
+fn range_child(
+    s: &[u8],
+    at: usize,
+    e: usize,
+    state: RangeStep,
+    coefficients: &mut [i64],
+    powers: &mut [i8],
+) -> RangeStep
+    requires { ⌜ (at + 2 ≤ e) × (e ≤ length (now s)) ⌝ }
+    ensures { λ r. ⌜ ((st : Nodes.RangeState) → Code.RangeStands (now (s .entry)) (now (coefficients .entry)) (now (powers .entry)) state st → Goes Nodes.rangeHolder st (now (s .entry)) at e (r .scan) (Code.RangeStands (now (s .entry)) (now (coefficients .exit)) (now (powers .exit)) r) (Unit {0})) ⌝ }
+{
+    let w = tags::part(s, at + 1, e);
+    let found = state.found;
+    let k = range_fault(w, found);
+    if k != 0 {
+        return range_with(state, Scan::Fault(k, at));
+    }
+    range_body(s, e, w, state, coefficients, powers)
+}
+
+fn no_values(at: usize) -> RangeStep
+    ensures { λ r. ⌜ r ≡ Code.noneFound at ⌝ }
+{
+    RangeStep {
+        scan: Scan::At(at),
+        about: node_parts::no_about(),
+        found: [false; 4],
+    }
+}
+
+// The content of a Range, and its end tag. Its numbers go into a room of four zeros.
+fn range_content(s: &[u8], at: usize, coefficients: &mut [i64], powers: &mut [i8]) -> RangeStep
+    requires { ⌜ (now coefficients ≡ Code.zeros) × (now powers ≡ Code.zeros) ⌝ }
+    ensures { λ r. ⌜ ReadsTo ((held Nodes.rangeHolder Nodes.noValues) .run) (now (s .entry)) at (r .scan) (Code.RangeStands (now (s .entry)) (now (coefficients .exit)) (now (powers .exit)) r) (Unit {0}) ⌝ }
+{
+    let mut state = no_values(at);
+    let mut i = at;
+    while i < s.len() {
+        let l = markup::lead_at(s, i);
+        match l {
+            Lead::Gap(e) => {
+                i = e;
+            }
+            Lead::Open(e) => {
+                state = range_child(s, i, e, state, coefficients, powers);
+                let r = state.scan;
+                let Scan::At(q) = r else {
+                    return state;
+                };
+                i = q;
+            }
+            Lead::End => {
+                let found = state.found;
+                let missing = range_missing(found, coefficients, powers);
+                let r = markup::end_tag(s, i, b"Range", missing);
+                return range_with(state, r);
+            }
+            Lead::Fault(k, p) => {
+                return range_with(state, Scan::Fault(k, p));
+            }
+            Lead::Cut => {
+                return range_with(state, Scan::Cut);
+            }
+        }
+    }
+    range_with(state, Scan::Cut)
+}
+
+// A Range, behind its name.
+pub fn read_range(
+    s: &[u8],
+    at: usize,
+    coefficients: &mut [i64],
+    powers: &mut [i8],
+    base: usize,
+) -> NodeStep
+    ensures { λ r. ⌜ NodeReads (Nodes.range .run) (now (s .entry)) at base r (now (coefficients .entry)) (now (powers .entry)) (now (coefficients .exit)) (now (powers .exit)) ⌝ }
+{
+    let tag = tags::start_tag(s, at, TagKind::Range);
+    let end = tag.end;
+    let seen = tag.seen;
+    let r = tags::behind(end);
+    let Scan::At(q) = r else {
+        return node_parts::no_node(r);
+    };
+    let mut small = [0i64; 4];
+    let mut small_powers = [0i8; 4];
+    let c = range_content(s, q, &mut small, &mut small_powers);
+    node_parts::store_all(&small, &small_powers, coefficients, powers, base);
+    let scan = c.scan;
+    let about = c.about;
+    let clamp = !node_parts::style_is(s, seen, b"noClamp");
+    node_parts::finished(s, seen, scan, Kind::Range { clamp }, about)
+}

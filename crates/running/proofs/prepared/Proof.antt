@@ -1,0 +1,54 @@
+-- `running::prepared` meets its contract. Assumes nothing.
+use Rattle.running.specs.Running.{preparedAs}
+use borrow.Author.Needs.{needs}
+use Rattle.running.proofs.prepared.Statement.{statement}
+use Rattle.running.proofs.prepared.Tie as tie
+
+enum-known-kind : tie.Need-enum-known-kind
+enum-known-kind c = search needs
+
+enum-known-kind-2 : tie.Need-enum-known-kind-2
+enum-known-kind-2 c = search needs
+
+enum-known-kind-3 : tie.Need-enum-known-kind-3
+enum-known-kind-3 c = search needs
+
+prepare-range-requires : tie.Need-prepare-range-requires
+prepare-range-requires c κs = search needs
+
+enum-known-kind-4 : tie.Need-enum-known-kind-4
+enum-known-kind-4 c = search needs
+
+prepare-cdl-requires : tie.Need-prepare-cdl-requires
+prepare-cdl-requires c κs = search needs
+
+returns : tie.Need-returns
+unfolding preparedAs
+returns c = simp (c .before .kind .given .1)
+
+returns-2 : tie.Need-returns-2
+unfolding preparedAs
+returns-2 c = simp (c .before .kind2 .given .1)
+
+returns-3 : tie.Need-returns-3
+unfolding preparedAs
+returns-3 c = simp (c .before .before .kind3 .given .1) (c .prepare-range .ensures)
+
+returns-4 : tie.Need-returns-4
+unfolding preparedAs
+returns-4 c = simp (c .before .before .kind4 .given .1) (c .prepare-cdl .ensures)
+
+pub prepared-spec : {M : Type 1} → statement M
+prepared-spec =
+    tie.close
+    (tie.spec
+    enum-known-kind
+    enum-known-kind-2
+    enum-known-kind-3
+    prepare-range-requires
+    enum-known-kind-4
+    prepare-cdl-requires
+    returns
+    returns-2
+    returns-3
+    returns-4)

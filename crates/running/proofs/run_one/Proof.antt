@@ -1,0 +1,65 @@
+-- `running::run_one` meets its contract. Assumes nothing.
+use mathlib.Core.Path.{_≡_}
+use mathlib.Core.List.{List}
+use lib.IntN.{ℤ}
+use lib.Ieee.{Float}
+use denote.Ref.{now}
+use Rattle.process_list.specs.declared.Node.{Node}
+use Rattle.process_list.specs.List.{scaleOf}
+use Rattle.pixel_run.specs.declared.Prepared.{Prepared}
+use Rattle.pixel_run.specs.Step.{stepPixel}
+use Rattle.pixel_run.specs.Each.{eachPixel}
+use Rattle.running.specs.Running.{preparedAs, preparedOf, rowsAs, rowsOf, runNode}
+use borrow.Author.Needs.{needs}
+use Rattle.running.proofs.run_one.Statement.{statement}
+use Rattle.running.proofs.run_one.Tie as tie
+
+as-node : (cs ps : List ℤ) (n : Node) (xs : List Float) {ys : List Float} {p : Prepared} {rows : List (List Float)} {i o : Float}
+    → p ≡ preparedAs cs ps (n .at) (n .kind)
+    → rows ≡ rowsAs cs ps (n .at) (n .kind)
+    → i ≡ scaleOf (n .input)
+    → o ≡ scaleOf (n .output)
+    → ys ≡ eachPixel (stepPixel p rows i o cs ps) xs
+    → ys ≡ runNode cs ps n xs
+unfolding runNode preparedOf rowsOf
+as-node cs ps n xs ep er ei eo h = cc
+
+prepared-requires : tie.Need-prepared-requires
+prepared-requires c κs = search needs
+
+rows-requires : tie.Need-rows-requires
+rows-requires c κs = search needs
+
+scale-requires : tie.Need-scale-requires
+scale-requires c κs = search needs
+
+scale-requires-2 : tie.Need-scale-requires-2
+scale-requires-2 c κs = search needs
+
+run-node-requires : tie.Need-run-node-requires
+run-node-requires c κs = search needs
+
+same-length : tie.Need-same-length
+same-length c = search needs
+
+returns : tie.Need-returns
+returns c =
+    let n = c .before .before in
+    let o = n .before .before in
+    let i = o .before in
+    let r = i .before in
+    let p = r .before in
+    let a = p .before .before .args in
+    as-node (now (a .coefficients)) (now (a .powers)) (a .node) (now (a .pixels)) (p .prepared .ensures) (r .rows .ensures) (i .scale .ensures) (o .scale2 .ensures) (n .run-node .ensures)
+
+pub run-one-spec : {M : Type 1} → statement M
+run-one-spec =
+    tie.close
+    (tie.spec
+    prepared-requires
+    rows-requires
+    scale-requires
+    scale-requires-2
+    run-node-requires
+    same-length
+    returns)

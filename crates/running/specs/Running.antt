@@ -1,0 +1,93 @@
+-- Running pixels through a list (document 01, 'What a pixel goes through', and 'Running: 16, 14, 15 (lowest index)'). Definitions only.
+use mathlib.Core.Bool.{Bool, not, cond}
+use mathlib.Core.List.{List, [], _∷_}
+use Prim.Native.Nat.{ℕ, _%_}
+use lib.Dec.{eqb, ltb}
+use lib.IntN.{ℤ}
+use lib.ListN.{length}
+use lib.Ieee.{Float}
+use Rattle.process_list.specs.declared.Kind.{Kind}
+use Rattle.process_list.specs.declared.Kind.the-variants.{Matrix, Lut1d, Range, Cdl}
+use Rattle.process_list.specs.declared.Node.{Node}
+use Rattle.process_list.specs.declared.ProcessList.{ProcessList}
+use Rattle.process_list.specs.List.{nodesOf, scaleOf}
+use Rattle.valid.specs.Valid.{isValid}
+use Rattle.pixel.specs.F64 as F64
+use Rattle.pixel_room.specs.Room.{rowsAt}
+use Rattle.pixel_run.specs.declared.Prepared.{Prepared}
+use Rattle.pixel_run.specs.declared.Prepared.the-variants as prepared
+use Rattle.pixel_run.specs.Prepare.{rangeFrom, cdlFrom}
+use Rattle.pixel_run.specs.Step.{stepPixel}
+use Rattle.pixel_run.specs.Each.{eachPixel}
+use Rattle.pixel_run.specs.Finite.{firstNotFinite}
+use Rattle.running.specs.declared.Ran.{Ran}
+
+-- ---- one node
+
+-- 'A prepared node is one of four kinds: Range with four and CDL with ten numbers, each carrying its own f64 parameters; Matrix and LUT1D with where their numbers stand.'
+-- The numbers stand in the room from `at` on
+unfoldable pub preparedAs : List ℤ → List ℤ → ℕ → Kind → Prepared
+preparedAs coefficients powers at (Matrix wide) = prepared.Matrix at wide
+preparedAs coefficients powers at (Lut1d entries columns) = prepared.Lut1d at entries columns
+preparedAs coefficients powers at (Range clamp) = rangeFrom coefficients powers at clamp
+preparedAs coefficients powers at (Cdl clamp) = cdlFrom coefficients powers at clamp
+
+unfoldable pub preparedOf : List ℤ → List ℤ → Node → Prepared
+preparedOf coefficients powers n = preparedAs coefficients powers (n .at) (n .kind)
+
+-- 'For a Matrix its three rows of four are handed over by value'; the other kinds use no rows, and get rows of zeros
+abbrev pub zeroRow : List Float
+zeroRow = F64.zero ∷ F64.zero ∷ F64.zero ∷ F64.zero ∷ []
+
+abbrev pub noRows : List (List Float)
+noRows = zeroRow ∷ zeroRow ∷ zeroRow ∷ []
+
+unfoldable pub rowsAs : List ℤ → List ℤ → ℕ → Kind → List (List Float)
+rowsAs coefficients powers at (Matrix wide) = rowsAt coefficients powers at wide
+rowsAs coefficients powers at (Lut1d entries columns) = noRows
+rowsAs coefficients powers at (Range clamp) = noRows
+rowsAs coefficients powers at (Cdl clamp) = noRows
+
+unfoldable pub rowsOf : List ℤ → List ℤ → Node → List (List Float)
+rowsOf coefficients powers n = rowsAs coefficients powers (n .at) (n .kind)
+
+-- every pixel of a slice through one node, with the scales of the node's depths
+unfoldable pub runNode : List ℤ → List ℤ → Node → List Float → List Float
+runNode coefficients powers n xs =
+    eachPixel
+    (stepPixel (preparedOf coefficients powers n) (rowsOf coefficients powers n) (scaleOf (n .input)) (scaleOf (n .output)) coefficients powers)
+    xs
+
+-- ---- all nodes, one after the other in the order of the list: what comes out of one goes into the next. 'Between nodes, and in the lent slice, it holds code values.'
+unfoldable pub runNodes : List ℤ → List ℤ → List Node → List Float → List Float
+runNodes coefficients powers [] xs = xs
+runNodes coefficients powers (n ∷ ns) xs = runNodes coefficients powers ns (runNode coefficients powers n xs)
+
+-- ---- the answer of a call
+
+-- 14: 'pixel slice not a multiple of three'
+unfoldable pub notThrees : List Float → Bool
+notThrees xs = not (eqb (length xs % 3) 0)
+
+-- 15: 'pixel value NaN or infinite'
+unfoldable pub notFinite : List Float → Bool
+notFinite xs = ltb (firstNotFinite xs) (length xs)
+
+-- a refusal number and its place
+abbrev pub ran : ℕ → ℕ → Ran
+ran number place = record { number = number; place = place }
+
+-- 'Running: 16, 14, 15 (lowest index)', and 0 is accepted; 'The place .. of 15, the index; .. of 0, 4, 14 and 16 to 19, 0'
+unfoldable pub ranOf : ProcessList → List ℤ → List ℤ → List Float → Ran
+ranOf list coefficients powers xs =
+    cond (not (isValid list coefficients powers)) (ran 16 0)
+    (cond (notThrees xs) (ran 14 0)
+    (cond (notFinite xs) (ran 15 (firstNotFinite xs))
+    (ran 0 0)))
+
+-- the slice afterwards: 'overwritten' by what the nodes make of it; 'Any other refusal changes nothing'
+unfoldable pub pixelsOf : ProcessList → List ℤ → List ℤ → List Float → List Float
+pixelsOf list coefficients powers xs =
+    cond (eqb (ranOf list coefficients powers xs .number) 0)
+    (runNodes coefficients powers (nodesOf list) xs)
+    xs

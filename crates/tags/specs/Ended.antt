@@ -1,0 +1,73 @@
+-- How a start tag ended: the place behind it, and the tag that was read. Laws for callers of `start_tag`, which name no tag. Assumes nothing.
+use mathlib.Core.Path.{_≡_, refl, sym, ap, _∙_}
+use mathlib.Core.Bool.{Bool, true, false}
+use mathlib.Core.List.{List}
+use Prim.Native.Nat.{ℕ}
+use native.Mathlib.Omega.{arith}
+use lib.ListN.{drop}
+use Rattle.xml.specs.Xml.{Tag, Rules, startTag}
+use Rattle.xml.specs.Code.{Reads}
+use Rattle.xml.specs.declared.Scan.{Scan}
+use Rattle.xml.specs.declared.Scan.the-variants.{At, Fault, Cut}
+use Rattle.tags.specs.Rules.{rulesOf}
+use Rattle.tags.specs.Code.{attributesOf, endOut, EndInside, tagOut}
+use Rattle.tags.specs.declared.StartTag.{StartTag}
+use Rattle.tags.specs.declared.TagEnd.{TagEnd}
+use Rattle.tags.specs.declared.TagEnd.the-variants as Ends
+use Rattle.tags.specs.declared.TagKind.{TagKind}
+
+-- the place behind a start tag, open or empty
+abbrev pub behindTag : TagEnd → Scan
+behindTag (Ends.Open e) = At e
+behindTag (Ends.Empty e) = At e
+behindTag (Ends.Fault k p) = Fault k p
+behindTag Ends.Cut = Cut
+
+-- what `start_tag` ensures of its answer
+abbrev pub TagRead : TagKind → List ℕ → ℕ → StartTag → Type 0
+TagRead kind s at t = (tagOut s t ≡ (startTag (rulesOf kind)) .run (drop at s)) × EndInside s at (t .end)
+
+-- a tag of the attributes that were read
+abbrev pub tagWith : List ℕ → StartTag → Bool → Tag
+tagWith s t empty = record { attributes = attributesOf s (t .seen); empty = empty }
+
+abbrev pub isEmptied : TagEnd → Bool
+isEmptied (Ends.Open e) = false
+isEmptied (Ends.Empty e) = true
+isEmptied (Ends.Fault k p) = false
+isEmptied Ends.Cut = false
+
+-- the tag that was read
+unfoldable pub tagOf : List ℕ → StartTag → Tag
+tagOf s t = tagWith s t (isEmptied (t .end))
+
+module _ (rules : Rules) (kind : TagKind) (r : rulesOf kind ≡ rules) (s : List ℕ) (at : ℕ) (t : StartTag) (v : TagRead kind s at t) where
+  ended : (end : TagEnd) → t .end ≡ end → (endOut s (t .seen) end ≡ (startTag rules) .run (drop at s)) × EndInside s at end
+  ended end q = (ap (endOut s (t .seen)) (sym q) ∙ v .0 ∙ ap (λ (l : Rules). (startTag l) .run (drop at s)) r, rw q at (v .1))
+
+  -- ---- by how it ended
+
+  pub tag-open : (e : ℕ) → t .end ≡ Ends.Open e → Reads 1 ((startTag rules) .run) (λ i. tagWith s t false) s at (At e)
+  tag-open e q = let u = ended (Ends.Open e) q in record { out = u .0; inside = (omega (arith, u .1), u .1 .1) }
+
+  pub tag-empty : (e : ℕ) → t .end ≡ Ends.Empty e → Reads 1 ((startTag rules) .run) (λ i. tagWith s t true) s at (At e)
+  tag-empty e q = let u = ended (Ends.Empty e) q in record { out = u .0; inside = (omega (arith, u .1), u .1 .1) }
+
+  pub tag-fault : (k p : ℕ) → t .end ≡ Ends.Fault k p → Reads 1 ((startTag rules) .run) (λ i. tagWith s t false) s at (Fault k p)
+  tag-fault k p q = let u = ended (Ends.Fault k p) q in record { out = u .0; inside = u .1 }
+
+  pub tag-cut : t .end ≡ Ends.Cut → Reads 1 ((startTag rules) .run) (λ i. tagWith s t false) s at Cut
+  tag-cut q = record { out = (ended Ends.Cut q) .0; inside = tt }
+
+  -- ---- where open and empty are alike: b is the answer for the place behind it
+
+  pub tag-reads : (b : Scan) → b ≡ behindTag (t .end) → Reads 1 ((startTag rules) .run) (λ e. tagOf s t) s at b
+  unfolding tagOf
+  tag-reads b q = rw q (go (t .end) (ended (t .end) refl))
+    where
+      go : (end : TagEnd) → (endOut s (t .seen) end ≡ (startTag rules) .run (drop at s)) × EndInside s at end
+          → Reads 1 ((startTag rules) .run) (λ e. tagWith s t (isEmptied end)) s at (behindTag end)
+      go (Ends.Open e) u = record { out = u .0; inside = (omega (arith, u .1), u .1 .1) }
+      go (Ends.Empty e) u = record { out = u .0; inside = (omega (arith, u .1), u .1 .1) }
+      go (Ends.Fault k p) u = record { out = u .0; inside = u .1 }
+      go Ends.Cut u = record { out = u .0; inside = tt }

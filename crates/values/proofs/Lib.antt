@@ -1,0 +1,4 @@
+pub mod Tokens
+pub mod Stored
+pub mod Loop
+pub mod Elements

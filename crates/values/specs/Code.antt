@@ -1,0 +1,85 @@
+-- What the answers of the code mean, and what becomes of the room.
+use mathlib.Core.Path.{_≡_}
+use mathlib.Core.Bool.{true}
+use mathlib.Core.List.{List, map}
+use Prim.Native.Nat.{ℕ, zero, suc, _≤_, _<_}
+use lib.IntN.{ℤ}
+use lib.ListN.{length, drop, getD}
+use Rattle.decimal.specs.declared.Decimal.{Decimal}
+use Rattle.decimal_read.specs.Number.{tokenOf}
+use Rattle.grammar.specs.Parse.{Out, done, fault, cut, Parser}
+use Rattle.grammar.specs.Grammar.{G, ret, judge, seq}
+use Rattle.xml.specs.declared.Scan.{Scan}
+use Rattle.xml.specs.declared.Scan.the-variants as Scans
+use Rattle.xml.specs.Code.{part, scanOut, Inside, Reads}
+use Rattle.room.specs.Room.{roomLength, laid}
+use Rattle.clf.specs.Numbers.{endsToken, token, faultOf, saidBy, anyNumber, notBelowZero, onlyOne}
+use Rattle.values.specs.declared.Rule.{Rule}
+use Rattle.values.specs.declared.Rule.the-variants as Rules
+use Rattle.values.specs.declared.TokenRead.{TokenRead}
+use Rattle.values.specs.declared.TokenRead.the-variants as Reading
+
+-- the rule on one number, by its name in the code
+unfoldable pub ruleOf : Rule → Decimal → ℕ
+ruleOf Rules.Any = anyNumber
+ruleOf Rules.NotNegative = notBelowZero
+ruleOf Rules.One = onlyOne
+
+-- ---- tokens
+
+-- a next place is a byte that ends a token
+abbrev pub Ended : List ℕ → Scan → Type 0
+Ended s (Scans.At e) = endsToken (getD s e 0) ≡ true
+Ended s (Scans.Fault k p) = Unit
+Ended s Scans.Cut = Unit
+
+-- the bytes of a token, read from `at` on
+pub record TokenBytes (s : List ℕ) (at : ℕ) (r : Scan) : Type 0 where
+  pub reads : Reads 0 (token .run) (λ e. (tt, part s at e)) s at r
+  pub ended : Ended s r
+
+-- the number of a token, after so many of n: what `Numbers.numberByte` reads where no white space and no `<` stands
+abbrev pub numberToken : ℕ → (Decimal → ℕ) → ℕ → G Decimal
+numberToken n rule count = seq (judge (λ t. faultOf n rule count (tokenOf (t .1))) token) (λ t. ret (saidBy (tokenOf (t .1))))
+
+abbrev pub tokenOut : List ℕ → TokenRead → Out Decimal
+tokenOut s (Reading.Number d e) = done d (drop e s)
+tokenOut s (Reading.Fault k p) = fault k (drop p s)
+tokenOut s Reading.Cut = cut
+
+-- every place is within the bytes; a number is one of the n, and behind it stands a byte that ends a token
+abbrev pub TokenInside : ℕ → ℕ → List ℕ → ℕ → TokenRead → Type 0
+TokenInside n count s at (Reading.Number d e) = (count < n) × (at ≤ e) × (e ≤ length s) × (endsToken (getD s e 0) ≡ true)
+TokenInside n count s at (Reading.Fault k p) = (at ≤ p) × (p ≤ length s)
+TokenInside n count s at Reading.Cut = Unit
+
+-- a token read from `at` on, after `count` numbers of n
+pub record TokenReads (n : ℕ) (rule : Decimal → ℕ) (count : ℕ) (s : List ℕ) (at : ℕ) (r : TokenRead) : Type 0 where
+  pub out : tokenOut s r ≡ (numberToken n rule count) .run (drop at s)
+  pub inside : TokenInside n count s at r
+
+-- the answer for the number d of a token from `at` to e, by its fault; 0 is none
+abbrev pub judgedAs : ℕ → Decimal → ℕ → ℕ → TokenRead
+judgedAs zero d at e = Reading.Number d e
+judgedAs (suc k) d at e = Reading.Fault (suc k) at
+
+-- ---- numbers in the room
+
+-- the numbers xs stand in the room from `base` on, as far as it goes, and nothing else has changed
+pub record Laid (base : ℕ) (xs : List Decimal) (c₀ : List ℤ) (p₀ : List ℤ) (c₁ : List ℤ) (p₁ : List ℤ) : Type 0 where
+  pub coefficients : c₁ ≡ laid (roomLength c₀ p₀) base (map (λ (d : Decimal). d .coefficient) xs) c₀
+  pub powers : p₁ ≡ laid (roomLength c₀ p₀) base (map (λ (d : Decimal). d .power) xs) p₀
+
+-- n numbers, where the answer is a next place
+abbrev pub Counted : ℕ → Scan → List Decimal → Type 0
+Counted n (Scans.At e) xs = length xs ≡ n
+Counted n (Scans.Fault k p) xs = Unit
+Counted n Scans.Cut xs = Unit
+
+-- numbers read from `at` on: the answer is p's, whose value is the numbers that now stand in the room. At a fault, those read before it stand there
+pub record NumbersRead (n : ℕ) (p : Parser (List Decimal)) (s : List ℕ) (at base : ℕ) (r : Scan) (c₀ : List ℤ) (p₀ : List ℤ) (c₁ : List ℤ) (p₁ : List ℤ) : Type 0 where
+  pub xs : List Decimal
+  pub out : scanOut (λ e. xs) s r ≡ p (drop at s)
+  pub inside : Inside 1 s at r
+  pub counted : Counted n r xs
+  pub room : Laid base xs c₀ p₀ c₁ p₁
