@@ -30,14 +30,14 @@ use Rattle.info.specs.Code.{TextReads}
 use Rattle.info.specs.declared.TextRead.{TextRead}
 use Rattle.clf.specs.Numbers.{numbers, anyNumber}
 use Rattle.clf.specs.Nodes.{isSome, arrayRules, arrayOf, array, ArrayState, noArray, arrayBody, tableNode, nodeRules, matrix, lut1d, Table, NodeRead}
-use Rattle.node_parts.specs.Code.{AboutIs, withAbout, noAbout, LaidSome, finishedNode, noNode, NodeReads}
+use Rattle.node_parts.specs.Code.{AboutIs, withAbout, noAbout, LaidSome, NumbersIn, finishedNode, noNode, NodeReads}
 use Rattle.node_parts.specs.Held.{Went, Goes, HeldAt, ReadsTo}
 use Rattle.node_parts.specs.declared.About.{About}
 use Rattle.node_parts.specs.declared.NodeStep.{NodeStep}
 use Rattle.node_parts.proofs.Abouts.{about-none, about-more}
 use Rattle.node_parts.proofs.Laying.{laid-nothing, laid-then}
 use Rattle.node_parts.proofs.Held.{end-lacks, child-refused, child-body, held-end}
-use Rattle.node_parts.proofs.Reading.{to-map, to-then, to-failed, to-part, NumbersIn, numbers-to, text-to, node-reads, finished-is, finished-part, none-part, NodeIs, NodePart}
+use Rattle.node_parts.proofs.Reading.{to-map, to-then, to-failed, to-part, numbers-to, text-to, node-reads, finished-is, finished-part, none-part, NodeIs, NodePart}
 use Rattle.array_node.specs.Code.{shapeOf, nameOf, namesOf, textsOf, holderOf, tableOf, Filled, TableIn, ArrayStands, ArrayWhole, withScan, withTable, noneFound}
 use Rattle.array_node.proofs.Shapes.{kind-numbers}
 use Rattle.array_node.specs.declared.ArrayStep.{ArrayStep}

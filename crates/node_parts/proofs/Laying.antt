@@ -12,7 +12,7 @@ use Rattle.values.specs.Code.{Laid}
 pub laid-nothing : (base : ℕ) (c p : List ℤ) → Laid base [] c p c p
 laid-nothing base c p = record { coefficients = sym (laid-none (roomLength c p) base c); powers = sym (laid-none (roomLength c p) base p) }
 
-map-append : {A B : Type 0} (f : A → B) (xs ys : List A) → map f (xs ++ ys) ≡ map f xs ++ map f ys
+pub map-append : {A B : Type 0} (f : A → B) (xs ys : List A) → map f (xs ++ ys) ≡ map f xs ++ map f ys
 map-append f [] ys = refl
 map-append {B = B} f (x ∷ xs) ys = ap (λ (l : List B). f x ∷ l) (map-append f xs ys)
 

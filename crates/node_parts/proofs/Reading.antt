@@ -22,7 +22,7 @@ use Rattle.process_list.specs.List.{Element, numbersOf, blankNode, unplaced, no
 use Rattle.process_list.specs.declared.Kind.{Kind}
 use Rattle.process_list.specs.declared.Kind.the-variants.{Matrix}
 use Rattle.process_list.specs.declared.Depth.the-variants.{I8}
-use Rattle.node_parts.specs.Code.{AboutIs, aboutText, finishedNode, noNode, noAbout, LaidSome, NodeReads}
+use Rattle.node_parts.specs.Code.{AboutIs, aboutText, finishedNode, noNode, noAbout, LaidSome, NumbersIn, NodeReads}
 use Rattle.node_parts.specs.Held.{Went, ReadsTo}
 use Rattle.node_parts.specs.declared.NodeStep.{NodeStep}
 use Rattle.node_parts.specs.declared.About.{About}
@@ -75,11 +75,6 @@ to-part p s at (Fault k e) R F F₂ g v = record { value = v .value; reads = v .
 to-part p s at Cut R F F₂ g v = record { value = v .value; reads = v .reads; left = g (v .left) }
 
 -- ---- numbers and texts
-
--- numbers that stand in the room from `base` on
-pub record NumbersIn (n base : ℕ) (c₀ p₀ c₁ p₁ : List ℤ) (xs : List Decimal) : Type 0 where
-  pub counted : length xs ≡ n
-  pub room : Laid base xs c₀ p₀ c₁ p₁
 
 module _ (p : Parser (List Decimal)) (s : List ℕ) (at n base : ℕ) (c₀ p₀ c₁ p₁ : List ℤ) where
   pub numbers-to : (r : Scan) → NumbersRead n p s at base r c₀ p₀ c₁ p₁ → ReadsTo p s at r (NumbersIn n base c₀ p₀ c₁ p₁) (LaidSome base c₀ p₀ c₁ p₁)

@@ -1,7 +1,7 @@
 -- The numbers of a small room, one by one. Assumes nothing.
 use mathlib.Core.Path.{_≡_, refl, sym, ap, _∙_}
 use mathlib.Core.Bool.{Bool, true, false, cond}
-use mathlib.Core.List.{List, [], _∷_, _++_}
+use mathlib.Core.List.{List, [], _∷_, _++_, map}
 use Prim.Native.Nat.{ℕ, zero, suc, _+_, _≤_, _<_, min}
 use native.Mathlib.Omega.{arith}
 use native.Mathlib.Numerals.{add-one}
@@ -40,6 +40,11 @@ numbers-get (c ∷ cs) (p ∷ ps) (suc k) h = numbers-get cs ps k (omega arith)
 
 pub numbers-at : (cs ps : List ℤ) (k : ℕ) → k < roomLength cs ps → getD (numbersFrom cs ps) k Decimals.zero ≡ numberAt cs ps k
 numbers-at cs ps k h = numbers-get cs ps k h ∙ number-in cs ps k h
+
+-- a small room that holds these numbers
+pub numbers-map : {A : Type 0} (f : A → Decimal) (l : List A) → numbersFrom (map (λ (a : A). (f a) .coefficient) l) (map (λ (a : A). (f a) .power) l) ≡ map f l
+numbers-map f [] = refl
+numbers-map f (a ∷ l) = ap (λ (m : List Decimal). f a ∷ m) (numbers-map f l)
 
 -- ---- stored one by one
 

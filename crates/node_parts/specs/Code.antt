@@ -54,6 +54,11 @@ numbersFrom (c ∷ cs) (p ∷ ps) = record { coefficient = c; power = p } ∷ nu
 abbrev pub LaidSome : ℕ → List ℤ → List ℤ → List ℤ → List ℤ → Type 0
 LaidSome base c₀ p₀ c₁ p₁ = (xs : List Decimal) × Laid base xs c₀ p₀ c₁ p₁
 
+-- n numbers that stand in the room from `base` on
+pub record NumbersIn (n base : ℕ) (c₀ p₀ c₁ p₁ : List ℤ) (xs : List Decimal) : Type 0 where
+  pub counted : length xs ≡ n
+  pub room : Laid base xs c₀ p₀ c₁ p₁
+
 -- a node of these attributes, this kind and this Description
 unfoldable pub finishedNode : List ℕ → Seen → Scan → Kind → About → NodeStep
 finishedNode s seen scan kind about = record {

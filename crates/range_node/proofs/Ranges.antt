@@ -28,12 +28,12 @@ use Rattle.info.specs.Code.{TextReads}
 use Rattle.info.specs.declared.TextRead.{TextRead}
 use Rattle.clf.specs.Numbers.{valueElement, anyNumber}
 use Rattle.clf.specs.Nodes.{NodeRead, isSome, oneOf, RangeState, noValues, rangeIndex, rangeBody, rangeFault, rangeHolder, rangeTexts, rangeNode, nodeRules, range}
-use Rattle.node_parts.specs.Code.{AboutIs, withAbout, LaidSome, finishedNode, noNode, numbersFrom, NodeReads}
+use Rattle.node_parts.specs.Code.{AboutIs, withAbout, LaidSome, NumbersIn, finishedNode, noNode, numbersFrom, NodeReads}
 use Rattle.node_parts.specs.Held.{Went, Goes, HeldAt, ReadsTo}
 use Rattle.node_parts.specs.declared.NodeStep.{NodeStep}
 use Rattle.node_parts.proofs.Abouts.{about-none, about-more}
 use Rattle.node_parts.proofs.Held.{child-refused, child-body, held-end}
-use Rattle.node_parts.proofs.Reading.{to-map, to-then, to-failed, to-part, NumbersIn, numbers-to, text-to, node-reads, finished-is, finished-part, none-part, NodeIs, NodePart}
+use Rattle.node_parts.proofs.Reading.{to-map, to-then, to-failed, to-part, numbers-to, text-to, node-reads, finished-is, finished-part, none-part, NodeIs, NodePart}
 use Rattle.range_node.specs.Code.{faultOf, missingOf, coefficientOf, powerOf, zeros, RangeStands, withScan, noneFound}
 use Rattle.range_node.specs.declared.RangeStep.{RangeStep}
 use Rattle.range_node.proofs.Values.{map-set, one-coefficient, one-power, faults, sizes, lacking, numbers}

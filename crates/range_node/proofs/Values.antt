@@ -17,7 +17,7 @@ use Rattle.room.specs.Room.{roomLength, stored, laid}
 use Rattle.values.specs.Code.{Laid}
 use Rattle.clf.specs.Nodes.{isSome, orElse, oneOf, RangeState, isThere, valueAt, anyThere, allThere, inOrder, rangeFault, rangeIndex}
 use Rattle.node_parts.specs.Code.{numberAt, numbersFrom}
-use Rattle.node_parts.proofs.Smalls.{number-in}
+use Rattle.node_parts.proofs.Smalls.{number-in, numbers-map}
 use Rattle.range_node.specs.Code.{anyOf, allOf, faultOf, orderedIn, missingOf, coefficientOf, powerOf, zeros}
 
 abbrev pair : ℤ → ℤ → Decimal
@@ -82,10 +82,6 @@ module _ (l : List Bool) (c p : List ℤ) (st : RangeState) (f : l ≡ map isSom
   unfolding missingOf orderedIn
   lacking = rw (there 0, there 1, there 2, there 3, number 0 (omega arith), number 1 (omega arith), number 2 (omega arith), number 3 (omega arith))
 
-  all-numbers : (vs : List (Option Decimal)) → numbersFrom (map coefficientOf vs) (map powerOf vs) ≡ map (orElse Decimals.zero) vs
-  all-numbers [] = refl
-  all-numbers (v ∷ vs) = ap (λ (m : List Decimal). orElse Decimals.zero v ∷ m) (all-numbers vs)
-
   four-numbers : (vs : List (Option Decimal)) → length vs ≡ 4
       → map (orElse Decimals.zero) vs ≡ orElse Decimals.zero (getD vs 0 none) ∷ orElse Decimals.zero (getD vs 1 none) ∷ orElse Decimals.zero (getD vs 2 none) ∷ orElse Decimals.zero (getD vs 3 none) ∷ []
   four-numbers [] q = absurd (omega arith)
@@ -98,4 +94,4 @@ module _ (l : List Bool) (c p : List ℤ) (st : RangeState) (f : l ≡ map isSom
   pub numbers : numbersFrom c p ≡ valueAt 0 st ∷ valueAt 1 st ∷ valueAt 2 st ∷ valueAt 3 st ∷ []
   numbers =
       ap (λ (m : List ℤ). numbersFrom m p) g ∙ ap (λ (m : List ℤ). numbersFrom (map coefficientOf (st .values)) m) h
-      ∙ all-numbers (st .values) ∙ four-numbers (st .values) n
+      ∙ numbers-map (orElse Decimals.zero) (st .values) ∙ four-numbers (st .values) n

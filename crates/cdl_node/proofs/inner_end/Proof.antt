@@ -1,0 +1,32 @@
+use borrow.Author.Needs.{needs}
+use Rattle.cdl_node.proofs.inner_end.Statement.{statement}
+use Rattle.cdl_node.proofs.inner_end.Tie as tie
+
+slice-aggregate-end-tag : tie.Need-slice-aggregate-end-tag
+slice-aggregate-end-tag c = search needs
+
+end-tag-requires : tie.Need-end-tag-requires
+end-tag-requires c κs = search needs
+
+returns : tie.Need-returns
+returns c = rw (c .before .before .if1 .taken) (c .end-tag .ensures)
+
+slice-aggregate-end-tag-2 : tie.Need-slice-aggregate-end-tag-2
+slice-aggregate-end-tag-2 c = search needs
+
+end-tag-requires-2 : tie.Need-end-tag-requires-2
+end-tag-requires-2 c κs = search needs
+
+returns-2 : tie.Need-returns-2
+returns-2 c = rw (c .before .before .if1 .left) (c .end-tag2 .ensures)
+
+pub inner-end-spec : {M : Type 1} → statement M
+inner-end-spec =
+    tie.close
+    (tie.spec
+    slice-aggregate-end-tag
+    end-tag-requires
+    returns
+    slice-aggregate-end-tag-2
+    end-tag-requires-2
+    returns-2)

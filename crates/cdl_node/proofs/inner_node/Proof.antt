@@ -1,0 +1,48 @@
+use mathlib.Core.Path.{refl, sym, _∙_}
+use Rattle.tags.specs.Rules.{rulesOf}
+use Rattle.tags.specs.Ended.{tag-reads}
+use Rattle.tags.specs.declared.TagKind.the-variants.{Holder}
+use Rattle.markup.proofs.Answers.{failed}
+use Rattle.cdl_node.proofs.Inner.{inner-failed, inner-then}
+use borrow.Author.Needs.{needs}
+use Rattle.cdl_node.proofs.inner_node.Statement.{statement}
+use Rattle.cdl_node.proofs.inner_node.Tie as tie
+
+start-tag-requires : tie.Need-start-tag-requires
+start-tag-requires c κs = search needs
+
+behind-requires : tie.Need-behind-requires
+behind-requires c κs = search needs
+
+enum-known-r : tie.Need-enum-known-r
+enum-known-r c = search needs
+
+returns : tie.Need-returns
+unfolding rulesOf
+returns c = inner-failed (c .before .before .before .before .args .sat) _ _ _ _ _ (failed (c .before .behind .result) (c .match .keys2)) (tag-reads _ Holder refl _ _ (c .before .before .start-tag .result) (c .before .before .start-tag .ensures) _ (c .before .behind .ensures))
+
+inner-content-requires : tie.Need-inner-content-requires
+inner-content-requires c κs = search needs
+
+same-length : tie.Need-same-length
+same-length c = search needs
+
+same-length-2 : tie.Need-same-length-2
+same-length-2 c = search needs
+
+returns-2 : tie.Need-returns-2
+unfolding rulesOf
+returns-2 c = inner-then (c .before .before .before .before .before .before .before .before .before .before .before .args .sat) _ _ _ _ _ _ (tag-reads _ Holder refl _ _ (c .before .before .before .before .before .before .before .before .before .start-tag .result) (c .before .before .before .before .before .before .before .before .before .start-tag .ensures) _ (sym (c .before .before .before .before .before .before .r .given .1) ∙ c .before .before .before .before .before .before .before .before .behind .ensures)) (c .before .before .inner-content .ensures)
+
+pub inner-node-spec : {M : Type 1} → statement M
+inner-node-spec =
+    tie.close
+    (tie.spec
+    start-tag-requires
+    behind-requires
+    enum-known-r
+    returns
+    inner-content-requires
+    same-length
+    same-length-2
+    returns-2)

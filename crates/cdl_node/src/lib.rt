@@ -1,0 +1,403 @@
+// ASC_CDL: Descriptions, then an optional SOPNode, then an optional SatNode.
+ghost use mathlib.Core.Path.{_≡_};
+ghost use mathlib.Core.Bool.{cond, _||_};
+ghost use mathlib.Core.List.{List, []};
+ghost use Prim.Native.Nat.{_+_, _≤_};
+ghost use lib.Dec.{ltb};
+ghost use lib.IntN.{ℤ};
+ghost use lib.ListN.{length};
+ghost use Rattle.decimal.specs.declared.Decimal as Decimals;
+ghost use Rattle.xml.specs.Bytes.{same};
+ghost use Rattle.xml.specs.Xml.{endTag};
+ghost use Rattle.xml.specs.Elements.{held};
+ghost use Rattle.xml.specs.Code.{Reads, noValue};
+ghost use Rattle.values.specs.Code.{ruleOf};
+ghost use Rattle.clf.specs.Nodes as Nodes;
+ghost use Rattle.node_parts.specs.Code.{NodeReads, NumbersIn};
+ghost use Rattle.node_parts.specs.Held.{Goes, ReadsTo};
+ghost use Rattle.cdl_node.specs.Code as Code;
+use markup::Lead;
+use node_parts::About;
+use node_parts::NodeStep;
+use process_list::Kind;
+use tags::TagEnd;
+use tags::TagKind;
+use values::Rule;
+use xml::Scan;
+
+// The content of an ASC_CDL so far: its Description, and whether its SOPNode and SatNode were there.
+pub struct CdlStep {
+    pub scan: Scan,
+    pub about: About,
+    pub sop: bool,
+    pub sat: bool,
+}
+
+// Whether w is the name that follows `count` numbers in a SOPNode.
+fn is_next_sop(w: &[u8], count: usize) -> bool
+    ensures { λ r. ⌜ r ≡ same (now (w .entry)) (Nodes.sopName count) ⌝ }
+{
+    if count == 0 {
+        return xml::same(w, b"Slope");
+    }
+    if count == 3 {
+        return xml::same(w, b"Offset");
+    }
+    if count == 6 {
+        return xml::same(w, b"Power");
+    }
+    w.len() == 0
+}
+
+// What is wrong with the name of an element in a SatNode or a SOPNode, after `count` numbers.
+fn inner_fault(w: &[u8], sat: bool, count: usize) -> u8
+    ensures { λ r. ⌜ r ≡ Code.faultOf sat count (now (w .entry)) ⌝ }
+{
+    if sat {
+        if 1 <= count {
+            return 5;
+        }
+        if xml::same(w, b"Saturation") {
+            return 0;
+        }
+        return 5;
+    }
+    if is_next_sop(w, count) {
+        return 0;
+    }
+    5
+}
+
+// The rule on the numbers of that element.
+fn inner_rule(sat: bool, count: usize) -> Rule
+    ensures { λ r. ⌜ ruleOf r ≡ Code.rulesIn sat count ⌝ }
+{
+    if sat {
+        return Rule::NotNegative;
+    }
+    if count == 0 {
+        return Rule::NotNegative;
+    }
+    if count == 3 {
+        return Rule::Any;
+    }
+    Rule::One
+}
+
+// How many numbers that element has.
+fn inner_width(sat: bool) -> usize
+    ensures { λ r. ⌜ r ≡ Code.widthOf sat ⌝ }
+{
+    if sat {
+        return 1;
+    }
+    3
+}
+
+// How many numbers a SatNode or a SOPNode has.
+fn inner_top(sat: bool) -> usize
+    ensures { λ r. ⌜ r ≡ Code.topOf sat ⌝ }
+{
+    if sat {
+        return 1;
+    }
+    9
+}
+
+// Where the first of them stands in a small room.
+fn inner_base(sat: bool) -> usize
+    ensures { λ r. ⌜ r ≡ Code.baseOf sat ⌝ }
+{
+    if sat {
+        return 9;
+    }
+    0
+}
+
+fn inner_missing(sat: bool, count: usize) -> u8
+    ensures { λ r. ⌜ r ≡ cond (ltb count (Code.topOf sat)) 5 0 ⌝ }
+{
+    if count < inner_top(sat) {
+        return 5;
+    }
+    0
+}
+
+// An element in a SatNode or a SOPNode after `count` numbers: its `<` stands at `at`, and its name ends at e.
+fn inner_child(
+    s: &[u8],
+    at: usize,
+    e: usize,
+    sat: bool,
+    count: usize,
+    coefficients: &mut [i64],
+    powers: &mut [i8],
+) -> Scan
+    requires { ⌜ (at + 2 ≤ e) × (e ≤ length (now s)) × (count ≤ 9) ⌝ }
+    ensures { λ r. ⌜ ((c₀ p₀ : List ℤ) (l : List Decimals.Decimal) → Code.InnerStands sat c₀ p₀ (now (coefficients .entry)) (now (powers .entry)) count l → Goes (Code.innerHolder sat) l (now (s .entry)) at e r (Code.InnerStands sat c₀ p₀ (now (coefficients .exit)) (now (powers .exit)) (count + Code.widthOf sat)) (Unit {0})) ⌝ }
+{
+    let w = tags::part(s, at + 1, e);
+    let k = inner_fault(w, sat, count);
+    if k != 0 {
+        return Scan::Fault(k, at);
+    }
+    let n = inner_width(sat);
+    let rule = inner_rule(sat, count);
+    let base = inner_base(sat) + count;
+    values::value_element(s, e, w, n, rule, coefficients, powers, base)
+}
+
+// The end tag of a SatNode or a SOPNode.
+fn inner_end(s: &[u8], at: usize, sat: bool, missing: u8) -> Scan
+    ensures { λ r. ⌜ Reads 1 ((endTag (Code.nameOf sat) missing) .run) noValue (now (s .entry)) at r ⌝ }
+{
+    if sat {
+        return markup::end_tag(s, at, b"SatNode", missing);
+    }
+    markup::end_tag(s, at, b"SOPNode", missing)
+}
+
+// The content of a SatNode or a SOPNode, and its end tag. Its numbers go into a small room.
+fn inner_content(
+    s: &[u8],
+    at: usize,
+    sat: bool,
+    coefficients: &mut [i64],
+    powers: &mut [i8],
+) -> Scan
+    ensures { λ r. ⌜ ReadsTo ((held (Code.innerHolder sat) []) .run) (now (s .entry)) at r (NumbersIn (Code.topOf sat) (Code.baseOf sat) (now (coefficients .entry)) (now (powers .entry)) (now (coefficients .exit)) (now (powers .exit))) (Unit {0}) ⌝ }
+{
+    let width = inner_width(sat);
+    let mut count: usize = 0;
+    let mut i = at;
+    while i < s.len() {
+        let l = markup::lead_at(s, i);
+        match l {
+            Lead::Gap(e) => {
+                i = e;
+            }
+            Lead::Open(e) => {
+                let r = inner_child(s, i, e, sat, count, coefficients, powers);
+                let Scan::At(q) = r else {
+                    return r;
+                };
+                count += width;
+                i = q;
+            }
+            Lead::End => {
+                return inner_end(s, i, sat, inner_missing(sat, count));
+            }
+            Lead::Fault(k, p) => {
+                return Scan::Fault(k, p);
+            }
+            Lead::Cut => {
+                return Scan::Cut;
+            }
+        }
+    }
+    Scan::Cut
+}
+
+// A SatNode or a SOPNode, behind its name.
+fn inner_node(s: &[u8], at: usize, sat: bool, coefficients: &mut [i64], powers: &mut [i8]) -> Scan
+    ensures { λ r. ⌜ ReadsTo ((Code.innerNode sat) .run) (now (s .entry)) at r (NumbersIn (Code.topOf sat) (Code.baseOf sat) (now (coefficients .entry)) (now (powers .entry)) (now (coefficients .exit)) (now (powers .exit))) (Unit {0}) ⌝ }
+{
+    let tag = tags::start_tag(s, at, TagKind::Holder);
+    let end = tag.end;
+    let r = tags::behind(end);
+    let Scan::At(q) = r else {
+        return r;
+    };
+    inner_content(s, q, sat, coefficients, powers)
+}
+
+// The fault of what must stand before a SOPNode and a SatNode.
+fn cdl_late(sop: bool, sat: bool) -> u8
+    ensures { λ r. ⌜ r ≡ cond (sop || sat) 5 0 ⌝ }
+{
+    if sop {
+        return 5;
+    }
+    if sat {
+        return 5;
+    }
+    0
+}
+
+// What is wrong with the name of a child of an ASC_CDL.
+fn cdl_fault(w: &[u8], sop: bool, sat: bool) -> u8
+    ensures { λ r. ⌜ r ≡ Code.cdlFaultOf sop sat (now (w .entry)) ⌝ }
+{
+    if xml::same(w, b"Description") {
+        return cdl_late(sop, sat);
+    }
+    if xml::same(w, b"SOPNode") {
+        return cdl_late(sop, sat);
+    }
+    if xml::same(w, b"SatNode") {
+        if sat {
+            return 5;
+        }
+        return 0;
+    }
+    5
+}
+
+// The state with another answer.
+fn cdl_with(state: CdlStep, scan: Scan) -> CdlStep
+    ensures { λ r. ⌜ r ≡ Code.withScan state scan ⌝ }
+{
+    let about = state.about;
+    CdlStep {
+        scan,
+        about,
+        sop: state.sop,
+        sat: state.sat,
+    }
+}
+
+// A child of an ASC_CDL, of the name w, behind its name. Its numbers go into a room of ten.
+fn cdl_body(
+    s: &[u8],
+    at: usize,
+    w: &[u8],
+    state: CdlStep,
+    coefficients: &mut [i64],
+    powers: &mut [i8],
+) -> CdlStep
+    ensures { λ r. ⌜ ((st : Nodes.CdlState) → Code.CdlStands (now (s .entry)) (now (coefficients .entry)) (now (powers .entry)) state st → ReadsTo ((Nodes.cdlBody st (now (w .entry))) .run) (now (s .entry)) at (r .scan) (Code.CdlStands (now (s .entry)) (now (coefficients .exit)) (now (powers .exit)) r) (Unit {0})) ⌝ }
+{
+    let about = state.about;
+    let sop = state.sop;
+    let sat = state.sat;
+    if xml::same(w, b"SOPNode") {
+        let scan = inner_node(s, at, false, coefficients, powers);
+        return CdlStep {
+            scan,
+            about,
+            sop: true,
+            sat,
+        };
+    }
+    if xml::same(w, b"SatNode") {
+        let scan = inner_node(s, at, true, coefficients, powers);
+        return CdlStep {
+            scan,
+            about,
+            sop,
+            sat: true,
+        };
+    }
+    let t = info::text_element(s, at, w);
+    let more = node_parts::with_about(about, t.start, t.end);
+    let scan = t.scan;
+    CdlStep {
+        scan,
+        about: more,
+        sop,
+        sat,
+    }
+}
+
+// A child of an ASC_CDL: its `<` stands at `at`, and its name ends at e.
+fn cdl_child(
+    s: &[u8],
+    at: usize,
+    e: usize,
+    state: CdlStep,
+    coefficients: &mut [i64],
+    powers: &mut [i8],
+) -> CdlStep
+    requires { ⌜ (at + 2 ≤ e) × (e ≤ length (now s)) ⌝ }
+    ensures { λ r. ⌜ ((st : Nodes.CdlState) → Code.CdlStands (now (s .entry)) (now (coefficients .entry)) (now (powers .entry)) state st → Goes Nodes.cdlHolder st (now (s .entry)) at e (r .scan) (Code.CdlStands (now (s .entry)) (now (coefficients .exit)) (now (powers .exit)) r) (Unit {0})) ⌝ }
+{
+    let w = tags::part(s, at + 1, e);
+    let k = cdl_fault(w, state.sop, state.sat);
+    if k != 0 {
+        return cdl_with(state, Scan::Fault(k, at));
+    }
+    cdl_body(s, e, w, state, coefficients, powers)
+}
+
+fn no_cdl(scan: Scan) -> CdlStep
+    ensures { λ r. ⌜ r ≡ Code.noneFound scan ⌝ }
+{
+    CdlStep {
+        scan,
+        about: node_parts::no_about(),
+        sop: false,
+        sat: false,
+    }
+}
+
+// The content of an ASC_CDL, and its end tag. Its numbers go into a room of ten, where those of absent parts stand already.
+fn cdl_content(s: &[u8], at: usize, coefficients: &mut [i64], powers: &mut [i8]) -> CdlStep
+    requires { ⌜ (now coefficients ≡ Code.defaults) × (now powers ≡ Code.noPowers) ⌝ }
+    ensures { λ r. ⌜ ReadsTo ((held Nodes.cdlHolder Nodes.noCdl) .run) (now (s .entry)) at (r .scan) (Code.CdlStands (now (s .entry)) (now (coefficients .exit)) (now (powers .exit)) r) (Unit {0}) ⌝ }
+{
+    let mut state = no_cdl(Scan::At(at));
+    let mut i = at;
+    while i < s.len() {
+        let l = markup::lead_at(s, i);
+        match l {
+            Lead::Gap(e) => {
+                i = e;
+            }
+            Lead::Open(e) => {
+                state = cdl_child(s, i, e, state, coefficients, powers);
+                let r = state.scan;
+                let Scan::At(q) = r else {
+                    return state;
+                };
+                i = q;
+            }
+            Lead::End => {
+                let r = markup::end_tag(s, i, b"ASC_CDL", 0);
+                return cdl_with(state, r);
+            }
+            Lead::Fault(k, p) => {
+                return cdl_with(state, Scan::Fault(k, p));
+            }
+            Lead::Cut => {
+                return cdl_with(state, Scan::Cut);
+            }
+        }
+    }
+    cdl_with(state, Scan::Cut)
+}
+
+// What follows the start tag of an ASC_CDL, which may be empty.
+fn cdl_followed(s: &[u8], end: TagEnd, coefficients: &mut [i64], powers: &mut [i8]) -> CdlStep
+    requires { ⌜ (now coefficients ≡ Code.defaults) × (now powers ≡ Code.noPowers) ⌝ }
+    ensures { λ r. ⌜ Code.Followed (now (s .entry)) end (now (coefficients .exit)) (now (powers .exit)) r ⌝ }
+{
+    match end {
+        TagEnd::Open(q) => cdl_content(s, q, coefficients, powers),
+        TagEnd::Empty(q) => no_cdl(Scan::At(q)),
+        TagEnd::Fault(k, p) => no_cdl(Scan::Fault(k, p)),
+        TagEnd::Cut => no_cdl(Scan::Cut),
+    }
+}
+
+// An ASC_CDL, behind its name.
+pub fn read_cdl(
+    s: &[u8],
+    at: usize,
+    coefficients: &mut [i64],
+    powers: &mut [i8],
+    base: usize,
+) -> NodeStep
+    ensures { λ r. ⌜ NodeReads (Nodes.ascCdl .run) (now (s .entry)) at base r (now (coefficients .entry)) (now (powers .entry)) (now (coefficients .exit)) (now (powers .exit)) ⌝ }
+{
+    let tag = tags::start_tag(s, at, TagKind::Cdl);
+    let end = tag.end;
+    let seen = tag.seen;
+    let mut small: [i64; 10] = [1, 1, 1, 0, 0, 0, 1, 1, 1, 1];
+    let mut small_powers = [0i8; 10];
+    let c = cdl_followed(s, end, &mut small, &mut small_powers);
+    node_parts::store_all(&small, &small_powers, coefficients, powers, base);
+    let scan = c.scan;
+    let about = c.about;
+    let clamp = !node_parts::style_is(s, seen, b"FwdNoClamp");
+    node_parts::finished(s, seen, scan, Kind::Cdl { clamp }, about)
+}

@@ -1,0 +1,29 @@
+use Rattle.file_text.proofs.Nodes.{outside-laid}
+use borrow.Author.Needs.{needs}
+use Rattle.file_text.proofs.carried_child.Statement.{statement}
+use Rattle.file_text.proofs.carried_child.Tie as tie
+
+node-body-requires : tie.Need-node-body-requires
+node-body-requires c κs = search needs
+
+list-node-requires : tie.Need-list-node-requires
+list-node-requires c κs = search needs
+
+same-length : tie.Need-same-length
+same-length c = (outside-laid _ _ _ _ _ _ (c .before .before .before .node-body .ensures .room)) .coefficients
+
+same-length-2 : tie.Need-same-length-2
+same-length-2 c = (outside-laid _ _ _ _ _ _ (c .before .before .before .node-body .ensures .room)) .powers
+
+returns : tie.Need-returns
+returns c = record { node = c .before .before .before .node-body .result; reads = c .before .before .before .node-body .ensures; is = rw (c .list-node .ensures) }
+
+pub carried-child-spec : {M : Type 1} → statement M
+carried-child-spec =
+    tie.close
+    (tie.spec
+    node-body-requires
+    list-node-requires
+    same-length
+    same-length-2
+    returns)

@@ -1,0 +1,19 @@
+use borrow.Author.Tests.{le-leb, lt-leb}
+use Rattle.file_text.specs.Code.{isOver}
+use Rattle.file_text.proofs.is_over.Statement.{statement}
+use Rattle.file_text.proofs.is_over.Tie as tie
+
+returns : tie.Need-returns
+unfolding isOver
+returns c = rw (c .if1 .taken)
+
+returns-2 : tie.Need-returns-2
+unfolding isOver
+returns-2 c = rw (c .if1 .left)
+
+pub is-over-spec : {M : Type 1} → statement M
+is-over-spec =
+    tie.close
+    (tie.spec
+    returns
+    returns-2)

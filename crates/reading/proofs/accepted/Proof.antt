@@ -1,0 +1,16 @@
+use borrow.Author.Needs.{needs}
+use Rattle.reading.proofs.accepted.Statement.{statement}
+use Rattle.reading.proofs.accepted.Tie as tie
+
+placed-requires : tie.Need-placed-requires
+placed-requires c κs = search needs
+
+returns : tie.Need-returns
+returns c = rw (c .placed .ensures)
+
+pub accepted-spec : {M : Type 1} → statement M
+accepted-spec =
+    tie.close
+    (tie.spec
+    placed-requires
+    returns)

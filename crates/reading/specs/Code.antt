@@ -1,0 +1,91 @@
+-- What reading, the file check and the Description answer, for the code's records.
+use mathlib.Core.Path.{_≡_}
+use mathlib.Core.Bool.{Bool, true, false, cond, _&&_}
+use mathlib.Core.List.{List, [], _∷_, map}
+use Prim.Native.Nat.{ℕ}
+use lib.Dec.{ltb, leb}
+use lib.IntN.{ℤ, pos}
+use Rattle.decimal.specs.declared.Decimal.{Decimal}
+use Rattle.process_list.specs.declared.Verdict.{Verdict}
+use Rattle.process_list.specs.declared.Verdict.the-variants as Verdicts
+use Rattle.process_list.specs.List as Lists
+use Rattle.room.specs.Room.{roomLength, filled}
+use Rattle.xml.specs.declared.Scan.{Scan}
+use Rattle.xml.specs.declared.Scan.the-variants as Scans
+use Rattle.clf.specs.Reading.{Reading, accepted, faulty, unfit, numberOf, placeNumber, nodesIn, elementsOf, numbersIn}
+use Rattle.file_text.specs.declared.ListState.{ListState}
+use Rattle.file_text.specs.declared.ListStep.{ListStep}
+use Rattle.file_text.specs.Code.{ListReads}
+use Rattle.reading.specs.declared.Answer.{Answer}
+use Rattle.reading.specs.declared.Checked.{Checked}
+use Rattle.reading.specs.declared.Judged.{Judged}
+use Rattle.reading.specs.declared.Judged.the-variants.{Accepted, Refused}
+
+-- ---- what reading answers
+
+-- the refusal number and its place
+abbrev pub checkedOf : Reading → Checked
+checkedOf r = record { number = numberOf r; place = placeNumber r }
+
+-- and the list: its nodes in file order, their numbers without gaps
+unfoldable pub answerOf : Reading → Answer
+answerOf r = record { number = numberOf r; place = placeNumber r; list = Lists.listOf (Lists.placed (elementsOf (nodesIn r))) }
+
+-- the room of length n afterwards: the numbers in node order, 'the unused rest of the room is zero'; all of it where the reading is refused
+unfoldable pub coefficientsAfter : ℕ → Reading → List ℤ → List ℤ
+coefficientsAfter n r c = filled n (pos 0) (map (λ (d : Decimal). d .coefficient) (numbersIn (nodesIn r))) c
+
+unfoldable pub powersAfter : ℕ → Reading → List ℤ → List ℤ
+powersAfter n r p = filled n (pos 0) (map (λ (d : Decimal). d .power) (numbersIn (nodesIn r))) p
+
+-- the answer of a reading, and the whole of the lent slices after it
+pub record ReadsInto (reading : Reading) (r : Answer) (c₀ : List ℤ) (p₀ : List ℤ) (c₁ : List ℤ) (p₁ : List ℤ) : Type 0 where
+  pub answer : r ≡ answerOf reading
+  pub coefficients : c₁ ≡ coefficientsAfter (roomLength c₀ p₀) reading c₀
+  pub powers : p₁ ≡ powersAfter (roomLength c₀ p₀) reading p₀
+
+-- ---- what the small steps of the code do
+
+abbrev pub byVerdict : Verdict → Judged
+byVerdict Verdicts.Accepted = Accepted
+byVerdict Verdicts.NoNode = Refused (Lists.refusalOf Verdicts.NoNode) (Lists.placeOf Verdicts.NoNode)
+byVerdict Verdicts.TooManyNodes = Refused (Lists.refusalOf Verdicts.TooManyNodes) (Lists.placeOf Verdicts.TooManyNodes)
+byVerdict (Verdicts.DepthDiffers k) = Refused (Lists.refusalOf (Verdicts.DepthDiffers k)) (Lists.placeOf (Verdicts.DepthDiffers k))
+byVerdict Verdicts.TooManyNumbers = Refused (Lists.refusalOf Verdicts.TooManyNumbers) (Lists.placeOf Verdicts.TooManyNumbers)
+
+abbrev pub judgedScan : ℕ → Scan → Judged → Judged
+judgedScan length (Scans.At e) j = j
+judgedScan length (Scans.Fault k p) j = Refused k p
+judgedScan length Scans.Cut j = Refused 1 length
+
+unfoldable pub judgedStep : ℕ → ListStep → ℕ → Judged
+judgedStep length r room =
+    judgedScan length (r .scan) (byVerdict (cond (r .state .over) Verdicts.TooManyNodes (Lists.judged room (Lists.nodesOf (r .state .list)))))
+
+abbrev pub refusedAnswer : ℕ → ℕ → Answer
+refusedAnswer k p = record { number = k; place = p; list = Lists.listOf [] }
+
+abbrev pub acceptedAnswer : ListState → Answer
+acceptedAnswer st = record { number = 0; place = 0; list = Lists.placedList (st .list) }
+
+-- what a reading says, without its list
+abbrev pub judgedOf : Reading → Judged
+judgedOf (accepted l) = Accepted
+judgedOf (faulty k p) = Refused k p
+judgedOf (unfit k p) = Refused k p
+
+abbrev pub checkedBy : Judged → Checked
+checkedBy Accepted = record { number = 0; place = 0 }
+checkedBy (Refused k p) = record { number = k; place = p }
+
+abbrev pub askedBy : Judged → ℕ → ℕ → Judged
+askedBy Accepted k count = cond (ltb 0 k && leb k count) Accepted (Refused 19 0)
+askedBy (Refused n p) k count = Refused n p
+
+-- a text read without room: some room of one number was lent
+pub record TextAlone (wanted : ℕ) (s : List ℕ) (r : ListStep) : Type 0 where
+  pub c₀ : List ℤ
+  pub p₀ : List ℤ
+  pub c₁ : List ℤ
+  pub p₁ : List ℤ
+  pub reads : ListReads wanted s r c₀ p₀ c₁ p₁

@@ -1,0 +1,218 @@
+// Reading a CLF file: its list and its numbers, its check without room, and a node's Description.
+ghost use mathlib.Core.Path.{_≡_};
+ghost use Rattle.room.specs.Room.{roomLength};
+ghost use Rattle.clf.specs.Reading as Reading;
+ghost use lib.ListN.{length};
+ghost use Rattle.node_parts.specs.Code.{aboutText};
+ghost use Rattle.reading.specs.Code.{ReadsInto, checkedOf, TextAlone, byVerdict, judgedStep, refusedAnswer, acceptedAnswer, checkedBy, askedBy};
+use file_text::ListState;
+use file_text::ListStep;
+use node_parts::About;
+use process_list::ProcessList;
+use process_list::Verdict;
+use xml::Scan;
+
+// What reading answers: the refusal number with its place, and the list.
+pub struct Answer {
+    pub number: u8,
+    pub place: usize,
+    pub list: ProcessList,
+}
+
+// What the file check answers.
+pub struct Checked {
+    pub number: u8,
+    pub place: usize,
+}
+
+// Whether a file is accepted, or the refusal number with its place.
+pub enum Judged {
+    Accepted,
+    Refused(u8, usize),
+}
+
+// What the verdict over the finished list says.
+fn by_verdict(v: Verdict) -> Judged
+    ensures { λ r. ⌜ r ≡ byVerdict v ⌝ }
+{
+    match v {
+        Verdict::Accepted => Judged::Accepted,
+        Verdict::NoNode => Judged::Refused(12, 0),
+        Verdict::TooManyNodes => Judged::Refused(11, 33),
+        Verdict::DepthDiffers(k) => Judged::Refused(10, k),
+        Verdict::TooManyNumbers => Judged::Refused(13, 0),
+    }
+}
+
+// What is to be said of a text that reads so, for a room of this length.
+fn judge_text(s: &[u8], step: ListStep, room: usize) -> Judged
+    ensures { λ r. ⌜ r ≡ judgedStep (length (now (s .entry))) step room ⌝ }
+{
+    let scan = step.scan;
+    let state = step.state;
+    match scan {
+        Scan::Fault(k, p) => Judged::Refused(k, p),
+        Scan::Cut => Judged::Refused(1, s.len()),
+        Scan::At(e) => {
+            let list = state.list;
+            by_verdict(process_list::judge(state.over, list, room))
+        }
+    }
+}
+
+fn refused(number: u8, place: usize) -> Answer
+    ensures { λ r. ⌜ r ≡ refusedAnswer number place ⌝ }
+{
+    Answer {
+        number,
+        place,
+        list: process_list::empty(),
+    }
+}
+
+// The list of an accepted text.
+fn accepted(state: ListState) -> Answer
+    ensures { λ r. ⌜ r ≡ acceptedAnswer state ⌝ }
+{
+    let unplaced = state.list;
+    Answer {
+        number: 0,
+        place: 0,
+        list: process_list::placed(unplaced),
+    }
+}
+
+// Reads a text into the table room.
+fn read_text(file: &[u8], coefficients: &mut [i64], powers: &mut [i8]) -> Answer
+    ensures { λ r. ⌜ ReadsInto (Reading.readText (roomLength (now (coefficients .entry)) (now (powers .entry))) (now (file .entry))) r (now (coefficients .entry)) (now (powers .entry)) (now (coefficients .exit)) (now (powers .exit)) ⌝ }
+{
+    let length = room::length(coefficients, powers);
+    let step = file_text::file_list(file, 0, coefficients, powers);
+    let state = step.state;
+    let j = judge_text(file, step, length);
+    match j {
+        Judged::Refused(k, p) => {
+            room::clear(coefficients, powers, 0, length);
+            refused(k, p)
+        }
+        Judged::Accepted => {
+            room::clear(coefficients, powers, state.used, length);
+            accepted(state)
+        }
+    }
+}
+
+// Reads a file into the table room.
+pub fn read(file: &[u8], coefficients: &mut [i64], powers: &mut [i8]) -> Answer
+    ensures { λ r. ⌜ ReadsInto (Reading.read (roomLength (now (coefficients .entry)) (now (powers .entry))) (now (file .entry))) r (now (coefficients .entry)) (now (powers .entry)) (now (coefficients .exit)) (now (powers .exit)) ⌝ }
+{
+    if 16777216 < file.len() {
+        let length = room::length(coefficients, powers);
+        room::clear(coefficients, powers, 0, length);
+        return refused(4, 0);
+    }
+    read_text(file, coefficients, powers)
+}
+
+// The text of a file without room: what is to be said of it, and what it holds, with the Description of the node that is wanted.
+fn text_alone(file: &[u8], wanted: usize) -> ListStep
+    ensures { λ r. ⌜ TextAlone wanted (now (file .entry)) r ⌝ }
+{
+    let mut coefficients = [0i64; 1];
+    let mut powers = [0i8; 1];
+    file_text::file_list(file, wanted, &mut coefficients, &mut powers)
+}
+
+fn to_checked(j: Judged) -> Checked
+    ensures { λ r. ⌜ r ≡ checkedBy j ⌝ }
+{
+    match j {
+        Judged::Accepted => Checked {
+            number: 0,
+            place: 0,
+        },
+        Judged::Refused(k, p) => Checked {
+            number: k,
+            place: p,
+        },
+    }
+}
+
+// Checks a file without room: 13 means over 262,144 numbers.
+pub fn check(file: &[u8]) -> Checked
+    ensures { λ r. ⌜ r ≡ checkedOf (Reading.readAlone (now (file .entry))) ⌝ }
+{
+    if 16777216 < file.len() {
+        return to_checked(Judged::Refused(4, 0));
+    }
+    to_checked(judge_text(file, text_alone(file, 0), 262144))
+}
+
+// Whether an accepted file has a node of the number k.
+fn asked(j: Judged, k: usize, count: usize) -> Judged
+    ensures { λ r. ⌜ r ≡ askedBy j k count ⌝ }
+{
+    match j {
+        Judged::Accepted => {
+            if k == 0 {
+                return Judged::Refused(19, 0);
+            }
+            if count < k {
+                return Judged::Refused(19, 0);
+            }
+            Judged::Accepted
+        }
+        Judged::Refused(n, p) => Judged::Refused(n, p),
+    }
+}
+
+// The refusal of asking for the Description of node k, with what the file holds.
+fn ask(file: &[u8], step: ListStep, k: usize) -> Judged
+    ensures { λ r. ⌜ r ≡ askedBy (judgedStep (length (now (file .entry))) step 262144) k (step .state .list .count) ⌝ }
+{
+    let state = step.state;
+    let list = state.list;
+    let count = list.count;
+    asked(judge_text(file, step, 262144), k, count)
+}
+
+// The refusal of asking for the Description of node k: reading's, then 19.
+pub fn description_number(file: &[u8], k: usize) -> Checked
+    ensures { λ r. ⌜ r ≡ checkedOf (Reading.descriptionAsked k (now (file .entry))) ⌝ }
+{
+    if 16777216 < file.len() {
+        return to_checked(Judged::Refused(4, 0));
+    }
+    to_checked(ask(file, text_alone(file, 0), k))
+}
+
+// The first Description inside node k: the part of the file between its tags, empty where there is none or the call is refused.
+pub fn description(file: &[u8], k: usize) -> &[u8]
+    ensures { λ r. ⌜ now r ≡ Reading.descriptionOf k (now (file .entry)) ⌝ }
+{
+    if 16777216 < file.len() {
+        return &file[0..0];
+    }
+    let step = text_alone(file, k);
+    let state = step.state;
+    let j = judge_text(file, step, 262144);
+    match j {
+        Judged::Refused(n, p) => &file[0..0],
+        Judged::Accepted => {
+            let about = state.about;
+            about_part(file, about)
+        }
+    }
+}
+
+// The bytes of a Description.
+fn about_part(file: &[u8], about: About) -> &[u8]
+    ensures { λ r. ⌜ now r ≡ aboutText (now (file .entry)) about ⌝ }
+{
+    let a = about.start;
+    let e = about.end;
+    if about.found {
+        return tags::part(file, a, e);
+    }
+    &file[0..0]
+}
