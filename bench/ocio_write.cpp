@@ -1,0 +1,67 @@
+// ocio_write KIND N > FILE: a CLF file as OpenColorIO writes it. KIND is lut1d (N entries of three channels), matrix, range, cdl or
+// look (matrix, range, cdl and a LUT1D of N entries in a row).
+#include <OpenColorIO/OpenColorIO.h>
+#include <cmath>
+#include <cstdlib>
+#include <iostream>
+#include <string>
+
+namespace OCIO = OCIO_NAMESPACE;
+
+static OCIO::TransformRcPtr lut1d(unsigned long n)
+{
+    OCIO::Lut1DTransformRcPtr t = OCIO::Lut1DTransform::Create(n, false);
+    t->setFileOutputBitDepth(OCIO::BIT_DEPTH_F32);
+    for (unsigned long i = 0; i < n; ++i) {
+        const double x = double(i) / double(n - 1);
+        t->setValue(i, float(std::pow(x, 1 / 2.2)), float(std::pow(x, 1 / 2.4)), float(x * x));
+    }
+    return t;
+}
+
+static OCIO::TransformRcPtr matrix()
+{
+    OCIO::MatrixTransformRcPtr t = OCIO::MatrixTransform::Create();
+    const double m[16] = {1.451439316146, -0.236510746894, -0.214928569252, 0, -0.076553773396, 1.176229699834, -0.099675926438, 0,
+                          0.008316148426, -0.006032449791, 0.997716301365, 0, 0, 0, 0, 1};
+    const double o[4] = {0.015625, -0.25, 0, 0};
+    t->setMatrix(m);
+    t->setOffset(o);
+    return t;
+}
+
+static OCIO::TransformRcPtr range()
+{
+    OCIO::RangeTransformRcPtr t = OCIO::RangeTransform::Create();
+    t->setMinInValue(0.0625);
+    t->setMaxInValue(0.9375);
+    t->setMinOutValue(0);
+    t->setMaxOutValue(1);
+    return t;
+}
+
+static OCIO::TransformRcPtr cdl()
+{
+    OCIO::CDLTransformRcPtr t = OCIO::CDLTransform::Create();
+    const double slope[3] = {1.1, 0.9, 1.05}, offset[3] = {-0.01, 0.02, 0}, power[3] = {1, 1, 1};
+    t->setSlope(slope);
+    t->setOffset(offset);
+    t->setPower(power);
+    t->setSat(0.85);
+    t->setStyle(OCIO::CDL_ASC);
+    return t;
+}
+
+int main(int argc, char **argv)
+{
+    const std::string kind = argc > 1 ? argv[1] : "";
+    const unsigned long n = argc > 2 ? std::strtoul(argv[2], nullptr, 10) : 2;
+    OCIO::GroupTransformRcPtr group = OCIO::GroupTransform::Create();
+    const bool look = kind == "look";
+    if (look || kind == "matrix") group->appendTransform(matrix());
+    if (look || kind == "range") group->appendTransform(range());
+    if (look || kind == "cdl") group->appendTransform(cdl());
+    if (look || kind == "lut1d") group->appendTransform(lut1d(n));
+    group->write(OCIO::Config::CreateRaw(), "Academy/ASC Common LUT Format", std::cout);
+    return 0;
+}

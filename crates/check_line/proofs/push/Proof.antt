@@ -1,0 +1,19 @@
+use Rattle.check_line.proofs.Laws.{adds-byte, full-adds}
+use borrow.Author.Needs.{needs}
+use Rattle.check_line.proofs.push.Statement.{statement}
+use Rattle.check_line.proofs.push.Tie as tie
+
+array-write-bytes : tie.Need-array-write-bytes
+array-write-bytes c = search needs
+
+add-t9 : tie.Need-add-t9
+add-t9 c = search needs
+
+returns : tie.Need-returns
+returns c = adds-byte _ _
+
+returns-2 : tie.Need-returns-2
+returns-2 c = full-adds _ _ (search needs)
+
+pub push-spec : {M : Type 1} → statement M
+push-spec = tie.close (tie.spec array-write-bytes add-t9 returns returns-2)

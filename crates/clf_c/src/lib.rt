@@ -1,0 +1,79 @@
+// The functions for C: the file check on plain bytes, reading into lent room, and running pixels through a file's list. See capi/clf.h.
+ghost use mathlib.Core.Path.{_≡_};
+ghost use Rattle.room.specs.Room.{roomLength};
+ghost use Rattle.clf.specs.Reading as Reading;
+ghost use Rattle.reading.specs.Code.{coefficientsAfter, powersAfter};
+ghost use Rattle.clf_c.specs.Answers.{fileCheckOf, fileReadOf};
+ghost use Rattle.clf_c.specs.Applying.{coefficientsRead, powersRead, applyOf, appliedTo};
+
+// What the file check answers: the refusal number, 0 for accepted, and its place.
+#[repr(C)]
+pub struct FileCheck {
+    pub number: u64,
+    pub place: u64,
+}
+
+// What reading answers: the refusal number and its place, and how many nodes and numbers the list has.
+#[repr(C)]
+pub struct FileRead {
+    pub number: u64,
+    pub place: u64,
+    pub nodes: u64,
+    pub numbers: u64,
+}
+
+// Checks a file; no room is lent, and refusal 13 means over 262,144 numbers.
+#[no_mangle]
+pub extern "C" fn clf_check_file(file: &[u8]) -> FileCheck
+    ensures { λ r. ⌜ r ≡ fileCheckOf (Reading.readAlone (now (file .entry))) ⌝ }
+{
+    let c = reading::check(file);
+    FileCheck {
+        number: c.number as u64,
+        place: c.place as u64,
+    }
+}
+
+// Reads a file into the table room.
+#[no_mangle]
+pub extern "C" fn clf_read_file(
+    file: &[u8],
+    coefficients: &mut [i64],
+    powers: &mut [i8],
+) -> FileRead
+    ensures { λ r. ⌜ (r ≡ fileReadOf (Reading.read (roomLength (now (coefficients .entry)) (now (powers .entry))) (now (file .entry)))) × (now (coefficients .exit) ≡ coefficientsAfter (roomLength (now (coefficients .entry)) (now (powers .entry))) (Reading.read (roomLength (now (coefficients .entry)) (now (powers .entry))) (now (file .entry))) (now (coefficients .entry))) × (now (powers .exit) ≡ powersAfter (roomLength (now (coefficients .entry)) (now (powers .entry))) (Reading.read (roomLength (now (coefficients .entry)) (now (powers .entry))) (now (file .entry))) (now (powers .entry))) ⌝ }
+{
+    let answer = reading::read(file, coefficients, powers);
+    let list = answer.list;
+    FileRead {
+        number: answer.number as u64,
+        place: answer.place as u64,
+        nodes: list.count as u64,
+        numbers: process_list::used(list) as u64,
+    }
+}
+
+// Reads a file into the table room and runs its list over the pixels, three components a pixel; refused, no pixel changes.
+#[no_mangle]
+pub extern "C" fn clf_apply(
+    file: &[u8],
+    coefficients: &mut [i64],
+    powers: &mut [i8],
+    pixels: &mut [f64],
+) -> FileCheck
+    ensures { λ r. ⌜ (r ≡ applyOf (now (file .entry)) (now (coefficients .entry)) (now (powers .entry)) (now (pixels .entry))) × (now (coefficients .exit) ≡ coefficientsRead (now (file .entry)) (now (coefficients .entry)) (now (powers .entry))) × (now (powers .exit) ≡ powersRead (now (file .entry)) (now (coefficients .entry)) (now (powers .entry))) × (now (pixels .exit) ≡ appliedTo (now (file .entry)) (now (coefficients .entry)) (now (powers .entry)) (now (pixels .entry))) ⌝ }
+{
+    let answer = reading::read(file, coefficients, powers);
+    if answer.number != 0 {
+        return FileCheck {
+            number: answer.number as u64,
+            place: answer.place as u64,
+        };
+    }
+    let list = answer.list;
+    let ran = running::run(list, coefficients, powers, pixels);
+    FileCheck {
+        number: ran.number as u64,
+        place: ran.place as u64,
+    }
+}

@@ -1,0 +1,187 @@
+// The commands of the line protocol.
+ghost use Prim.Native.Nat.{_≤_};
+use crate::hex::Decoded;
+use crate::hex::last_field;
+use crate::out::flush;
+use crate::out::put;
+use crate::out::put_byte;
+use crate::out::put_hex;
+use crate::out::put_number;
+use crate::show::put_state;
+use fields::Parsed;
+use libc::STDOUT_FILENO;
+use process_list::ProcessList;
+use tags::part;
+
+// What the commands work on beside the table room's memory: the list, and the length of the room.
+pub struct State {
+    pub list: ProcessList,
+    pub room: usize,
+}
+
+// No nodes and no room.
+pub fn fresh() -> State {
+    State {
+        list: process_list::empty(),
+        room: 0,
+    }
+}
+
+// Answers a line that is no command.
+fn unknown() {
+    io::write_all(STDOUT_FILENO, b"?\n");
+}
+
+fn least(a: usize, b: usize) -> usize
+    ensures { λ r. ⌜ (r ≤ a) × (r ≤ b) ⌝ }
+{
+    if a < b {
+        return a;
+    }
+    b
+}
+
+fn put_answer(buffer: &mut [u8], number: u8, place: usize) -> usize {
+    let a = put_number(buffer, 0, number as u64);
+    let b = put_byte(buffer, a, b' ');
+    put_number(buffer, b, place as u64)
+}
+
+// Answers with a number, a place and the state.
+fn print_state(number: u8, place: usize, state: State, coefficients: &[i64], powers: &[i8]) {
+    let mut buffer = io::buffer();
+    let list = state.list;
+    let a = put_answer(&mut buffer, number, place);
+    let b = put_byte(&mut buffer, a, b' ');
+    let c = put_state(&mut buffer, b, list, state.room, coefficients, powers);
+    let d = put_byte(&mut buffer, c, b'\n');
+    flush(&buffer, d);
+}
+
+// Reads the file into room for so many numbers.
+fn read_file(file: &[u8], room: usize, coefficients: &mut [i64], powers: &mut [i8]) -> State {
+    let n = least(room, least(coefficients.len(), powers.len()));
+    let answer = reading::read(file, &mut coefficients[0..n], &mut powers[0..n]);
+    let list = answer.list;
+    let state = State { list, room };
+    print_state(answer.number, answer.place, state, coefficients, powers);
+    state
+}
+
+// `R ROOM HEX`, from behind ROOM.
+fn read_into(
+    line: &mut [u8],
+    at: usize,
+    room: usize,
+    state: State,
+    coefficients: &mut [i64],
+    powers: &mut [i8],
+) -> State {
+    let d = last_field(line, at);
+    match d {
+        Decoded::Bytes(start, end) => {
+            read_file(part(line, start, end), room, coefficients, powers)
+        }
+        Decoded::Malformed => {
+            unknown();
+            state
+        }
+    }
+}
+
+// `R ROOM HEX`: reads a file into room for ROOM numbers.
+fn read(line: &mut [u8], state: State, coefficients: &mut [i64], powers: &mut [i8]) -> State {
+    let first = fields::next_field(line, 2);
+    let start = first.start;
+    let end = first.end;
+    let parsed = fields::number(part(line, start, end));
+    match parsed {
+        Parsed::Number(room) => read_into(line, end, room, state, coefficients, powers),
+        Parsed::Malformed => {
+            unknown();
+            state
+        }
+    }
+}
+
+// `C HEX`: the file check.
+fn check(line: &mut [u8]) {
+    let d = last_field(line, 2);
+    match d {
+        Decoded::Bytes(start, end) => {
+            let c = reading::check(part(line, start, end));
+            let mut buffer = [0u8; 64];
+            let a = put_answer(&mut buffer, c.number, c.place);
+            let b = put_byte(&mut buffer, a, b'\n');
+            flush(&buffer, b);
+        }
+        Decoded::Malformed => unknown(),
+    }
+}
+
+fn print_description(file: &[u8], k: usize) {
+    let mut buffer = io::buffer();
+    let c = reading::description_number(file, k);
+    let a = put_answer(&mut buffer, c.number, c.place);
+    let b = put_byte(&mut buffer, a, b' ');
+    let d = put_hex(&mut buffer, b, reading::description(file, k));
+    let e = put_byte(&mut buffer, d, b'\n');
+    flush(&buffer, e);
+}
+
+// `D K HEX`, from behind K.
+fn describe(line: &mut [u8], at: usize, k: usize) {
+    let d = last_field(line, at);
+    match d {
+        Decoded::Bytes(start, end) => print_description(part(line, start, end), k),
+        Decoded::Malformed => unknown(),
+    }
+}
+
+// `D K HEX`: the first Description inside node K.
+fn description(line: &mut [u8]) {
+    let first = fields::next_field(line, 2);
+    let start = first.start;
+    let end = first.end;
+    let parsed = fields::number(part(line, start, end));
+    match parsed {
+        Parsed::Number(k) => describe(line, end, k),
+        Parsed::Malformed => unknown(),
+    }
+}
+
+// `K HEX`: the check program's line.
+fn check_line(line: &mut [u8]) {
+    let d = last_field(line, 2);
+    match d {
+        Decoded::Bytes(start, end) => {
+            let text = check_line::check_line(part(line, start, end));
+            let bytes = text.bytes;
+            flush(&bytes, text.length);
+        }
+        Decoded::Malformed => unknown(),
+    }
+}
+
+// Answers a command line.
+pub fn answer(line: &mut [u8], state: State, coefficients: &mut [i64], powers: &mut [i8]) -> State {
+    if line.len() < 2 {
+        unknown();
+        return state;
+    }
+    if line[1] != b' ' {
+        unknown();
+        return state;
+    }
+    let command = line[0];
+    if command == b'R' {
+        return read(line, state, coefficients, powers);
+    }
+    match command {
+        b'C' => check(line),
+        b'D' => description(line),
+        b'K' => check_line(line),
+        _ => unknown(),
+    }
+    state
+}

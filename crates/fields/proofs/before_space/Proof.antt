@@ -1,0 +1,50 @@
+use mathlib.Core.Path.{_≡_}
+use Prim.Native.Nat.{_-_}
+use lib.ListN.{length, drop}
+use Rattle.scanning.specs.Steps.{scan, one-turn, from-here}
+use Rattle.fields.specs.Fields.{beforeSpace}
+use Rattle.fields.specs.Laws.{beforeSpace·laws}
+use borrow.Author.Needs.{needs}
+use Rattle.fields.proofs.before_space.Statement.{statement}
+use Rattle.fields.proofs.before_space.Tie as tie
+
+abbrev Inv-loop : tie.InvT-loop
+Inv-loop line at i₀ i = beforeSpace at (drop at line) ≡ beforeSpace i (drop i line)
+
+abbrev μ-loop : tie.MeasureT-loop
+μ-loop line at i₀ i = length line - i
+
+loop-holds : tie.Need-loop-holds Inv-loop μ-loop
+loop-holds c = search needs
+
+shared-slice-read-if1 : tie.Need-shared-slice-read-if1 Inv-loop μ-loop
+shared-slice-read-if1 c = search needs
+
+returns : tie.Need-returns Inv-loop μ-loop
+returns c = search (scan, from-here, beforeSpace·laws)
+
+add-i : tie.Need-add-i Inv-loop μ-loop
+add-i c = search needs
+
+loop-less : tie.Need-loop-less Inv-loop μ-loop
+loop-less c = search needs
+
+loop-again : tie.Need-loop-again Inv-loop μ-loop
+loop-again c = search (scan, one-turn, beforeSpace·laws)
+
+returns-2 : tie.Need-returns-2 Inv-loop μ-loop
+returns-2 c = search (scan, from-here, beforeSpace·laws)
+
+pub before-space-spec : {M : Type 1} → statement M
+before-space-spec =
+    tie.close
+    (tie.spec
+    Inv-loop
+    μ-loop
+    loop-holds
+    shared-slice-read-if1
+    returns
+    add-i
+    loop-less
+    loop-again
+    returns-2)
