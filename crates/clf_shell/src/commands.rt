@@ -7,6 +7,7 @@ use crate::out::put;
 use crate::out::put_byte;
 use crate::out::put_hex;
 use crate::out::put_number;
+use crate::pixels;
 use crate::show::put_state;
 use fields::Parsed;
 use libc::STDOUT_FILENO;
@@ -41,7 +42,8 @@ fn least(a: usize, b: usize) -> usize
     b
 }
 
-fn put_answer(buffer: &mut [u8], number: u8, place: usize) -> usize {
+// The refusal number and its place.
+pub fn put_answer(buffer: &mut [u8], number: u8, place: usize) -> usize {
     let a = put_number(buffer, 0, number as u64);
     let b = put_byte(buffer, a, b' ');
     put_number(buffer, b, place as u64)
@@ -163,8 +165,43 @@ fn check_line(line: &mut [u8]) {
     }
 }
 
+// `X WORD WORD ..`: runs the list over pixels, with the table room that it was read into.
+fn run(line: &[u8], state: State, coefficients: &[i64], powers: &[i8]) {
+    let list = state.list;
+    let n = least(state.room, least(coefficients.len(), powers.len()));
+    pixels::run(line, list, &coefficients[0..n], &powers[0..n]);
+}
+
+// Answers a command that changes no state; its line is the command's letter, a space and more.
+fn answer_alone(line: &mut [u8], command: u8) {
+    match command {
+        b'C' => check(line),
+        b'D' => description(line),
+        b'K' => check_line(line),
+        _ => unknown(),
+    }
+}
+
+// Whether a line is the command X, alone or with words.
+fn is_run(line: &[u8]) -> bool {
+    if line.len() == 0 {
+        return false;
+    }
+    if line[0] != b'X' {
+        return false;
+    }
+    if line.len() == 1 {
+        return true;
+    }
+    line[1] == b' '
+}
+
 // Answers a command line.
 pub fn answer(line: &mut [u8], state: State, coefficients: &mut [i64], powers: &mut [i8]) -> State {
+    if is_run(line) {
+        run(line, state, coefficients, powers);
+        return state;
+    }
     if line.len() < 2 {
         unknown();
         return state;
@@ -177,11 +214,6 @@ pub fn answer(line: &mut [u8], state: State, coefficients: &mut [i64], powers: &
     if command == b'R' {
         return read(line, state, coefficients, powers);
     }
-    match command {
-        b'C' => check(line),
-        b'D' => description(line),
-        b'K' => check_line(line),
-        _ => unknown(),
-    }
+    answer_alone(line, command);
     state
 }

@@ -8,7 +8,7 @@ pub enum Decoded {
 }
 
 // The value of a hex digit, and 16 for another byte.
-fn digit(b: u8) -> u8
+pub fn digit(b: u8) -> u8
     ensures { λ r. ⌜ r ≤ 16 ⌝ }
 {
     if b < 48 {

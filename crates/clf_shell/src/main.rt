@@ -5,6 +5,7 @@ ghost use Prim.Native.Nat.{_<_};
 mod commands;
 mod hex;
 mod out;
+mod pixels;
 mod show;
 
 use commands::State;

@@ -45,7 +45,8 @@ pub fn put_signed(buffer: &mut [u8], at: usize, z: i64) -> usize {
     put_number(buffer, at, decimal_write::size(z))
 }
 
-fn glyph(d: u8) -> u8 {
+// The hex digit of a value.
+pub fn glyph(d: u8) -> u8 {
     if d < 10 {
         return 48 + d;
     }
