@@ -13,14 +13,12 @@ use Rattle.xml.specs.CodeLaws.{part-none, reads-fewer, reads-then, reads-failed
 use Rattle.xml.specs.declared.Scan.{Scan}
 use Rattle.xml.specs.declared.Scan.the-variants.{At, Fault, Cut}
 use Rattle.tags.specs.Code.{partIn}
-use Rattle.tags.specs.Ended.{TagRead, tagWith, tag-open, tag-empty, tag-fault, tag-cut}
+use Rattle.tags.specs.Ended.{EndsAs, tagRead, ends-open, ends-empty, ends-fault, ends-cut}
 use Rattle.tags.proofs.Words.{part-in}
-use Rattle.tags.specs.declared.StartTag.{StartTag}
+use Rattle.tags.specs.declared.TagEnd.{TagEnd}
 use Rattle.tags.specs.declared.TagEnd.the-variants as Ends
-use Rattle.tags.specs.declared.TagKind.the-variants as Kinds
 use Rattle.info.specs.declared.TextRead.{TextRead}
 use Rattle.info.specs.Code.{TextReads, noText}
-use Rattle.info.proofs.Contents.{plain-rules}
 
 module _ (p : Parser (List ℕ)) (s : List ℕ) (at : ℕ) where
   -- an answer whose value is the bytes from a to e
@@ -53,31 +51,31 @@ module _ (w : List ℕ) (s : List ℕ) (at : ℕ) where
 
   -- ---- behind the start tag
 
-  module _ (t : StartTag) (v : TagRead Kinds.Plain s at t) where
+  module _ (end : TagEnd) (v : EndsAs plain s at end) where
     abbrev behind : Tag → Parser (List ℕ)
     behind tag = (cond (tag .empty) (ret []) (textContent w)) .run
 
-    pub element-open : (e : ℕ) (r : TextRead) → t .end ≡ Ends.Open e → TextReads ((textContent w) .run) s e r → TextReads ((textElement w) .run) s at r
+    pub element-open : (e : ℕ) (r : TextRead) → end ≡ Ends.Open e → TextReads ((textContent w) .run) s e r → TextReads ((textElement w) .run) s at r
     unfolding textElement
     element-open e r q u =
         text-reads (bindP ((startTag plain) .run) behind) s at (r .start) (r .end) (partIn s (r .start) (r .end)) (r .scan) refl
         (reads-fewer (bindP ((startTag plain) .run) behind) (λ i. partIn s (r .start) (r .end)) s at 2 1 (r .scan) (omega arith)
-        (reads-then ((startTag plain) .run) (λ i. tagWith s t false) behind (λ i. partIn s (r .start) (r .end)) s at 1 1 e (r .scan) (tag-open plain Kinds.Plain plain-rules s at t v e q)
+        (reads-then ((startTag plain) .run) (λ i. tagRead plain s at end v false) behind (λ i. partIn s (r .start) (r .end)) s at 1 1 e (r .scan) (ends-open plain s at end v e q)
         (record { out = u .out; inside = u .inside })))
 
-    pub element-empty : (e : ℕ) → t .end ≡ Ends.Empty e → TextReads ((textElement w) .run) s at (noText (At e))
+    pub element-empty : (e : ℕ) → end ≡ Ends.Empty e → TextReads ((textElement w) .run) s at (noText (At e))
     unfolding textElement
     element-empty e q =
-        let u : Reads 1 ((startTag plain) .run) (λ i. tagWith s t true) s at (At e) = tag-empty plain Kinds.Plain plain-rules s at t v e q in
+        let u : Reads 1 ((startTag plain) .run) (λ i. tagRead plain s at end v true) s at (At e) = ends-empty plain s at end v e q in
         let z : Reads 0 (retP []) (λ i. []) s e (At e) = record { out = refl; inside = (omega arith, u .inside .1) } in
-        no-text (bindP ((startTag plain) .run) behind) s at (At e) (reads-then ((startTag plain) .run) (λ i. tagWith s t true) behind (λ i. []) s at 1 0 e (At e) u z)
+        no-text (bindP ((startTag plain) .run) behind) s at (At e) (reads-then ((startTag plain) .run) (λ i. tagRead plain s at end v true) behind (λ i. []) s at 1 0 e (At e) u z)
 
-    element-failed : (r : Scan) → Failed r → Reads 1 ((startTag plain) .run) (λ i. tagWith s t false) s at r → TextReads ((textElement w) .run) s at (noText r)
+    element-failed : (r : Scan) → Failed r → Reads 1 ((startTag plain) .run) (λ i. tagRead plain s at end v false) s at r → TextReads ((textElement w) .run) s at (noText r)
     unfolding textElement
-    element-failed r f u = no-text (bindP ((startTag plain) .run) behind) s at r (reads-failed ((startTag plain) .run) (λ i. tagWith s t false) behind (λ i. []) s at 1 1 r f u)
+    element-failed r f u = no-text (bindP ((startTag plain) .run) behind) s at r (reads-failed ((startTag plain) .run) (λ i. tagRead plain s at end v false) behind (λ i. []) s at 1 1 r f u)
 
-    pub element-fault : (k p : ℕ) → t .end ≡ Ends.Fault k p → TextReads ((textElement w) .run) s at (noText (Fault k p))
-    element-fault k p q = element-failed (Fault k p) tt (tag-fault plain Kinds.Plain plain-rules s at t v k p q)
+    pub element-fault : (k p : ℕ) → end ≡ Ends.Fault k p → TextReads ((textElement w) .run) s at (noText (Fault k p))
+    element-fault k p q = element-failed (Fault k p) tt (ends-fault plain s at end v k p q)
 
-    pub element-cut : t .end ≡ Ends.Cut → TextReads ((textElement w) .run) s at (noText Cut)
-    element-cut q = element-failed Cut tt (tag-cut plain Kinds.Plain plain-rules s at t v q)
+    pub element-cut : end ≡ Ends.Cut → TextReads ((textElement w) .run) s at (noText Cut)
+    element-cut q = element-failed Cut tt (ends-cut plain s at end v q)

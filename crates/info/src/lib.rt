@@ -6,7 +6,6 @@ ghost use Rattle.xml.specs.Elements as Elements;
 ghost use Rattle.xml.specs.Code.{Reads, noValue};
 ghost use Rattle.info.specs.Code.{TextReads, noText, PieceIs};
 use tags::TagEnd;
-use tags::TagKind;
 use xml::Scan;
 
 // A text-only element: how it reads, and where its text stands.
@@ -54,8 +53,7 @@ fn text_content(s: &[u8], at: usize, w: &[u8]) -> TextRead
 pub fn text_element(s: &[u8], at: usize, w: &[u8]) -> TextRead
     ensures { λ r. ⌜ TextReads ((Elements.textElement (now (w .entry))) .run) (now (s .entry)) at r ⌝ }
 {
-    let tag = tags::start_tag(s, at, TagKind::Plain);
-    let end = tag.end;
+    let end = tags::plain_tag(s, at);
     match end {
         TagEnd::Open(q) => text_content(s, q, w),
         TagEnd::Empty(q) => no_text(Scan::At(q)),
@@ -106,8 +104,7 @@ fn element(s: &[u8], at: usize, left: usize) -> Scan
     if left == 0 {
         return Scan::Fault(3, at);
     }
-    let tag = tags::start_tag(s, e, TagKind::Plain);
-    let end = tag.end;
+    let end = tags::plain_tag(s, e);
     match end {
         TagEnd::Open(q) => content(s, q, tags::part(s, at + 1, e), left - 1),
         TagEnd::Empty(q) => Scan::At(q),
@@ -149,8 +146,7 @@ fn content(s: &[u8], at: usize, w: &[u8], left: usize) -> Scan
 pub fn info(s: &[u8], at: usize) -> Scan
     ensures { λ r. ⌜ Reads 1 (Elements.info .run) noValue (now (s .entry)) at r ⌝ }
 {
-    let tag = tags::start_tag(s, at, TagKind::Plain);
-    let end = tag.end;
+    let end = tags::plain_tag(s, at);
     match end {
         TagEnd::Open(q) => content(s, q, b"Info", 16),
         TagEnd::Empty(q) => Scan::At(q),

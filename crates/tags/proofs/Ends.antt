@@ -10,16 +10,19 @@ use Rattle.scanning.specs.Steps.{here, past}
 use Rattle.grammar.specs.Parse.{Out, done, fault, cut, Parser, Turn, again, last, thenOut, retP, verdict, judgeOut, lookP, eatP, turnOut, loopP}
 use Rattle.grammar.specs.Laws.{loop-step, loop-again, loop-fault, loop-cut}
 use Rattle.xml.specs.Bytes.{bytes, isSpace}
-use Rattle.xml.specs.Xml.{word, Attribute, Rules, attribute, TagState, Tag, tagByte, startTag}
+use Rattle.xml.specs.Xml.{word, Attribute, Rules, plain, attribute, TagState, Tag, tagByte, startTag}
 use Rattle.xml.specs.Code.{part, ReadsFrom, noValue}
 use Rattle.xml.specs.CodeLaws.{look-at}
 use Rattle.xml.specs.declared.Scan.{Scan}
 use Rattle.xml.specs.declared.Scan.the-variants as Scans
 use Rattle.tags.specs.Code.{partIn, attributesOf, noAttributes, withAttribute, attributeOut, AttributeInside, EndInside, tagOut, openEnd, emptyEnd, EndIs}
+use Rattle.tags.specs.Rules.{rulesOf}
+use Rattle.tags.specs.Ended.{EndsAs, ends-as}
 use Rattle.tags.specs.declared.Seen.{Seen}
 use Rattle.tags.specs.declared.StartTag.{StartTag}
 use Rattle.tags.specs.declared.TagEnd.{TagEnd}
 use Rattle.tags.specs.declared.TagEnd.the-variants.{Open, Empty, Fault, Cut}
+use Rattle.tags.specs.declared.TagKind.the-variants as Kinds
 use Rattle.tags.specs.declared.AttributeRead.the-variants as Reads
 use Rattle.tags.proofs.Lists.{Sized, sized-none, sized-more, attributes-none, attributes-more, length-attributes}
 use Rattle.tags.proofs.Words.{part-in}
@@ -215,3 +218,16 @@ module _ (rules : Rules) (s : List ℕ) (at : ℕ) (seen : Seen) (spaced : Bool)
                     (at-attribute ∙ ap (λ (o : Out Attribute). thenOut o onward) (sym x)) (simp length-drop (omega arith))
                     ∙ ap (λ (l : List Attribute). from rules (state false l) (drop (t + 1) s)) (sym more);
               })
+
+-- a tag without attributes
+pub open-at-once : (rules : Rules) (s : List ℕ) (at : ℕ) → at < length s → getD s at 0 ≡ 62 → (seen : Seen) → seen ≡ noAttributes → (e : TagEnd)
+    → EndIs s seen at e ((openEnd rules (attributesOf s seen)) .run (drop at s)) → EndsAs rules s at e
+unfolding isSpace
+open-at-once rules s at h g seen q e x =
+    let p : isSpace (getD s at 0) ≡ false = rw g refl in
+    ends-as rules s at (record { end = e; seen = seen }) (tag-open rules s at seen false at (rw q (tag-start rules s at)) h p g e x)
+
+-- `plain` is what a plain tag asks
+pub plainly : (s : List ℕ) (at : ℕ) (e : TagEnd) → EndsAs (rulesOf Kinds.Plain) s at e → EndsAs plain s at e
+unfolding rulesOf
+plainly s at e v = v

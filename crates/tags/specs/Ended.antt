@@ -1,11 +1,12 @@
 -- How a start tag ended: the place behind it, and the tag that was read. Laws for callers of `start_tag`, which name no tag. Assumes nothing.
 use mathlib.Core.Path.{_≡_, refl, sym, ap, _∙_}
 use mathlib.Core.Bool.{Bool, true, false}
-use mathlib.Core.List.{List}
+use mathlib.Core.List.{List, []}
 use Prim.Native.Nat.{ℕ}
 use native.Mathlib.Omega.{arith}
 use lib.ListN.{drop}
-use Rattle.xml.specs.Xml.{Tag, Rules, startTag}
+use Rattle.grammar.specs.Parse.{Out, done, fault, cut}
+use Rattle.xml.specs.Xml.{Attribute, Tag, Rules, startTag}
 use Rattle.xml.specs.Code.{Reads}
 use Rattle.xml.specs.declared.Scan.{Scan}
 use Rattle.xml.specs.declared.Scan.the-variants.{At, Fault, Cut}
@@ -41,29 +42,100 @@ isEmptied Ends.Cut = false
 unfoldable pub tagOf : List ℕ → StartTag → Tag
 tagOf s t = tagWith s t (isEmptied (t .end))
 
+-- ---- a start tag without its attributes
+
+-- where it ends, and whether it is empty
+abbrev pub ended : Out Tag → Out Bool
+ended (done t r) = done (t .empty) r
+ended (fault k r) = fault k r
+ended cut = cut
+
+abbrev pub endedOut : List ℕ → TagEnd → Out Bool
+endedOut s (Ends.Open e) = done false (drop e s)
+endedOut s (Ends.Empty e) = done true (drop e s)
+endedOut s (Ends.Fault k p) = fault k (drop p s)
+endedOut s Ends.Cut = cut
+
+-- the end r of the start tag of these rules behind `at`
+pub record EndsAs (rules : Rules) (s : List ℕ) (at : ℕ) (r : TagEnd) : Type 0 where
+  pub out : endedOut s r ≡ ended ((startTag rules) .run (drop at s))
+  pub inside : EndInside s at r
+
+-- the attributes of a start tag that was read, and an answer with these
+abbrev pub attributesRead : Out Tag → List Attribute
+attributesRead (done t r) = t .attributes
+attributesRead (fault k r) = []
+attributesRead cut = []
+
+abbrev withAttributes : List Attribute → Out Bool → Out Tag
+withAttributes l (done b r) = done (record { attributes = l; empty = b }) r
+withAttributes l (fault k r) = fault k r
+withAttributes l cut = cut
+
+whole : (o : Out Tag) → withAttributes (attributesRead o) (ended o) ≡ o
+whole (done t r) = refl
+whole (fault k r) = refl
+whole cut = refl
+
+-- what start_tag answers, without its attributes
+pub ends-as : (rules : Rules) (s : List ℕ) (at : ℕ) (t : StartTag) → (tagOut s t ≡ (startTag rules) .run (drop at s)) × EndInside s at (t .end) → EndsAs rules s at (t .end)
+ends-as rules s at t v = record { out = go (t .end) ∙ ap ended (v .0); inside = v .1 }
+  where
+    go : (end : TagEnd) → endedOut s end ≡ ended (endOut s (t .seen) end)
+    go (Ends.Open e) = refl
+    go (Ends.Empty e) = refl
+    go (Ends.Fault k p) = refl
+    go Ends.Cut = refl
+
+module _ (rules : Rules) (s : List ℕ) (at : ℕ) (r : TagEnd) (v : EndsAs rules s at r) where
+  abbrev pub tagRead : Bool → Tag
+  tagRead empty = record { attributes = attributesRead ((startTag rules) .run (drop at s)); empty = empty }
+
+  with-end : (end : TagEnd) → r ≡ end → (withAttributes (attributesRead ((startTag rules) .run (drop at s))) (endedOut s end) ≡ (startTag rules) .run (drop at s)) × EndInside s at end
+  with-end end q = (
+    ap (λ (x : TagEnd). withAttributes (attributesRead ((startTag rules) .run (drop at s))) (endedOut s x)) (sym q)
+        ∙ ap (withAttributes (attributesRead ((startTag rules) .run (drop at s)))) (v .out)
+        ∙ whole ((startTag rules) .run (drop at s)),
+    rw q at (v .inside),
+  )
+
+  pub ends-open : (e : ℕ) → r ≡ Ends.Open e → Reads 1 ((startTag rules) .run) (λ i. tagRead false) s at (At e)
+  ends-open e q = let u = with-end (Ends.Open e) q in record { out = u .0; inside = (omega (arith, u .1), u .1 .1) }
+
+  pub ends-empty : (e : ℕ) → r ≡ Ends.Empty e → Reads 1 ((startTag rules) .run) (λ i. tagRead true) s at (At e)
+  ends-empty e q = let u = with-end (Ends.Empty e) q in record { out = u .0; inside = (omega (arith, u .1), u .1 .1) }
+
+  pub ends-fault : (k p : ℕ) → r ≡ Ends.Fault k p → Reads 1 ((startTag rules) .run) (λ i. tagRead false) s at (Fault k p)
+  ends-fault k p q = let u = with-end (Ends.Fault k p) q in record { out = u .0; inside = u .1 }
+
+  pub ends-cut : r ≡ Ends.Cut → Reads 1 ((startTag rules) .run) (λ i. tagRead false) s at Cut
+  ends-cut q = record { out = (with-end Ends.Cut q) .0; inside = tt }
+
+-- ---- with its attributes
+
 module _ (rules : Rules) (kind : TagKind) (r : rulesOf kind ≡ rules) (s : List ℕ) (at : ℕ) (t : StartTag) (v : TagRead kind s at t) where
-  ended : (end : TagEnd) → t .end ≡ end → (endOut s (t .seen) end ≡ (startTag rules) .run (drop at s)) × EndInside s at end
-  ended end q = (ap (endOut s (t .seen)) (sym q) ∙ v .0 ∙ ap (λ (l : Rules). (startTag l) .run (drop at s)) r, rw q at (v .1))
+  whole-end : (end : TagEnd) → t .end ≡ end → (endOut s (t .seen) end ≡ (startTag rules) .run (drop at s)) × EndInside s at end
+  whole-end end q = (ap (endOut s (t .seen)) (sym q) ∙ v .0 ∙ ap (λ (l : Rules). (startTag l) .run (drop at s)) r, rw q at (v .1))
 
   -- ---- by how it ended
 
   pub tag-open : (e : ℕ) → t .end ≡ Ends.Open e → Reads 1 ((startTag rules) .run) (λ i. tagWith s t false) s at (At e)
-  tag-open e q = let u = ended (Ends.Open e) q in record { out = u .0; inside = (omega (arith, u .1), u .1 .1) }
+  tag-open e q = let u = whole-end (Ends.Open e) q in record { out = u .0; inside = (omega (arith, u .1), u .1 .1) }
 
   pub tag-empty : (e : ℕ) → t .end ≡ Ends.Empty e → Reads 1 ((startTag rules) .run) (λ i. tagWith s t true) s at (At e)
-  tag-empty e q = let u = ended (Ends.Empty e) q in record { out = u .0; inside = (omega (arith, u .1), u .1 .1) }
+  tag-empty e q = let u = whole-end (Ends.Empty e) q in record { out = u .0; inside = (omega (arith, u .1), u .1 .1) }
 
   pub tag-fault : (k p : ℕ) → t .end ≡ Ends.Fault k p → Reads 1 ((startTag rules) .run) (λ i. tagWith s t false) s at (Fault k p)
-  tag-fault k p q = let u = ended (Ends.Fault k p) q in record { out = u .0; inside = u .1 }
+  tag-fault k p q = let u = whole-end (Ends.Fault k p) q in record { out = u .0; inside = u .1 }
 
   pub tag-cut : t .end ≡ Ends.Cut → Reads 1 ((startTag rules) .run) (λ i. tagWith s t false) s at Cut
-  tag-cut q = record { out = (ended Ends.Cut q) .0; inside = tt }
+  tag-cut q = record { out = (whole-end Ends.Cut q) .0; inside = tt }
 
   -- ---- where open and empty are alike: b is the answer for the place behind it
 
   pub tag-reads : (b : Scan) → b ≡ behindTag (t .end) → Reads 1 ((startTag rules) .run) (λ e. tagOf s t) s at b
   unfolding tagOf
-  tag-reads b q = rw q (go (t .end) (ended (t .end) refl))
+  tag-reads b q = rw q (go (t .end) (whole-end (t .end) refl))
     where
       go : (end : TagEnd) → (endOut s (t .seen) end ≡ (startTag rules) .run (drop at s)) × EndInside s at end
           → Reads 1 ((startTag rules) .run) (λ e. tagWith s t (isEmptied end)) s at (behindTag end)

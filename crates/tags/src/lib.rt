@@ -10,7 +10,7 @@ ghost use Rattle.clf.specs.Nodes as Nodes;
 ghost use Rattle.clf.specs.List as List;
 ghost use Rattle.tags.specs.Rules.{rulesOf};
 ghost use Rattle.tags.specs.Code as Code;
-ghost use Rattle.tags.specs.Ended.{behindTag};
+ghost use Rattle.tags.specs.Ended.{behindTag, EndsAs};
 use process_list::Depth;
 use xml::Scan;
 
@@ -423,7 +423,7 @@ fn index_of(s: &[u8], seen: Seen, w: &[u8]) -> usize
         }
         let a = seen.name_start[i];
         let e = seen.name_end[i];
-        if xml::same(w, part(s, a, e)) {
+        if xml::same_name(w, part(s, a, e)) {
             return i;
         }
         i += 1;
@@ -705,6 +705,19 @@ pub fn start_tag(s: &[u8], at: usize, kind: TagKind) -> StartTag
         end: TagEnd::Cut,
         seen,
     }
+}
+
+// How a start tag that asks nothing of its attributes ends. Most such tags have none, and need no list of them.
+pub fn plain_tag(s: &[u8], at: usize) -> TagEnd
+    ensures { λ r. ⌜ EndsAs Xml.plain (now (s .entry)) at r ⌝ }
+{
+    if at < s.len() {
+        if s[at] == b'>' {
+            return open_end(s, at, TagKind::Plain, no_attributes());
+        }
+    }
+    let tag = start_tag(s, at, TagKind::Plain);
+    tag.end
 }
 
 // The place behind a start tag, open or empty.

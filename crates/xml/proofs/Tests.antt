@@ -68,6 +68,28 @@ module _ (a b : List ℕ) (i : ℕ) where
   pub same-differs : same a b ≡ same (drop i a) (drop i b) → i < length a → i < length b → (getD a i 0 ≡ getD b i 0 → ⊥) → false ≡ same a b
   same-differs v h k q = sym (v ∙ step h k ∙ ap (λ (t : Bool). t && same (drop (i + 1) a) (drop (i + 1) b)) (ne-eqb (getD a i 0) (getD b i 0) q))
 
+  -- with what the bytes so far have said
+  pub still-same : (t u : Bool) → same a b ≡ (t && same (drop i a) (drop i b)) → i < length a → i < length b → getD a i 0 ≡ getD b i 0 → u ≡ t
+      → same a b ≡ (u && same (drop (i + 1) a) (drop (i + 1) b))
+  still-same t u v h k q w = rw w (v ∙ ap (λ (u : Bool). t && u) (step h k ∙ ap (λ (u : Bool). u && same (drop (i + 1) a) (drop (i + 1) b)) (eq-eqb (getD a i 0) (getD b i 0) q)))
+
+  pub not-same : (t u : Bool) → same a b ≡ (t && same (drop i a) (drop i b)) → i < length a → i < length b → (getD a i 0 ≡ getD b i 0 → ⊥) → u ≡ false
+      → same a b ≡ (u && same (drop (i + 1) a) (drop (i + 1) b))
+  not-same t u v h k q w =
+      rw w (v ∙ ap (λ (u : Bool). t && u) (step h k ∙ ap (λ (u : Bool). u && same (drop (i + 1) a) (drop (i + 1) b)) (ne-eqb (getD a i 0) (getD b i 0) q)) ∙ go t)
+    where
+      go : (u : Bool) → u && false ≡ false
+      go true = refl
+      go false = refl
+
+  pub all-same : (t : Bool) → same a b ≡ (t && same (drop i a) (drop i b)) → length a ≤ i → length b ≤ i → t ≡ same a b
+  unfolding same
+  all-same t v h k = sym (v ∙ ap (λ (u : Bool). t && u) (rw (past a i h, past b i k)) ∙ go t)
+    where
+      go : (u : Bool) → u && true ≡ u
+      go true = refl
+      go false = refl
+
   pub same-whole : same a b ≡ same (drop i a) (drop i b) → length a ≤ i → length b ≤ i → true ≡ same a b
   unfolding same
   same-whole v h k = sym (v ∙ rw (past a i h, past b i k))

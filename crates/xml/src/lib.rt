@@ -99,6 +99,24 @@ pub fn same(a: &[u8], b: &[u8]) -> bool
     true
 }
 
+// Whether two names are the same; no byte ends the loop early, so that long names are compared many bytes at a time.
+pub fn same_name(a: &[u8], b: &[u8]) -> bool
+    ensures { λ r. ⌜ r ≡ Bytes.same (now (a .entry)) (now (b .entry)) ⌝ }
+{
+    if a.len() != b.len() {
+        return false;
+    }
+    let mut equal = true;
+    let mut i = 0;
+    while i < a.len() {
+        if a[i] != b[i] {
+            equal = false;
+        }
+        i += 1;
+    }
+    equal
+}
+
 // The byte c, or the fault k; 0 is no fault, and any byte passes.
 pub fn byte(s: &[u8], at: usize, c: u8, k: u8) -> Scan
     ensures { λ r. ⌜ Reads 1 ((Xml.byte c k) .run) (λ e. getD (now (s .entry)) at 0) (now (s .entry)) at r ⌝ }

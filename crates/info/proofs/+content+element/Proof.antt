@@ -16,7 +16,7 @@ use Rattle.info.proofs.+content+element.Lts-element as element-lts
 use Rattle.info.proofs.piece_at.Reads as piece-at-reads
 use Rattle.markup.proofs.end_tag.Reads as end-tag-reads
 use Rattle.tags.proofs.part.Reads as part-reads
-use Rattle.tags.proofs.start_tag.Reads as start-tag-reads
+use Rattle.tags.proofs.plain_tag.Reads as plain-tag-reads
 use Rattle.xml.proofs.open_name.Reads as open-name-reads
 use Rattle.info.proofs.+content+element.{statement}
 use Rattle.info.proofs.+content+element.Tie.{close}
@@ -218,8 +218,8 @@ content-returns-4 t c = content-ended (c .before .loop .inv) (omega arith)
 element-open-name-requires : (t : ℕ) → element-lts.Need-open-name-requires (
   open-name-reads.Asked,
   open-name-reads.Learnt,
-  start-tag-reads.Asked,
-  start-tag-reads.Learnt,
+  plain-tag-reads.Asked,
+  plain-tag-reads.Learnt,
   part-reads.Asked,
   part-reads.Learnt,
   content-below t,
@@ -230,8 +230,8 @@ element-open-name-requires t c κs = search needs
 element-enum-known-r : (t : ℕ) → element-lts.Need-enum-known-r (
   open-name-reads.Asked,
   open-name-reads.Learnt,
-  start-tag-reads.Asked,
-  start-tag-reads.Learnt,
+  plain-tag-reads.Asked,
+  plain-tag-reads.Learnt,
   part-reads.Asked,
   part-reads.Learnt,
   content-below t,
@@ -242,8 +242,8 @@ element-enum-known-r t c = search needs
 element-returns : (t : ℕ) → element-lts.Need-returns (
   open-name-reads.Asked,
   open-name-reads.Learnt,
-  start-tag-reads.Asked,
-  start-tag-reads.Learnt,
+  plain-tag-reads.Asked,
+  plain-tag-reads.Learnt,
   part-reads.Asked,
   part-reads.Learnt,
   content-below t,
@@ -254,8 +254,8 @@ element-returns t c = element-unnamed _ _ _ _ (failed (c .before .open-name .res
 element-returns-2 : (t : ℕ) → element-lts.Need-returns-2 (
   open-name-reads.Asked,
   open-name-reads.Learnt,
-  start-tag-reads.Asked,
-  start-tag-reads.Learnt,
+  plain-tag-reads.Asked,
+  plain-tag-reads.Learnt,
   part-reads.Asked,
   part-reads.Learnt,
   content-below t,
@@ -263,23 +263,23 @@ element-returns-2 : (t : ℕ) → element-lts.Need-returns-2 (
 ) (element-at t) element.Post
 element-returns-2 t c = element-deep _ _ _ _ (rw (c .before .before .r .given .1) at (c .before .before .before .before .open-name .ensures)) (c .if1 .taken)
 
-element-start-tag-requires : (t : ℕ) → element-lts.Need-start-tag-requires (
+element-plain-tag-requires : (t : ℕ) → element-lts.Need-plain-tag-requires (
   open-name-reads.Asked,
   open-name-reads.Learnt,
-  start-tag-reads.Asked,
-  start-tag-reads.Learnt,
+  plain-tag-reads.Asked,
+  plain-tag-reads.Learnt,
   part-reads.Asked,
   part-reads.Learnt,
   content-below t,
   content.Post,
 ) (element-at t) element.Post
-element-start-tag-requires t c κs = search needs
+element-plain-tag-requires t c κs = search needs
 
 element-enum-known-end : (t : ℕ) → element-lts.Need-enum-known-end (
   open-name-reads.Asked,
   open-name-reads.Learnt,
-  start-tag-reads.Asked,
-  start-tag-reads.Learnt,
+  plain-tag-reads.Asked,
+  plain-tag-reads.Learnt,
   part-reads.Asked,
   part-reads.Learnt,
   content-below t,
@@ -290,8 +290,8 @@ element-enum-known-end t c = search needs
 element-add-part : (t : ℕ) → element-lts.Need-add-part (
   open-name-reads.Asked,
   open-name-reads.Learnt,
-  start-tag-reads.Asked,
-  start-tag-reads.Learnt,
+  plain-tag-reads.Asked,
+  plain-tag-reads.Learnt,
   part-reads.Asked,
   part-reads.Learnt,
   content-below t,
@@ -302,8 +302,8 @@ element-add-part t c = omega (arith, (rw (c .before .before .before .before .bef
 element-part-requires : (t : ℕ) → element-lts.Need-part-requires (
   open-name-reads.Asked,
   open-name-reads.Learnt,
-  start-tag-reads.Asked,
-  start-tag-reads.Learnt,
+  plain-tag-reads.Asked,
+  plain-tag-reads.Learnt,
   part-reads.Asked,
   part-reads.Learnt,
   content-below t,
@@ -314,8 +314,8 @@ element-part-requires t c κs = search needs
 element-sub-content : (t : ℕ) → element-lts.Need-sub-content (
   open-name-reads.Asked,
   open-name-reads.Learnt,
-  start-tag-reads.Asked,
-  start-tag-reads.Learnt,
+  plain-tag-reads.Asked,
+  plain-tag-reads.Learnt,
   part-reads.Asked,
   part-reads.Learnt,
   content-below t,
@@ -326,20 +326,20 @@ element-sub-content t c = search needs
 element-content-requires : (t : ℕ) → element-lts.Need-content-requires (
   open-name-reads.Asked,
   open-name-reads.Learnt,
-  start-tag-reads.Asked,
-  start-tag-reads.Learnt,
+  plain-tag-reads.Asked,
+  plain-tag-reads.Learnt,
   part-reads.Asked,
   part-reads.Learnt,
   content-below t,
   content.Post,
 ) (element-at t) element.Post
-element-content-requires t c κs = (omega (arith, (rw (c .before .before .before .before .before .before .before .r .given .1) at (c .before .before .before .before .before .before .before .before .before .open-name .ensures)) .inside, rw (c .before .before .end .given .1) at (c .before .before .before .before .start-tag .ensures .1), c .before .before .before .before .before .before .before .before .before .before .before .pre), tt)
+element-content-requires t c κs = (omega (arith, (rw (c .before .before .before .before .before .before .before .r .given .1) at (c .before .before .before .before .before .before .before .before .before .open-name .ensures)) .inside, rw (c .before .before .end .given .1) at (c .before .before .before .before .plain-tag .ensures .inside), c .before .before .before .before .before .before .before .before .before .before .before .pre), tt)
 
 element-enum-known-end-2 : (t : ℕ) → element-lts.Need-enum-known-end-2 (
   open-name-reads.Asked,
   open-name-reads.Learnt,
-  start-tag-reads.Asked,
-  start-tag-reads.Learnt,
+  plain-tag-reads.Asked,
+  plain-tag-reads.Learnt,
   part-reads.Asked,
   part-reads.Learnt,
   content-below t,
@@ -350,8 +350,8 @@ element-enum-known-end-2 t c = search needs
 element-enum-known-end-3 : (t : ℕ) → element-lts.Need-enum-known-end-3 (
   open-name-reads.Asked,
   open-name-reads.Learnt,
-  start-tag-reads.Asked,
-  start-tag-reads.Learnt,
+  plain-tag-reads.Asked,
+  plain-tag-reads.Learnt,
   part-reads.Asked,
   part-reads.Learnt,
   content-below t,
@@ -362,8 +362,8 @@ element-enum-known-end-3 t c = search needs
 element-enum-told : (t : ℕ) → element-lts.Need-enum-told (
   open-name-reads.Asked,
   open-name-reads.Learnt,
-  start-tag-reads.Asked,
-  start-tag-reads.Learnt,
+  plain-tag-reads.Asked,
+  plain-tag-reads.Learnt,
   part-reads.Asked,
   part-reads.Learnt,
   content-below t,
@@ -374,50 +374,50 @@ element-enum-told t c = search needs
 element-returns-3 : (t : ℕ) → element-lts.Need-returns-3 (
   open-name-reads.Asked,
   open-name-reads.Learnt,
-  start-tag-reads.Asked,
-  start-tag-reads.Learnt,
+  plain-tag-reads.Asked,
+  plain-tag-reads.Learnt,
   part-reads.Asked,
   part-reads.Learnt,
   content-below t,
   content.Post,
 ) (element-at t) element.Post
-element-returns-3 t c = element-rest _ _ _ _ (rw (c .before .before .before .before .before .before .before .before .r .given .1) at (c .before .before .before .before .before .before .before .before .before .before .open-name .ensures)) _ (c .before .before .before .before .before .before .if1 .left) (rest-open (infoElement (c .before .before .before .before .before .before .before .before .before .before .before .before .args .left - 1)) _ _ _ (c .before .before .before .before .before .start-tag .result) (c .before .before .before .before .before .start-tag .ensures) _ _ (c .before .before .before .end .given .1) (rw (c .before .part .ensures) at (c .content .ensures)))
+element-returns-3 t c = element-rest _ _ _ _ (rw (c .before .before .before .before .before .before .before .before .r .given .1) at (c .before .before .before .before .before .before .before .before .before .before .open-name .ensures)) _ (c .before .before .before .before .before .before .if1 .left) (rest-open (infoElement (c .before .before .before .before .before .before .before .before .before .before .before .before .args .left - 1)) _ _ _ (c .before .before .before .before .before .plain-tag .result) (c .before .before .before .before .before .plain-tag .ensures) _ _ (c .before .before .before .end .given .1) (rw (c .before .part .ensures) at (c .content .ensures)))
 
 element-returns-4 : (t : ℕ) → element-lts.Need-returns-4 (
   open-name-reads.Asked,
   open-name-reads.Learnt,
-  start-tag-reads.Asked,
-  start-tag-reads.Learnt,
+  plain-tag-reads.Asked,
+  plain-tag-reads.Learnt,
   part-reads.Asked,
   part-reads.Learnt,
   content-below t,
   content.Post,
 ) (element-at t) element.Post
-element-returns-4 t c = element-rest _ _ _ _ (rw (c .before .before .before .before .before .before .r .given .1) at (c .before .before .before .before .before .before .before .before .open-name .ensures)) _ (c .before .before .before .before .if1 .left) (rest-empty (infoElement (c .before .before .before .before .before .before .before .before .before .before .args .left - 1)) _ _ _ (c .before .before .before .start-tag .result) (c .before .before .before .start-tag .ensures) _ (c .before .end2 .given .1))
+element-returns-4 t c = element-rest _ _ _ _ (rw (c .before .before .before .before .before .before .r .given .1) at (c .before .before .before .before .before .before .before .before .open-name .ensures)) _ (c .before .before .before .before .if1 .left) (rest-empty (infoElement (c .before .before .before .before .before .before .before .before .before .before .args .left - 1)) _ _ _ (c .before .before .before .plain-tag .result) (c .before .before .before .plain-tag .ensures) _ (c .before .end2 .given .1))
 
 element-returns-5 : (t : ℕ) → element-lts.Need-returns-5 (
   open-name-reads.Asked,
   open-name-reads.Learnt,
-  start-tag-reads.Asked,
-  start-tag-reads.Learnt,
+  plain-tag-reads.Asked,
+  plain-tag-reads.Learnt,
   part-reads.Asked,
   part-reads.Learnt,
   content-below t,
   content.Post,
 ) (element-at t) element.Post
-element-returns-5 t c = element-rest _ _ _ _ (rw (c .before .before .before .before .before .before .r .given .1) at (c .before .before .before .before .before .before .before .before .open-name .ensures)) _ (c .before .before .before .before .if1 .left) (rest-fault (infoElement (c .before .before .before .before .before .before .before .before .before .before .args .left - 1)) _ _ _ (c .before .before .before .start-tag .result) (c .before .before .before .start-tag .ensures) _ _ (c .before .end3 .given .1))
+element-returns-5 t c = element-rest _ _ _ _ (rw (c .before .before .before .before .before .before .r .given .1) at (c .before .before .before .before .before .before .before .before .open-name .ensures)) _ (c .before .before .before .before .if1 .left) (rest-fault (infoElement (c .before .before .before .before .before .before .before .before .before .before .args .left - 1)) _ _ _ (c .before .before .before .plain-tag .result) (c .before .before .before .plain-tag .ensures) _ _ (c .before .end3 .given .1))
 
 element-returns-6 : (t : ℕ) → element-lts.Need-returns-6 (
   open-name-reads.Asked,
   open-name-reads.Learnt,
-  start-tag-reads.Asked,
-  start-tag-reads.Learnt,
+  plain-tag-reads.Asked,
+  plain-tag-reads.Learnt,
   part-reads.Asked,
   part-reads.Learnt,
   content-below t,
   content.Post,
 ) (element-at t) element.Post
-element-returns-6 t c = element-rest _ _ _ _ (rw (c .before .before .before .before .before .r .given .1) at (c .before .before .before .before .before .before .before .open-name .ensures)) _ (c .before .before .before .if1 .left) (rest-cut (infoElement (c .before .before .before .before .before .before .before .before .before .args .left - 1)) _ _ _ (c .before .before .start-tag .result) (c .before .before .start-tag .ensures) (c .enum-told .given .1))
+element-returns-6 t c = element-rest _ _ _ _ (rw (c .before .before .before .before .before .r .given .1) at (c .before .before .before .before .before .before .before .open-name .ensures)) _ (c .before .before .before .if1 .left) (rest-cut (infoElement (c .before .before .before .before .before .before .before .before .before .args .left - 1)) _ _ _ (c .before .before .plain-tag .result) (c .before .before .plain-tag .ensures) (c .enum-told .given .1))
 
 pub +content+element-spec : {M : Type 1} → statement M
 +content+element-spec = close μ-content μ-element (λ t. content-lts.spec (
@@ -452,8 +452,8 @@ pub +content+element-spec : {M : Type 1} → statement M
     λ t. element-lts.spec (
       open-name-reads.Asked,
       open-name-reads.Learnt,
-      start-tag-reads.Asked,
-      start-tag-reads.Learnt,
+      plain-tag-reads.Asked,
+      plain-tag-reads.Learnt,
       part-reads.Asked,
       part-reads.Learnt,
       content-below t,
@@ -465,7 +465,7 @@ pub +content+element-spec : {M : Type 1} → statement M
     (element-enum-known-r t)
     (element-returns t)
     (element-returns-2 t)
-    (element-start-tag-requires t)
+    (element-plain-tag-requires t)
     (element-enum-known-end t)
     (element-add-part t)
     (element-part-requires t)

@@ -3,8 +3,8 @@ use borrow.Author.Needs.{needs}
 use Rattle.info.proofs.text_element.Statement.{statement}
 use Rattle.info.proofs.text_element.Tie as tie
 
-start-tag-requires : tie.Need-start-tag-requires
-start-tag-requires c κs = search needs
+plain-tag-requires : tie.Need-plain-tag-requires
+plain-tag-requires c κs = search needs
 
 enum-known-end : tie.Need-enum-known-end
 enum-known-end c = search needs
@@ -31,22 +31,22 @@ no-text-requires-3 : tie.Need-no-text-requires-3
 no-text-requires-3 c κs = search needs
 
 returns : tie.Need-returns
-returns c = element-open _ _ _ (c .before .before .before .before .start-tag .result) (c .before .before .before .before .start-tag .ensures) _ _ (c .before .before .end .given .1) (c .text-content .ensures)
+returns c = element-open _ _ _ (c .before .before .before .before .plain-tag .result) (c .before .before .before .before .plain-tag .ensures) _ _ (c .before .before .end .given .1) (c .text-content .ensures)
 
 returns-2 : tie.Need-returns-2
-returns-2 c = rw (c .no-text .ensures) (element-empty _ _ _ (c .before .before .before .before .start-tag .result) (c .before .before .before .before .start-tag .ensures) _ (c .before .before .end2 .given .1))
+returns-2 c = rw (c .no-text .ensures) (element-empty _ _ _ (c .before .before .before .before .plain-tag .result) (c .before .before .before .before .plain-tag .ensures) _ (c .before .before .end2 .given .1))
 
 returns-3 : tie.Need-returns-3
-returns-3 c = rw (c .no-text2 .ensures) (element-fault _ _ _ (c .before .before .before .before .start-tag .result) (c .before .before .before .before .start-tag .ensures) _ _ (c .before .before .end3 .given .1))
+returns-3 c = rw (c .no-text2 .ensures) (element-fault _ _ _ (c .before .before .before .before .plain-tag .result) (c .before .before .before .before .plain-tag .ensures) _ _ (c .before .before .end3 .given .1))
 
 returns-4 : tie.Need-returns-4
-returns-4 c = rw (c .no-text3 .ensures) (element-cut _ _ _ (c .before .before .before .start-tag .result) (c .before .before .before .start-tag .ensures) (c .before .enum-told .given .1))
+returns-4 c = rw (c .no-text3 .ensures) (element-cut _ _ _ (c .before .before .before .plain-tag .result) (c .before .before .before .plain-tag .ensures) (c .before .enum-told .given .1))
 
 pub text-element-spec : {M : Type 1} → statement M
 text-element-spec =
     tie.close
     (tie.spec
-    start-tag-requires
+    plain-tag-requires
     enum-known-end
     text-content-requires
     enum-known-end-2

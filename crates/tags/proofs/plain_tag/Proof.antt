@@ -1,0 +1,36 @@
+use Rattle.tags.specs.Rules.{rulesOf}
+use Rattle.tags.specs.declared.TagKind.the-variants.{Plain}
+use Rattle.tags.specs.Ended.{ends-as}
+use Rattle.tags.proofs.Ends.{open-at-once, plainly}
+use borrow.Author.Needs.{needs}
+use Rattle.tags.proofs.plain_tag.Statement.{statement}
+use Rattle.tags.proofs.plain_tag.Tie as tie
+
+shared-slice-read-if2 : tie.Need-shared-slice-read-if2
+shared-slice-read-if2 c = search needs
+
+no-attributes-requires : tie.Need-no-attributes-requires
+no-attributes-requires c κs = search needs
+
+open-end-requires : tie.Need-open-end-requires
+open-end-requires c κs = search needs
+
+returns : tie.Need-returns
+returns c = plainly _ _ _ (open-at-once (rulesOf Plain) _ _ (c .before .before .before .before .if1 .taken) (c .before .before .if2 .taken) _ (c .before .no-attributes .ensures) _ (c .open-end .ensures))
+
+start-tag-requires : tie.Need-start-tag-requires
+start-tag-requires c κs = search needs
+
+returns-2 : tie.Need-returns-2
+returns-2 c = plainly _ _ _ (ends-as (rulesOf Plain) _ _ (c .start-tag .result) (c .start-tag .ensures))
+
+pub plain-tag-spec : {M : Type 1} → statement M
+plain-tag-spec =
+    tie.close
+    (tie.spec
+    shared-slice-read-if2
+    no-attributes-requires
+    open-end-requires
+    returns
+    start-tag-requires
+    returns-2)
