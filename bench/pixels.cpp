@@ -158,6 +158,9 @@ template <class T> static void restore(std::vector<T> &to, const std::vector<T> 
 struct Figures {
     Best apply, scanned, empty, read, rgb, rgba;
     double difference = 0;
+
+    // Whether reading leaves enough of the time for a difference to mean anything.
+    bool tells_pixels() const { return apply.processor - empty.processor > 0.1 * apply.processor; }
 };
 
 static void run_theirs(const OCIO::CPUProcessor &processor, float *pixels, const Size &size, long channels)
@@ -240,11 +243,17 @@ int main(int argc, char **argv)
             const double processor = f.apply.processor - f.empty.processor, wall = f.apply.wall - f.empty.wall;
             std::printf("%-20s", base_of(argv[i]).c_str());
             rate(f.apply.processor, f.apply.wall);
-            rate(processor, wall);
+            if (f.tells_pixels())
+                rate(processor, wall);
+            else
+                std::printf(" %15s", "-");
             rate(f.rgb.processor, f.rgb.wall);
             rate(f.rgba.processor, f.rgba.wall);
             ratio(f.apply.processor, f.apply.wall);
-            ratio(processor, wall);
+            if (f.tells_pixels())
+                ratio(processor, wall);
+            else
+                std::printf(" %13s", "-");
             std::printf(" %11.1e  %s\n", f.difference, theirs.steps.c_str());
             std::fflush(stdout);
             all.push_back(f);
@@ -254,9 +263,11 @@ int main(int argc, char **argv)
         for (int i = 1; i < argc; ++i) {
             const Figures &f = all[size_t(i - 1)];
             const double calls = double(size.count);
-            std::printf("%-20s %14.2f %14.2f %14.3f %14.3f\n", base_of(argv[i]).c_str(), f.read.processor / calls * 1e6,
-                        (f.empty.processor - f.read.processor) / calls * 1e6, (f.scanned.processor - f.empty.processor) / n * 1e9,
-                        (f.apply.processor - f.scanned.processor) / n * 1e9);
+            std::printf("%-20s %14.2f %14.2f", base_of(argv[i]).c_str(), f.read.processor / calls * 1e6, (f.empty.processor - f.read.processor) / calls * 1e6);
+            if (f.tells_pixels())
+                std::printf(" %14.3f %14.3f\n", (f.scanned.processor - f.empty.processor) / n * 1e9, (f.apply.processor - f.scanned.processor) / n * 1e9);
+            else
+                std::printf(" %14s %14s\n", "-", "-");
         }
     }
     std::printf("\n");
