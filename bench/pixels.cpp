@@ -230,17 +230,20 @@ int main(int argc, char **argv)
         std::vector<Figures> all;
         const double n = double(size.all());
         std::printf("\n%s, million pixels a second (processor time; wall time behind /)\n", size.name);
-        std::printf("%-20s %15s %15s %15s %15s %13s %13s %11s  %s\n", "look", "clf_apply", "pixels alone", "OCIO RGB", "OCIO RGBA", "ratio", "pixels alone",
+        std::printf("%-20s %15s %15s %15s %15s %13s %13s %11s  %s\n", "look", "clf_apply", "pixels alone", "OCIO RGB", "OCIO RGBA", "to RGB", "to RGBA",
                     "difference", "what OCIO runs");
         for (int i = 1; i < argc; ++i) {
             Ours ours = ours_from(argv[i]);
             const Theirs theirs = theirs_from(argv[i]);
             const Figures f = measure(ours, theirs, size);
             const auto rate = [&](double processor, double wall) { std::printf(" %7.1f/%7.1f", n / processor / 1e6, n / wall / 1e6); };
-            const auto ratio = [&](double processor, double wall) {
-                std::printf(" %6.2f/%6.2f", std::fmin(f.rgb.processor, f.rgba.processor) / processor, std::fmin(f.rgb.wall, f.rgba.wall) / wall);
-            };
             const double processor = f.apply.processor - f.empty.processor, wall = f.apply.wall - f.empty.wall;
+            const auto ratio = [&](const Best &theirs) {
+                if (f.tells_pixels())
+                    std::printf(" %6.2f/%6.2f", theirs.processor / processor, theirs.wall / wall);
+                else
+                    std::printf(" %13s", "-");
+            };
             std::printf("%-20s", base_of(argv[i]).c_str());
             rate(f.apply.processor, f.apply.wall);
             if (f.tells_pixels())
@@ -249,11 +252,8 @@ int main(int argc, char **argv)
                 std::printf(" %15s", "-");
             rate(f.rgb.processor, f.rgb.wall);
             rate(f.rgba.processor, f.rgba.wall);
-            ratio(f.apply.processor, f.apply.wall);
-            if (f.tells_pixels())
-                ratio(processor, wall);
-            else
-                std::printf(" %13s", "-");
+            ratio(f.rgb);
+            ratio(f.rgba);
             std::printf(" %11.1e  %s\n", f.difference, theirs.steps.c_str());
             std::fflush(stdout);
             all.push_back(f);
