@@ -219,13 +219,13 @@ module _ (rules : Rules) (s : List ℕ) (at : ℕ) (seen : Seen) (spaced : Bool)
                     ∙ ap (λ (l : List Attribute). from rules (state false l) (drop (t + 1) s)) (sym more);
               })
 
--- a tag without attributes
-pub open-at-once : (rules : Rules) (s : List ℕ) (at : ℕ) → at < length s → getD s at 0 ≡ 62 → (seen : Seen) → seen ≡ noAttributes → (e : TagEnd)
-    → EndIs s seen at e ((openEnd rules (attributesOf s seen)) .run (drop at s)) → EndsAs rules s at e
+-- a plain tag without attributes
+pub open-at-once : (s : List ℕ) (at : ℕ) → at < length s → getD s at 0 ≡ 62 → EndsAs plain s at (Open (at + 1))
 unfolding isSpace
-open-at-once rules s at h g seen q e x =
+open-at-once s at h g =
     let p : isSpace (getD s at 0) ≡ false = rw g refl in
-    ends-as rules s at (record { end = e; seen = seen }) (tag-open rules s at seen false at (rw q (tag-start rules s at)) h p g e x)
+    ends-as plain s at (record { end = Open (at + 1); seen = noAttributes })
+    (tag-open plain s at noAttributes false at (tag-start plain s at) h p g (Open (at + 1)) (open-done plain s noAttributes at h 0 refl refl))
 
 -- `plain` is what a plain tag asks
 pub plainly : (s : List ℕ) (at : ℕ) (e : TagEnd) → EndsAs (rulesOf Kinds.Plain) s at e → EndsAs plain s at e

@@ -713,7 +713,7 @@ pub fn plain_tag(s: &[u8], at: usize) -> TagEnd
 {
     if at < s.len() {
         if s[at] == b'>' {
-            return open_end(s, at, TagKind::Plain, no_attributes());
+            return TagEnd::Open(at + 1);
         }
     }
     let tag = start_tag(s, at, TagKind::Plain);

@@ -9,14 +9,11 @@ use Rattle.tags.proofs.plain_tag.Tie as tie
 shared-slice-read-if2 : tie.Need-shared-slice-read-if2
 shared-slice-read-if2 c = search needs
 
-no-attributes-requires : tie.Need-no-attributes-requires
-no-attributes-requires c κs = search needs
-
-open-end-requires : tie.Need-open-end-requires
-open-end-requires c κs = search needs
+add-t9 : tie.Need-add-t9
+add-t9 c = search needs
 
 returns : tie.Need-returns
-returns c = plainly _ _ _ (open-at-once (rulesOf Plain) _ _ (c .before .before .before .before .if1 .taken) (c .before .before .if2 .taken) _ (c .before .no-attributes .ensures) _ (c .open-end .ensures))
+returns c = open-at-once _ _ (c .before .before .if1 .taken) (c .if2 .taken)
 
 start-tag-requires : tie.Need-start-tag-requires
 start-tag-requires c κs = search needs
@@ -29,8 +26,7 @@ plain-tag-spec =
     tie.close
     (tie.spec
     shared-slice-read-if2
-    no-attributes-requires
-    open-end-requires
+    add-t9
     returns
     start-tag-requires
     returns-2)
