@@ -14,7 +14,8 @@ use Rattle.grammar.specs.Parse.{Out, done, fault, cut}
 use Rattle.clf.specs.Nodes.{NodeRead}
 use Rattle.clf.specs.Reading.{Reading, accepted, faulty, unfit, mostBytes, elementsOf, placeIn, listReading, readText, read}
 use Rattle.clf.specs.Reading as R
-use Rattle.claims.specs.Replacing.{element, Answer, refused, answerOf, isNumbered, byVerdict, listed, byElement, replace, listAfter, nodeSpan, spliced, Attempt, answers, tries, trying, attemptElement, attempt, settled, byAttempt, fileCall, listCall, SmallAttempt, Small, SameRun}
+use Rattle.look.specs.Replacing.{element, Answer, refused, isNumbered, byVerdict, listed, byElement, replace, listAfter}
+use Rattle.claims.specs.TriedFile.{answerOf, nodeSpan, spliced, Attempt, answers, tries, trying, attemptElement, attempt, settled, byAttempt, fileCall, listCall, SmallAttempt, Small, SameRun}
 use Rattle.claims.proofs.Sound.{and-true}
 use Rattle.claims.proofs.Spliced.{Opened, opened, spliced-done, spliced-fault}
 use Rattle.claims.proofs.Rules.{Short, read-short}

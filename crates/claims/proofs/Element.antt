@@ -14,7 +14,7 @@ use Rattle.xml.specs.Bytes.{bytes, same, isLetter, isDigit, isNameByte, lessTha
 use Rattle.xml.specs.Xml.{byte, word, name}
 use Rattle.clf.specs.Nodes.{NodeName, isMatrix, isLut1d, isRange, isCdl, notCarried, nodeName, nodeFault, nodeBody}
 use Rattle.clf.specs.List.{node, Flags, childFault, childBody}
-use Rattle.claims.specs.Replacing.{afterLut, afterL, startName, nameEnds, start}
+use Rattle.look.specs.Replacing.{afterLut, afterL, startName, nameEnds, start}
 use Rattle.claims.proofs.Sound.{and-true}
 use Rattle.claims.proofs.Faults.{Blames, fair-by, blames-ret, blames-bad, blames-cond, blames-look, blames-eat, blames-byte, blames-word, blames-seq, blames-blame}
 

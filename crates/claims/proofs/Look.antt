@@ -17,8 +17,10 @@ use Rattle.valid.proofs.Readings.{all-length, reading-valid, reading-elements}
 use Rattle.valid.proofs.Readings as Readings
 use Rattle.clf.specs.Nodes.{NodeRead}
 use Rattle.clf.specs.Reading.{Reading, accepted, mostBytes, elementsOf, nodesIn, readText, read}
-use Rattle.claims.specs.Replacing.{Answer, replaced, refused, replace, listAfter, Attempt, attempt, fileCall, listCall, fileRun, Small}
-use Rattle.claims.specs.Look.{Look, roomOf, holding, readInto, replaceIn, lookAfter, lookRun, SameLook}
+use Rattle.look.specs.Replacing.{Answer, replaced, refused, replace, listAfter}
+use Rattle.claims.specs.TriedFile.{Attempt, attempt, fileCall, listCall, fileRun, Small}
+use Rattle.look.specs.Look.{Look, roomOf, holding, replaceIn, lookAfter}
+use Rattle.claims.specs.LookRuns.{readInto, lookRun, SameLook}
 use Rattle.claims.proofs.Rules.{Short, read-short, WholeElements, text-elements}
 use Rattle.claims.proofs.Demand.{Agree, one-call, read-small, call-small, stays-small}
 

@@ -21,7 +21,7 @@ use Rattle.clf.specs.Nodes.{NodeRead, NodeName, nodeName, nodeFault, nodeBody}
 use Rattle.clf.specs.List.{declaration, node, description, inputDescriptor, outputDescriptor, infoChild, Flags, noFlags, childFault, childBody, listItem, nextFlags, listRules, rootFault, toRoot, prologue, head, Document, listContent, document, onward, tailPart, tail}
 use Rattle.clf.specs.Reading.{nodesOf, elementsOf, placeIn, byVerdict, listReading, tailReading, textReading, readText}
 use Rattle.claims.specs.Refusals.{isTextFault, Answered, whole, short, text, list}
-use Rattle.claims.specs.Replacing.{start, element}
+use Rattle.look.specs.Replacing.{start, element}
 use Rattle.claims.proofs.Faults.{fair-zero, fair-by, fair-cond, blames-ret, blames-bad, blames-cond, blames-strict, blames-blame, blames-kept, blames-word, blames-seq, blames-loop}
 use Rattle.claims.proofs.Blamed.{Textual, Well, Right, three, five, RightRules, startTag-well, endTag-well, strayEnd-well, between-well, textElement-well, info-well}
 use Rattle.claims.proofs.BlamedNodes.{eight, name-right, node-well}

@@ -8,7 +8,7 @@ use Rattle.xml.specs.Bytes.{bytes, same, isSpace, isLetter, isDigit, isNameByte
 use Rattle.xml.specs.Xml.{spaces, name, text, attribute, isNamed, startTag}
 use Rattle.clf.specs.Nodes.{NodeRead, depthOf, matrix, range, lut1d, ascCdl}
 use Rattle.clf.specs.Reading.{placeIn}
-use Rattle.claims.specs.Replacing.{start, element}
+use Rattle.look.specs.Replacing.{start, element}
 
 abbrev pub answer : List ℕ → Out NodeRead → ℕ × ℕ
 answer e (done n r) = (0, placeIn e r)

@@ -12,7 +12,7 @@ use Rattle.xml.specs.Xml.{Tag}
 use Rattle.xml.specs.Elements.{child}
 use Rattle.clf.specs.Nodes.{NodeRead}
 use Rattle.clf.specs.List.{node, Flags, noFlags, listItem, nextFlags, head, listContent, document}
-use Rattle.claims.specs.Replacing.{spliced}
+use Rattle.claims.specs.TriedFile.{spliced}
 use Rattle.claims.proofs.Found.{Items, node-bytes}
 use Rattle.claims.proofs.NodeEnds.{node-end}
 

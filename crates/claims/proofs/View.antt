@@ -13,7 +13,7 @@ use Rattle.xml.specs.Xml.{openName}
 use Rattle.xml.specs.Elements.{Part, child, between}
 use Rattle.clf.specs.Nodes.{NodeRead, NodeName, nodeFault, nodeBody}
 use Rattle.clf.specs.List.{Child, node, Flags, childFault, childBody, listItem}
-use Rattle.claims.specs.Replacing.{start, element}
+use Rattle.look.specs.Replacing.{start, element}
 use Rattle.claims.proofs.Element.{name-is, letter-not, NodeWord, Started, start-done, start-blames, start-place}
 
 -- what an item of a child's name w gives

@@ -1,5 +1,5 @@
 pub mod Refusals
 pub mod Cut
 pub mod Rules
-pub mod Replacing
-pub mod Look
+pub mod TriedFile
+pub mod LookRuns

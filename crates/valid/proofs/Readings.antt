@@ -52,7 +52,7 @@ sound-whole-numbers e h =
     eqb-true (length (e .numbers)) (numbersOf (e .kind)) (both-true a b (q .0) .1)
 
 -- a node of an element has the element's kind
-head-kind : (e : Element) → nodeOf e .kind ≡ e .kind
+pub head-kind : (e : Element) → nodeOf e .kind ≡ e .kind
 unfolding nodeOf unplaced
 head-kind e = refl
 
@@ -95,11 +95,11 @@ part f n x o y s =
     rw e1 (rw (e2, e3) at r)
 
 -- ---- positions without gaps
-stands-kind : (a : ℕ) (n : Node) → standing a n .kind ≡ n .kind
+pub stands-kind : (a : ℕ) (n : Node) → standing a n .kind ≡ n .kind
 unfolding standing
 stands-kind a n = refl
 
-stands-at : (a : ℕ) (n : Node) → standing a n .at ≡ a
+pub stands-at : (a : ℕ) (n : Node) → standing a n .at ≡ a
 unfolding standing
 stands-at a n = refl
 

@@ -1,0 +1,26 @@
+-- Demand 3 over a look: the list, and the table room in two lent slices, after a reading and any run of replacing calls.
+use mathlib.Core.Path.{_≡_}
+use mathlib.Core.List.{List, [], _∷_}
+use Prim.Native.Nat.{ℕ}
+use Rattle.clf.specs.Reading.{elementsOf, nodesIn, read}
+use Rattle.look.specs.Replacing.{Answer}
+use Rattle.look.specs.Look.{Look, roomOf, holding, replaceIn, lookAfter}
+use Rattle.claims.specs.TriedFile.{fileRun}
+
+-- what a reading leaves: 'A refused reading gives no nodes and zeroed room'
+abbrev pub readInto : Look → List ℕ → Look
+readInto x s = holding x (elementsOf (nodesIn (read (roomOf x) s)))
+
+-- a run of calls: the answers, and the look after them
+abbrev pub lookRun : Look → List (ℕ × List ℕ) → List Answer × Look
+lookRun x [] = ([], x)
+lookRun x (c ∷ calls) =
+    let a : Answer = replaceIn x (c .0) (c .1) in
+    let z : List Answer × Look = lookRun (lookAfter x a) calls in
+    (a ∷ z .0, z .1)
+
+-- DEMAND 3, over list and room: the file s is read into x, then the calls are made. The answers are those of the tried files; and list and room are
+-- those of 'a fresh reading, into equal room, of the file with every accepted element in place and the refused ones ignored'
+pub record SameLook (x : Look) (s : List ℕ) (calls : List (ℕ × List ℕ)) : Type 0 where
+  pub answers : lookRun (readInto x s) calls .0 ≡ fileRun (read (roomOf x)) s calls .0
+  pub look : lookRun (readInto x s) calls .1 ≡ readInto x (fileRun (read (roomOf x)) s calls .1)

@@ -1,0 +1,87 @@
+-- Replacing a node by an element (document 01, Replacing): the element alone, the answer of a call, and the call by the list alone.
+use mathlib.Core.Bool.{Bool, cond, _&&_}
+use mathlib.Core.List.{List, [], _∷_}
+use Prim.Native.Nat.{ℕ, _-_}
+use lib.Dec.{eqb, leb, ltb}
+use lib.ListN.{length, set}
+use Rattle.process_list.specs.declared.Verdict.{Verdict}
+use Rattle.process_list.specs.declared.Verdict.the-variants.{Accepted, NoNode, TooManyNodes, DepthDiffers, TooManyNumbers}
+use Rattle.process_list.specs.List.{Element, verdict, refusalOf, placeOf}
+use Rattle.grammar.specs.Parse.{Out, done, fault, cut}
+use Rattle.grammar.specs.Grammar.{G, ret, bad, look, judge, blame, eat, seq, _>>_}
+use Rattle.xml.specs.Bytes.{bytes, isNameByte, lessThan}
+use Rattle.xml.specs.Xml.{byte, word}
+use Rattle.clf.specs.Nodes.{NodeRead, NodeName, isMatrix, isLut1d, isRange, isCdl, notCarried, nodeFault, nodeBody}
+use Rattle.clf.specs.Reading.{mostBytes, placeIn}
+
+-- ---- the element alone
+
+-- 'The element starts at its first byte with `<` and one of the seven node names (carried or not)': the names by their bytes. A byte that no name has there is 20
+abbrev pub afterLut : ℕ → G NodeName
+afterLut b = cond (eqb b 49) (word (bytes "1D") 20 >> ret isLut1d) (word (bytes "3D") 20 >> ret notCarried)
+
+abbrev pub afterL : ℕ → G NodeName
+afterL b = cond (eqb b 85) (word (bytes "UT") 20 >> look afterLut) (word (bytes "og") 20 >> ret notCarried)
+
+abbrev pub startName : ℕ → G NodeName
+startName b =
+    cond (eqb b 77) (word (bytes "Matrix") 20 >> ret isMatrix)
+    (cond (eqb b 76) (eat >> look afterL)
+    (cond (eqb b 82) (word (bytes "Range") 20 >> ret isRange)
+    (cond (eqb b 65) (word (bytes "ASC_CDL") 20 >> ret isCdl)
+    (word (bytes "Exponent") 20 >> ret notCarried))))
+
+-- a name goes on as long as name bytes follow: `<MatrixX` starts with no node name
+abbrev pub nameEnds : NodeName → ℕ → G NodeName
+nameEnds n b = cond (isNameByte b) (bad 20) (ret n)
+
+-- 'any other start .. is 20', at 0, 'and nothing else is judged at that place; no bytes at all, or a beginning of such a start, is 1'
+unfoldable pub start : G NodeName
+start = blame (seq (byte lessThan 20 >> look startName) (λ n. look (nameEnds n)))
+
+-- the element: its start; a node that is not carried is 7 there; and what stands behind its name, as in a file
+unfoldable pub element : G NodeRead
+element = seq (judge nodeFault start) nodeBody
+
+-- ---- the answer of a call
+
+-- 0 and the elements of the list as it then is, or a refusal number and its place
+pub data Answer : Type 0 where
+  replaced : List Element → Answer
+  refused : ℕ → ℕ → Answer
+
+-- 'node number, from 1'
+abbrev pub isNumbered : ℕ → ℕ → Bool
+isNumbered k count = ltb 0 k && leb k count
+
+-- ---- by the list alone: 'Replacing: 16, 19, 4 (the element alone), then the element's own fault, then 10, 13'. The list is a reading, so 16 does not arise
+
+abbrev pub byVerdict : List Element → Verdict → Answer
+byVerdict es Accepted = replaced es
+byVerdict es NoNode = refused (refusalOf NoNode) (placeOf NoNode)
+byVerdict es TooManyNodes = refused (refusalOf TooManyNodes) (placeOf TooManyNodes)
+byVerdict es (DepthDiffers k) = refused (refusalOf (DepthDiffers k)) (placeOf (DepthDiffers k))
+byVerdict es TooManyNumbers = refused (refusalOf TooManyNumbers) (placeOf TooManyNumbers)
+
+-- the list with its new element, for a room of this length
+unfoldable pub listed : ℕ → List Element → Answer
+listed room es = byVerdict es (verdict room es)
+
+-- by what the element alone is: 'bytes after' are 20 at the first of them; a place is counted in the element
+abbrev pub byElement : ℕ → List Element → ℕ → List ℕ → Out NodeRead → Answer
+byElement room es k e (done n []) = listed room (set es (k - 1) (n .element))
+byElement room es k e (done n (b ∷ r)) = refused 20 (placeIn e (b ∷ r))
+byElement room es k e (fault j r) = refused j (placeIn e r)
+byElement room es k e cut = refused 1 (length e)
+
+-- the element e in the place of node k
+unfoldable pub replace : ℕ → List Element → ℕ → List ℕ → Answer
+replace room es k e =
+    cond (isNumbered k (length es))
+    (cond (ltb mostBytes (length e)) (refused 4 0) (byElement room es k e (element .run e)))
+    (refused 19 0)
+
+-- 'Any other refusal changes nothing'
+abbrev pub listAfter : List Element → Answer → List Element
+listAfter es (replaced new) = new
+listAfter es (refused n p) = es
