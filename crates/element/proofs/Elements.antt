@@ -1,0 +1,74 @@
+-- An element, by its start and what stands behind its name. Assumes nothing.
+use mathlib.Core.Path.{_≡_, refl, ap, _∙_}
+use mathlib.Core.Bool.{false}
+use mathlib.Core.List.{List, []}
+use Prim.Native.Nat.{ℕ}
+use native.Mathlib.Omega.{arith}
+use lib.IntN.{ℤ}
+use Rattle.process_list.specs.declared.Kind.the-variants.{Matrix}
+use Rattle.process_list.specs.declared.Depth.the-variants.{I8}
+use Rattle.grammar.specs.Parse.{Out, Parser, thenOut, judgeP}
+use Rattle.xml.specs.Code.{Inside, Reads, Failed}
+use Rattle.xml.specs.CodeLaws.{reads-well, reads-ill, reads-unjudged}
+use Rattle.xml.specs.declared.Scan.{Scan}
+use Rattle.xml.specs.declared.Scan.the-variants.{At, Fault, Cut}
+use Rattle.clf.specs.Nodes.{NodeRead, NodeName, nodeFault, nodeBody}
+use Rattle.nodes.specs.Code.{carriedOf}
+use Rattle.nodes.specs.declared.CarriedNode.{CarriedNode}
+use Rattle.nodes.specs.declared.CarriedNode.the-variants as Carrieds
+use Rattle.node_parts.specs.Code.{NodeReads, noNode}
+use Rattle.node_parts.specs.declared.NodeStep.{NodeStep}
+use Rattle.node_parts.proofs.Reading.{NodeIs, NodePart, to-failed, node-reads, none-part}
+use Rattle.look.specs.Replacing.{start, element}
+
+abbrev judged : Parser NodeName
+judged = judgeP nodeFault (start .run)
+
+abbrev body : NodeName → Parser NodeRead
+body n = (nodeBody n) .run
+
+carried-well : (n : CarriedNode) → nodeFault (carriedOf n) ≡ 0
+carried-well Carrieds.Matrix = refl
+carried-well Carrieds.Lut1d = refl
+carried-well Carrieds.Range = refl
+carried-well Carrieds.Cdl = refl
+
+anyNode : NodeRead
+anyNode = record { element = record { kind = Matrix false; input = I8; output = I8; numbers = [] }; description = [] }
+
+module _ (s : List ℕ) (base : ℕ) where
+  none : (c p : List ℤ) (n : NodeName) (r : Scan) → Failed r → Reads 1 judged (λ e. n) s 0 r → NodeReads (element .run) s 0 base (noNode r) c p c p
+  unfolding element
+  none c p n r f v =
+      node-reads s base (noNode r) c p c p (element .run) 0
+      (to-failed judged s 0 (NodeIs s base (noNode r) c p c p) (NodePart s base (noNode r) c p c p) body (λ e. n) r f anyNode (none-part s base c p r) v)
+
+  -- no start
+  pub element-none : (c p : List ℤ) (n : NodeName) (r : Scan) → Failed r → Reads 1 (start .run) (λ e. n) s 0 r → NodeReads (element .run) s 0 base (noNode r) c p c p
+  element-none c p n r f v = none c p n r f (reads-unjudged (start .run) (λ e. n) s 0 nodeFault 1 1 r f v)
+
+  -- the start of a node that is not carried
+  pub element-fault : (c p : List ℤ) (n : NodeName) (k e : ℕ) → nodeFault n ≡ k → (k ≡ 0 → ⊥) → Reads 1 (start .run) (λ e. n) s 0 (At e)
+      → NodeReads (element .run) s 0 base (noNode (Fault k 0)) c p c p
+  element-fault c p n k e q z v = none c p n (Fault k 0) tt (reads-ill (start .run) (λ e. n) s 0 nodeFault 1 1 e k q z v)
+
+  -- a carried node
+  pub element-node : (c₀ p₀ c₁ p₁ : List ℤ) (n : CarriedNode) (e : ℕ) (step : NodeStep) → Reads 1 (start .run) (λ e. carriedOf n) s 0 (At e)
+      → NodeReads (body (carriedOf n)) s e base step c₀ p₀ c₁ p₁ → NodeReads (element .run) s 0 base step c₀ p₀ c₁ p₁
+  unfolding element
+  element-node c₀ p₀ c₁ p₁ n e step v w =
+      let j : Reads 1 judged (λ e. carriedOf n) s 0 (At e) = reads-well (start .run) (λ e. carriedOf n) s 0 nodeFault 1 e (carried-well n) v in
+      record {
+        value = w .value;
+        out = w .out ∙ ap (λ (o : Out NodeName). thenOut o body) (j .out);
+        inside = later (step .scan) (w .inside);
+        node = w .node;
+        about = w .about;
+        all = w .all;
+        room = w .room;
+      }
+    where
+      later : (r : Scan) → Inside 1 s e r → Inside 1 s 0 r
+      later (At q) i = (omega arith, i .1)
+      later (Fault k q) i = (omega arith, i .1)
+      later Cut i = tt
