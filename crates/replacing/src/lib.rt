@@ -1,0 +1,155 @@
+// Replacing a node of a look by an element (document 01, Replacing): 16, 19, 4 (the element alone), then the element's own fault, then 10, 13.
+// The element is read twice: first alone, so that a refusal changes nothing, then into the room.
+ghost use mathlib.Core.Path.{_≡_};
+ghost use Prim.Native.Nat.{_≤_, _<_};
+ghost use lib.ListN.{length};
+ghost use Rattle.replacing.specs.Code as Code;
+use node_parts::NodeStep;
+use process_list::Node;
+use process_list::ProcessList;
+use reading::Answer;
+use reading::Judged;
+use xml::Scan;
+
+fn refused(number: u8, place: usize, list: ProcessList) -> Answer
+    ensures { λ r. ⌜ r ≡ Code.refusedAnswer number place list ⌝ }
+{
+    Answer {
+        number,
+        place,
+        list,
+    }
+}
+
+// 16, 19 or 4, or 0 where none is given, for an element of this length.
+fn call_fault(list: ProcessList, coefficients: &[i64], powers: &[i8], k: usize, length: usize) -> u8
+    ensures { λ r. ⌜ Code.CallFault list (now (coefficients .entry)) (now (powers .entry)) k length r ⌝ }
+{
+    let count = process_list::held(list);
+    if !valid::valid(list, coefficients, powers) {
+        return 16;
+    }
+    if k == 0 {
+        return 19;
+    }
+    if count < k {
+        return 19;
+    }
+    if 16777216 < length {
+        return 4;
+    }
+    0
+}
+
+// The element without room.
+fn element_alone(element: &[u8]) -> NodeStep
+    ensures { λ r. ⌜ Code.ElementAlone (now (element .entry)) r ⌝ }
+{
+    let mut coefficients = [0i64; 1];
+    let mut powers = [0i8; 1];
+    element::element(element, &mut coefficients, &mut powers, 0)
+}
+
+// What is to be said of bytes that read so as an element: those behind it are 20.
+fn judge_element(element: &[u8], scan: Scan) -> Judged
+    ensures { λ r. ⌜ r ≡ Code.judgedScan (length (now (element .entry))) scan ⌝ }
+{
+    match scan {
+        Scan::Fault(n, p) => Judged::Refused(n, p),
+        Scan::Cut => Judged::Refused(1, element.len()),
+        Scan::At(e) => {
+            if e < element.len() {
+                return Judged::Refused(20, e);
+            }
+            Judged::Accepted
+        }
+    }
+}
+
+// The element in the place of node i, from 0, in the room: the old numbers give way, and the element, which has this node, is read there.
+fn store_element(
+    list: ProcessList,
+    coefficients: &mut [i64],
+    powers: &mut [i8],
+    i: usize,
+    node: Node,
+    element: &[u8],
+)
+    ensures { λ _. ⌜ Code.Stores list i node (now (element .entry)) (now (coefficients .entry)) (now (powers .entry)) (now (coefficients .exit)) (now (powers .exit)) ⌝ }
+{
+    let old = process_list::get(list, i);
+    let at = old.at;
+    let old_kind = old.kind;
+    let new_kind = node.kind;
+    let old_count = process_list::numbers_of(old_kind);
+    let new_count = process_list::numbers_of(new_kind);
+    let used = process_list::used(list);
+    room::resize(coefficients, powers, at, old_count, new_count, used);
+    element::element(element, coefficients, powers, at);
+}
+
+// The element, which has this node and no fault, in the place of node k, from 1: 10 or 13, or it is there.
+fn replace_node(
+    list: ProcessList,
+    coefficients: &mut [i64],
+    powers: &mut [i8],
+    k: usize,
+    node: Node,
+    element: &[u8],
+) -> Answer
+    requires { ⌜ Code.Fits list (now coefficients) (now powers) k node (now element) ⌝ }
+    ensures { λ r. ⌜ Code.Replaced list (now (coefficients .entry)) (now (powers .entry)) k (now (element .entry)) r (now (coefficients .exit)) (now (powers .exit)) ⌝ }
+{
+    let i = k - 1;
+    let next = process_list::replaced(list, i, node);
+    let room = room::length(coefficients, powers);
+    let verdict = process_list::judge(false, next, room);
+    let number = process_list::refusal(verdict);
+    if number != 0 {
+        return refused(number, process_list::place(verdict), list);
+    }
+    store_element(list, coefficients, powers, i, node, element);
+    Answer {
+        number: 0,
+        place: 0,
+        list: process_list::placed(next),
+    }
+}
+
+// The element in the place of node k of a valid look.
+fn replace_valid(
+    list: ProcessList,
+    coefficients: &mut [i64],
+    powers: &mut [i8],
+    k: usize,
+    element: &[u8],
+) -> Answer
+    requires { ⌜ Code.Callable list (now coefficients) (now powers) k (now element) ⌝ }
+    ensures { λ r. ⌜ Code.Replaced list (now (coefficients .entry)) (now (powers .entry)) k (now (element .entry)) r (now (coefficients .exit)) (now (powers .exit)) ⌝ }
+{
+    let step = element_alone(element);
+    let scan = step.scan;
+    let node = step.node;
+    let j = judge_element(element, scan);
+    match j {
+        Judged::Refused(n, p) => refused(n, p, list),
+        Judged::Accepted => replace_node(list, coefficients, powers, k, node, element),
+    }
+}
+
+// Puts the element in the place of node k, from 1, in list and room; refused, nothing changes, and the answer has the list as it was given.
+pub fn replace(
+    list: ProcessList,
+    coefficients: &mut [i64],
+    powers: &mut [i8],
+    k: usize,
+    element: &[u8],
+) -> Answer
+    ensures { λ r. ⌜ Code.Replaced list (now (coefficients .entry)) (now (powers .entry)) k (now (element .entry)) r (now (coefficients .exit)) (now (powers .exit)) ⌝ }
+{
+    let number = call_fault(list, coefficients, powers, k, element.len());
+    if number != 0 {
+        return refused(number, 0, list);
+    }
+    replace_valid(list, coefficients, powers, k, element)
+}
