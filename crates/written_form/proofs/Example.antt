@@ -1,0 +1,65 @@
+-- Document 01's whole example, a list with each other form of node, and an output of exactly the text's length, computed. Assumes nothing.
+use mathlib.Core.Path.{_≡_, refl}
+use mathlib.Core.Bool.{true, false}
+use mathlib.Core.List.{List, [], _∷_, _++_}
+use lib.IntN.{pos, negsuc}
+use Rattle.decimal.specs.declared.Decimal.{Decimal}
+use Rattle.process_list.specs.declared.Depth.the-variants.{I8, I10, I12, I16, F16, F32}
+use Rattle.process_list.specs.declared.Kind.the-variants.{Matrix, Lut1d, Range, Cdl}
+use Rattle.process_list.specs.List.{Element}
+use Rattle.xml.specs.Bytes.{bytes}
+use Rattle.decimal_write.specs.Written.{digitsWithin, digits, whole, exponent, writtenOf}
+use Rattle.written_form.specs.Written.{spacedText, rowText, rowsText, arrayText, valueText, rangeText, sopText, satText, contentText, startText, endText, nodeText, nodesText, headText, listText, refused, written, fitting, outputOf}
+
+abbrev zero : Decimal
+zero = record { coefficient = pos 0; power = pos 0 }
+
+abbrev one : Decimal
+one = record { coefficient = pos 1; power = pos 0 }
+
+-- 5e-1
+abbrev half : Decimal
+half = record { coefficient = pos 5; power = negsuc 0 }
+
+-- -25e22
+abbrev large : Decimal
+large = record { coefficient = negsuc 24; power = pos 22 }
+
+-- 'Whole, for id `a`'
+pub whole-example : listText (bytes "a") (record { kind = Range true; input = F32; output = F32; numbers = zero ∷ one ∷ zero ∷ half ∷ [] } ∷ [])
+    ≡ bytes "<?xml version=\"1.0\" encoding=\"UTF-8\"?>\n<ProcessList id=\"a\" compCLFversion=\"3.0\">\n<Range inBitDepth=\"32f\" outBitDepth=\"32f\" style=\"Clamp\">\n<minInValue>0</minInValue>\n<maxInValue>1</maxInValue>\n<minOutValue>0</minOutValue>\n<maxOutValue>5e-1</maxOutValue>\n</Range>\n</ProcessList>\n"
+unfolding listText headText nodesText nodeText startText endText contentText rangeText valueText rowText spacedText writtenOf whole exponent digits digitsWithin
+whole-example = refl
+
+-- a Matrix 3x4, a LUT1D of two entries of three columns, an ASC_CDL of style FwdNoClamp, a Range of style noClamp
+abbrev others : List Element
+others =
+    record { kind = Matrix true; input = I10; output = F16; numbers = one ∷ zero ∷ zero ∷ large ∷ zero ∷ one ∷ zero ∷ zero ∷ zero ∷ zero ∷ one ∷ half ∷ [] }
+    ∷ record { kind = Lut1d 2 3; input = F16; output = I8; numbers = zero ∷ zero ∷ zero ∷ one ∷ half ∷ one ∷ [] }
+    ∷ record { kind = Cdl false; input = I8; output = I12; numbers = one ∷ half ∷ one ∷ zero ∷ zero ∷ half ∷ one ∷ one ∷ one ∷ half ∷ [] }
+    ∷ record { kind = Range false; input = I12; output = I16; numbers = zero ∷ one ∷ zero ∷ one ∷ [] }
+    ∷ []
+
+pub other-nodes : nodesText others []
+    ≡ bytes "<Matrix inBitDepth=\"10i\" outBitDepth=\"16f\">\n<Array dim=\"3 4\">\n1 0 0 -25e22\n0 1 0 0\n0 0 1 5e-1\n</Array>\n</Matrix>\n"
+    ++ (bytes "<LUT1D inBitDepth=\"16f\" outBitDepth=\"8i\">\n<Array dim=\"2 3\">\n0 0 0\n1 5e-1 1\n</Array>\n</LUT1D>\n"
+    ++ (bytes "<ASC_CDL inBitDepth=\"8i\" outBitDepth=\"12i\" style=\"FwdNoClamp\">\n<SOPNode>\n<Slope>1 5e-1 1</Slope>\n<Offset>0 0 5e-1</Offset>\n<Power>1 1 1</Power>\n</SOPNode>\n<SatNode>\n<Saturation>5e-1</Saturation>\n</SatNode>\n</ASC_CDL>\n"
+    ++ bytes "<Range inBitDepth=\"12i\" outBitDepth=\"16i\" style=\"noClamp\">\n<minInValue>0</minInValue>\n<maxInValue>1</maxInValue>\n<minOutValue>0</minOutValue>\n<maxOutValue>1</maxOutValue>\n</Range>\n"))
+unfolding nodesText nodeText startText endText contentText arrayText rowsText rangeText sopText satText valueText rowText spacedText writtenOf whole exponent digits digitsWithin
+other-nodes = refl
+
+-- an output of the text's length is long enough, one of a byte less is 17
+pub exact-fit : fitting 3 (bytes "abc") ≡ written (bytes "abc")
+unfolding fitting
+exact-fit = refl
+
+pub one-short : fitting 2 (bytes "abc") ≡ refused 17
+unfolding fitting
+one-short = refl
+
+-- what stands behind the text stays; refused, all does
+pub behind-text : outputOf (written (bytes "abc")) (bytes "vwxyz") ≡ bytes "abcyz"
+behind-text = refl
+
+pub none-changed : outputOf (refused 17) (bytes "vw") ≡ bytes "vw"
+none-changed = refl

@@ -1,0 +1,214 @@
+-- A valid list's text is shorter than 16 MiB, so that it can be read back. Assumes nothing.
+use mathlib.Core.Path.{_≡_, refl}
+use mathlib.Core.Bool.{Bool, true, false, _&&_, _||_, false≢true}
+use mathlib.Core.List.{List, [], _∷_, _++_, map}
+use Prim.Native.Nat.{ℕ, zero, suc, _+_, _*_, _≤_, _<_, _^_}
+use native.Mathlib.Omega.{arith}
+use borrow.Author.Tests.{leb-true, eqb-true}
+use lib.Dec.{eqb, leb, lit≤}
+use lib.IntN.{ℤ}
+use lib.ListN.{length, take, drop, length-append, length-take, length-drop}
+use Rattle.decimal.specs.declared.Decimal.{Decimal}
+use Rattle.decimal_write.specs.Written.{digits, writtenOf}
+use Rattle.decimal_write.specs.Laws.{digits-short, written-short}
+use Rattle.process_list.specs.declared.Depth.{Depth}
+use Rattle.process_list.specs.declared.Depth.the-variants.{I8, I10, I12, I16, F16, F32}
+use Rattle.process_list.specs.declared.Kind.{Kind}
+use Rattle.process_list.specs.declared.Kind.the-variants.{Matrix, Lut1d, Range, Cdl}
+use Rattle.process_list.specs.declared.Node.{Node}
+use Rattle.process_list.specs.declared.ProcessList.{ProcessList}
+use Rattle.process_list.specs.List.{Element, numbersOf, total, nodesOf}
+use Rattle.room.specs.Room.{roomLength}
+use Rattle.valid.specs.Valid.{every, isValid, listRight, restZero, sound, shapeRight, tableRight, carried, rulesHold, elementOf, elementsOf}
+use Rattle.valid.proofs.Elements.{both-true, Right, right-parts, right-few}
+use Rattle.xml.specs.Bytes.{bytes}
+use Rattle.written_form.specs.Written.{spacedText, rowText, rowsText, arrayText, valueText, rangeText, sopText, satText, contentText, nameText, depthText, styleText, startText, endText, nodeText, nodesText, headText, listText, isIdByte, idRight}
+
+-- ---- numbers: at most 20 bytes each, and one byte to part them
+spaced-short : (ds : List Decimal) (t : List ℕ) → length (spacedText ds t) ≤ 21 * length ds + length t
+unfolding spacedText
+spaced-short [] t = omega arith
+spaced-short (d ∷ ds) t = omega (arith, length-append (writtenOf d) (spacedText ds t), written-short d, spaced-short ds t)
+
+row-short : (ds : List Decimal) (t : List ℕ) → length (rowText ds t) ≤ 21 * length ds + length t
+unfolding rowText
+row-short [] t = omega arith
+row-short (d ∷ ds) t = omega (arith, length-append (writtenOf d) (spacedText ds t), written-short d, spaced-short ds t)
+
+rows-short : (n c : ℕ) (ds : List Decimal) (t : List ℕ) → length (rowsText n c ds t) ≤ 21 * length ds + n + length t
+unfolding rowsText
+rows-short zero c ds t = omega arith
+rows-short (suc n) c ds t =
+    let r = row-short (take c ds) (bytes "\n" ++ rowsText n c (drop c ds) t) in
+    let i = rows-short n c (drop c ds) t in
+    omega (arith, length-take c ds, length-drop c ds)
+
+array-short : (n c : ℕ) (ds : List Decimal) (t : List ℕ) → n ≤ 65536 → c ≤ 4 → length (arrayText n c ds t) ≤ 21 * length ds + n + 40 + length t
+unfolding arrayText
+array-short n c ds t h k =
+    let z : List ℕ = bytes "</Array>\n" ++ t in
+    let y : List ℕ = bytes "\">\n" ++ rowsText n c ds z in
+    let x : List ℕ = bytes " " ++ (digits c ++ y) in
+    let i = rows-short n c ds z in
+    let a = digits-short n 4 (omega (arith, lit≤ {m = 65537} {n = 10 ^ 5} tt)) in
+    let b = digits-short c 0 (omega arith) in
+    omega (arith, length-append (digits n) x, length-append (digits c) y)
+
+value-short : (name : List ℕ) (ds : List Decimal) (t : List ℕ) → length (valueText name ds t) ≤ 21 * length ds + 2 * length name + 6 + length t
+unfolding valueText
+value-short name ds t =
+    let z : List ℕ = name ++ (bytes ">\n" ++ t) in
+    let y : List ℕ = bytes ">" ++ rowText ds (bytes "</" ++ z) in
+    let i = row-short ds (bytes "</" ++ z) in
+    omega (arith, length-append name (bytes ">\n" ++ t), length-append name y)
+
+-- ---- nodes
+range-short : (ds : List Decimal) (t : List ℕ) → length (rangeText ds t) ≤ 200 + length t
+unfolding rangeText
+range-short ds t =
+    let d = valueText (bytes "maxOutValue") (take 1 (drop 3 ds)) t in
+    let c = valueText (bytes "minOutValue") (take 1 (drop 2 ds)) d in
+    let b = valueText (bytes "maxInValue") (take 1 (drop 1 ds)) c in
+    let id = value-short (bytes "maxOutValue") (take 1 (drop 3 ds)) t in
+    let ic = value-short (bytes "minOutValue") (take 1 (drop 2 ds)) d in
+    let ib = value-short (bytes "maxInValue") (take 1 (drop 1 ds)) c in
+    let ia = value-short (bytes "minInValue") (take 1 ds) b in
+    omega (arith, length-take 1 (drop 3 ds), length-take 1 (drop 2 ds), length-take 1 (drop 1 ds), length-take 1 ds)
+
+sop-short : (ds : List Decimal) (t : List ℕ) → length (sopText ds t) ≤ 300 + length t
+unfolding sopText
+sop-short ds t =
+    let z : List ℕ = bytes "</SOPNode>\n" ++ t in
+    let c = valueText (bytes "Power") (take 3 (drop 6 ds)) z in
+    let b = valueText (bytes "Offset") (take 3 (drop 3 ds)) c in
+    let ic = value-short (bytes "Power") (take 3 (drop 6 ds)) z in
+    let ib = value-short (bytes "Offset") (take 3 (drop 3 ds)) c in
+    let ia = value-short (bytes "Slope") (take 3 ds) b in
+    omega (arith, length-take 3 (drop 6 ds), length-take 3 (drop 3 ds), length-take 3 ds)
+
+sat-short : (ds : List Decimal) (t : List ℕ) → length (satText ds t) ≤ 100 + length t
+unfolding satText
+sat-short ds t =
+    let i = value-short (bytes "Saturation") (take 1 (drop 9 ds)) (bytes "</SatNode>\n" ++ t) in
+    omega (arith, length-take 1 (drop 9 ds))
+
+table-most : (n c : ℕ) → tableRight n c ≡ true → (n ≤ 65536) × (c ≤ 4)
+unfolding tableRight
+table-most n c h = go (eqb c 1) (eqb c 3) (eqb-true c 1) (eqb-true c 3) (both-true (leb 2 n && leb n 65536) _ h)
+  where
+    go : (a b : Bool) → (a ≡ true → c ≡ 1) → (b ≡ true → c ≡ 3) → ((leb 2 n && leb n 65536) ≡ true) × ((a || b) ≡ true) → (n ≤ 65536) × (c ≤ 4)
+    go true b p q e = (leb-true n 65536 (both-true (leb 2 n) (leb n 65536) (e .0) .1), omega (arith, p refl))
+    go false true p q e = (leb-true n 65536 (both-true (leb 2 n) (leb n 65536) (e .0) .1), omega (arith, q refl))
+    go false false p q e = absurd (false≢true (e .1))
+
+content-short : (k : Kind) (ds : List Decimal) (t : List ℕ) → shapeRight k ≡ true → length (contentText k ds t) ≤ 21 * length ds + 65600 + length t
+unfolding contentText shapeRight
+content-short (Matrix true) ds t h = omega (arith, array-short 3 4 ds t (omega arith) (omega arith))
+content-short (Matrix false) ds t h = omega (arith, array-short 3 3 ds t (omega arith) (omega arith))
+content-short (Lut1d n c) ds t h = let m = table-most n c h in omega (arith, array-short n c ds t (m .0) (m .1))
+content-short (Range clamp) ds t h = omega (arith, range-short ds t)
+content-short (Cdl clamp) ds t h = omega (arith, sop-short ds (satText ds t), sat-short ds t)
+
+name-short : (k : Kind) → length (nameText k) ≤ 10
+name-short (Matrix wide) = omega arith
+name-short (Lut1d n c) = omega arith
+name-short (Range clamp) = omega arith
+name-short (Cdl clamp) = omega arith
+
+depth-short : (d : Depth) → length (depthText d) ≤ 3
+depth-short I8 = omega arith
+depth-short I10 = omega arith
+depth-short I12 = omega arith
+depth-short I16 = omega arith
+depth-short F16 = omega arith
+depth-short F32 = omega arith
+
+style-short : (k : Kind) → length (styleText k) ≤ 20
+style-short (Matrix wide) = omega arith
+style-short (Lut1d n c) = omega arith
+style-short (Range true) = omega arith
+style-short (Range false) = omega arith
+style-short (Cdl true) = omega arith
+style-short (Cdl false) = omega arith
+
+start-short : (k : Kind) (i o : Depth) (t : List ℕ) → length (startText k i o t) ≤ 100 + length t
+unfolding startText
+start-short k i o t =
+    let e : List ℕ = styleText k ++ (bytes ">\n" ++ t) in
+    let d : List ℕ = depthText o ++ (bytes "\"" ++ e) in
+    let c : List ℕ = depthText i ++ (bytes "\" outBitDepth=\"" ++ d) in
+    omega (arith, length-append (styleText k) (bytes ">\n" ++ t), length-append (depthText o) (bytes "\"" ++ e), length-append (depthText i) (bytes "\" outBitDepth=\"" ++ d), length-append (nameText k) (bytes " inBitDepth=\"" ++ c), name-short k, style-short k, depth-short i, depth-short o)
+
+end-short : (k : Kind) (t : List ℕ) → length (endText k t) ≤ 20 + length t
+unfolding endText
+end-short k t = omega (arith, length-append (nameText k) (bytes ">\n" ++ t), name-short k)
+
+node-short : (e : Element) (t : List ℕ) → shapeRight (e .kind) ≡ true → length (nodeText e t) ≤ 21 * length (e .numbers) + 66000 + length t
+unfolding nodeText
+node-short e t h =
+    let z = endText (e .kind) t in
+    let y = contentText (e .kind) (e .numbers) z in
+    omega (arith, start-short (e .kind) (e .input) (e .output) y, content-short (e .kind) (e .numbers) z h, end-short (e .kind) t)
+
+-- what soundness says of the shape and of the count of numbers
+sound-parts : (e : Element) → sound e ≡ true → (shapeRight (e .kind) ≡ true) × (length (e .numbers) ≡ numbersOf (e .kind))
+unfolding sound
+sound-parts e h =
+    let s = shapeRight (e .kind) in
+    let n = eqb (length (e .numbers)) (numbersOf (e .kind)) in
+    let c = every carried (e .numbers) in
+    let p = both-true (s && n && c) (rulesHold (e .kind) (e .numbers)) h in
+    let q = both-true (s && n) c (p .0) in
+    let r = both-true s n (q .0) in
+    (r .0, eqb-true _ _ (r .1))
+
+nodes-short : (cs ps : List ℤ) (ns : List Node) (t : List ℕ) → every sound (map (elementOf cs ps) ns) ≡ true
+    → length (nodesText (map (elementOf cs ps) ns) t) ≤ 21 * total ns + 66000 * length ns + length t
+unfolding nodesText every total elementOf
+nodes-short cs ps [] t h = omega arith
+nodes-short cs ps (n ∷ ns) t h =
+    let p = both-true (sound (elementOf cs ps n)) (every sound (map (elementOf cs ps) ns)) h in
+    let s = sound-parts (elementOf cs ps n) (p .0) in
+    let i = nodes-short cs ps ns t (p .1) in
+    omega (arith, node-short (elementOf cs ps n) (nodesText (map (elementOf cs ps) ns) t) (s .0), s .1)
+
+-- ---- the whole
+head-short : (id t : List ℕ) → length (headText id t) ≤ 100 + length id + length t
+unfolding headText
+head-short id t = omega (arith, length-append id (bytes "\" compCLFversion=\"3.0\">\n" ++ t))
+
+id-short : (id : List ℕ) → idRight id ≡ true → length id ≤ 64
+unfolding idRight
+id-short id h =
+    let p = both-true (leb 1 (length id) && leb (length id) 64) (every isIdByte id) h in
+    leb-true (length id) 64 (both-true (leb 1 (length id)) (leb (length id) 64) (p .0) .1)
+
+module _ (l : ProcessList) (cs ps : List ℤ) (v : isValid l cs ps ≡ true) where
+  -- what validity says of the list, and of its elements
+  pub valid-list : Right l (roomLength cs ps)
+  unfolding isValid
+  valid-list =
+      let a = listRight l (roomLength cs ps) in
+      let b = every sound (elementsOf l cs ps) in
+      let c = restZero (roomLength cs ps) (total (nodesOf l)) cs in
+      let p = both-true (a && b && c) (restZero (roomLength cs ps) (total (nodesOf l)) ps) v in
+      let q = both-true (a && b) c (p .0) in
+      right-parts l (roomLength cs ps) (both-true a b (q .0) .0)
+
+  pub valid-sound : every sound (elementsOf l cs ps) ≡ true
+  unfolding isValid
+  valid-sound =
+      let a = listRight l (roomLength cs ps) in
+      let b = every sound (elementsOf l cs ps) in
+      let c = restZero (roomLength cs ps) (total (nodesOf l)) cs in
+      let p = both-true (a && b && c) (restZero (roomLength cs ps) (total (nodesOf l)) ps) v in
+      let q = both-true (a && b) c (p .0) in
+      both-true a b (q .0) .1
+
+  pub list-short : (id : List ℕ) → idRight id ≡ true → length (listText id (elementsOf l cs ps)) ≤ 16777216
+  unfolding listText elementsOf nodesOf
+  list-short id h =
+      let r = valid-list in
+      let z : List ℕ = bytes "</ProcessList>\n" in
+      let n = nodes-short cs ps (nodesOf l) z valid-sound in
+      omega (arith, head-short id (nodesText (elementsOf l cs ps) z), id-short id h, right-few l (roomLength cs ps) r, r .few, length-take (l .count) (l .nodes))
