@@ -1,0 +1,90 @@
+-- What each way out of the call of writing comes to. Assumes nothing.
+use mathlib.Core.Path.{_≡_, refl, sym, ap, _∙_}
+use mathlib.Core.Bool.{Bool, true, false}
+use mathlib.Core.List.{List, []}
+use Prim.Native.Nat.{ℕ, _+_, _≤_, _<_, _^_}
+use native.Mathlib.Omega.{arith}
+use native.Mathlib.Nat.{zero-add, add-zero}
+use borrow.Author.Tests.{lt-ltb, le-ltb, le-leb, lt-leb, ne-eqb}
+use lib.IntN.{ℤ}
+use lib.ListN.{length}
+use Rattle.process_list.specs.declared.ProcessList.{ProcessList}
+use Rattle.room.proofs.Contents.{laid-none, laid-fits}
+use Rattle.valid.specs.Valid.{every, isValid, elementsOf}
+use Rattle.xml.specs.Bytes.{isLetter, isDigit, isNameByte}
+use Rattle.text_out.specs.Output.{counted, Puts}
+use Rattle.text_out.proofs.Laws.{counted-in}
+use Rattle.written_form.specs.Written.{isIdByte, idRight, listText, Writing, refused, written, fitting, writeOf, outputOf}
+use Rattle.written_form.proofs.Short.{list-short}
+use Rattle.writing.specs.Writing.{answerOf, Wrote}
+use Rattle.writing.specs.declared.Written.{Written}
+
+-- ---- ids
+pub colon : (b : ℕ) → b ≡ 58 → false ≡ isIdByte b
+unfolding isIdByte isLetter isDigit
+colon b e = rw e
+
+pub name-byte : (b : ℕ) → (b ≡ 58 → ⊥) → isNameByte b ≡ isIdByte b
+unfolding isIdByte isNameByte
+name-byte b h = simp (ne-eqb b 58 h)
+
+module _ (id : List ℕ) where
+  pub id-empty : length id ≡ 0 → false ≡ idRight id
+  unfolding idRight
+  id-empty e = simp e
+
+  pub id-long : 64 < length id → false ≡ idRight id
+  unfolding idRight
+  id-long h = simp (le-leb 1 (length id) (omega arith), lt-leb (length id) 64 h)
+
+  pub id-bytes : (b : Bool) → 1 ≤ length id → length id ≤ 64 → every isIdByte id ≡ b → b ≡ idRight id
+  unfolding idRight
+  id-bytes b h k e = simp (le-leb 1 (length id) h, le-leb (length id) 64 k, e)
+
+-- ---- a text that has been put from the start of an output on
+pub wrote : {f : List ℕ → List ℕ} {s s' : List ℕ} {r : ℕ} → Puts f 0 s s' r → r < 2 ^ 64 → Wrote (f []) s s' r
+wrote {f = f} {s = s} {s' = s'} {r = r} p h = record {
+  bytes = sym (p .bytes [] ∙ laid-none (length s) r s');
+  size = sym (ap counted (sym (zero-add (length (f [])))) ∙ p .next [] ∙ ap counted (add-zero r) ∙ counted-in r h);
+  kept = p .size;
+}
+
+-- ---- 'Writing: 16, 18, 17'
+module _ (l : ProcessList) (cs ps : List ℤ) (id out : List ℕ) where
+  abbrev pub Ends : Written → List ℕ → Type 0
+  Ends r out' = (r ≡ answerOf (writeOf l cs ps id (length out))) × (out' ≡ outputOf (writeOf l cs ps id (length out)) out)
+
+  ends-as : (w : Writing) (r : Written) (out' : List ℕ) → writeOf l cs ps id (length out) ≡ w → r ≡ answerOf w → out' ≡ outputOf w out → Ends r out'
+  ends-as w r out' e p q = (p ∙ ap answerOf (sym e), q ∙ ap (λ (x : Writing). outputOf x out) (sym e))
+
+  pub ends-16 : (r : Written) → isValid l cs ps ≡ false → r ≡ answerOf (refused 16) → Ends r out
+  unfolding writeOf
+  ends-16 r v e = ends-as (refused 16) r out (simp v) e refl
+
+  module _ (v : isValid l cs ps ≡ true) where
+    pub ends-18 : (r : Written) → idRight id ≡ false → r ≡ answerOf (refused 18) → Ends r out
+    unfolding writeOf
+    ends-18 r i e = ends-as (refused 18) r out (simp (v, i)) e refl
+
+    module _ (i : idRight id ≡ true) where
+      abbrev text : List ℕ
+      text = listText id (elementsOf l cs ps)
+
+      -- the count is the text's length
+      exact : counted (length text) ≡ length text
+      exact = counted-in (length text) (omega (arith, list-short l cs ps v id i))
+
+      pub ends-17 : (r : Written) (n : ℕ) → n ≡ counted (length text) → length out < n → r ≡ answerOf (refused 17) → Ends r out
+      unfolding writeOf fitting
+      ends-17 r n c h e =
+          let k : length out < length text = omega (arith, exact) in
+          ends-as (refused 17) r out (simp (v, i, lt-ltb (length out) (length text) k)) e refl
+
+      pub ends-written : (n : ℕ) (out' : List ℕ) (m : ℕ) → n ≡ counted (length text) → n ≤ length out → Wrote text out out' m → Ends (record { number = 0; length = n }) out'
+      unfolding writeOf fitting
+      ends-written n out' m c h w =
+          let k : length text ≤ length out = omega (arith, exact) in
+          let z : 0 + length text ≡ length text = zero-add (length text) in
+          ends-as (written text) (record { number = 0; length = n }) out' (simp (v, i, le-ltb (length out) (length text) k))
+          (ap (λ (x : ℕ). record { number = 0; length = x }) (c ∙ exact))
+          (w .bytes ∙ laid-fits (length out) 0 text out (omega arith) (omega arith) ∙ (rw z))

@@ -1,0 +1,65 @@
+-- The four values of a Range. Assumes nothing.
+use Rattle.text_out.proofs.Laws.{puts-as, puts-then}
+use Rattle.writing.proofs.Laws.{range-as}
+use borrow.Author.Needs.{needs}
+use Rattle.writing.proofs.elements.put_range.Statement.{statement}
+use Rattle.writing.proofs.elements.put_range.Tie as tie
+
+slice-aggregate-put-value : tie.Need-slice-aggregate-put-value
+slice-aggregate-put-value c = search needs
+
+put-value-requires : tie.Need-put-value-requires
+put-value-requires c κs = search needs
+
+slice-aggregate-put-value-2 : tie.Need-slice-aggregate-put-value-2
+slice-aggregate-put-value-2 c = search needs
+
+add-put-value : tie.Need-add-put-value
+add-put-value c = search needs
+
+put-value-requires-2 : tie.Need-put-value-requires-2
+put-value-requires-2 c κs = search needs
+
+slice-aggregate-put-value-3 : tie.Need-slice-aggregate-put-value-3
+slice-aggregate-put-value-3 c = search needs
+
+add-put-value-2 : tie.Need-add-put-value-2
+add-put-value-2 c = search needs
+
+put-value-requires-3 : tie.Need-put-value-requires-3
+put-value-requires-3 c κs = search needs
+
+slice-aggregate-put-value-4 : tie.Need-slice-aggregate-put-value-4
+slice-aggregate-put-value-4 c = search needs
+
+add-put-value-3 : tie.Need-add-put-value-3
+add-put-value-3 c = search needs
+
+put-value-requires-4 : tie.Need-put-value-requires-4
+put-value-requires-4 c κs = search needs
+
+same-length : tie.Need-same-length
+same-length c = search needs
+
+returns : tie.Need-returns
+returns c =
+    let a = c .before .before .before .before .before .before .before .before .before .before .before .before .before .before .before .before .before .before .before .before .before .args in
+    puts-as (range-as (a .coefficients .now) (a .powers .now) (a .from)) (puts-then (c .before .before .before .before .before .before .before .before .before .before .before .before .before .before .before .before .before .put-value .ensures) (puts-then (c .before .before .before .before .before .before .before .before .before .before .before .before .put-value2 .ensures) (puts-then (c .before .before .before .before .before .before .before .put-value3 .ensures) (c .before .before .put-value4 .ensures))))
+
+pub put-range-spec : {M : Type 1} → statement M
+put-range-spec =
+    tie.close
+    (tie.spec
+    slice-aggregate-put-value
+    put-value-requires
+    slice-aggregate-put-value-2
+    add-put-value
+    put-value-requires-2
+    slice-aggregate-put-value-3
+    add-put-value-2
+    put-value-requires-3
+    slice-aggregate-put-value-4
+    add-put-value-3
+    put-value-requires-4
+    same-length
+    returns)

@@ -1,0 +1,75 @@
+-- The bytes from index i on are still to be tested. Assumes nothing.
+use mathlib.Core.Path.{_≡_, refl, sym, _∙_}
+use Prim.Native.Nat.{_-_}
+use native.Mathlib.Omega.{arith}
+use borrow.Author.Tests.{not-true, not-false}
+use lib.ListN.{length, drop}
+use Rattle.valid.specs.Valid.{every}
+use Rattle.valid.proofs.Laws.{every-fails, every-goes-on, every-ends}
+use Rattle.written_form.specs.Written.{isIdByte}
+use Rattle.writing.proofs.Answers.{id-empty, id-long, id-bytes}
+use borrow.Author.Needs.{needs}
+use Rattle.writing.proofs.id_right.Statement.{statement}
+use Rattle.writing.proofs.id_right.Tie as tie
+
+abbrev Inv-loop : tie.InvT-loop
+Inv-loop id i₀ i = every isIdByte id ≡ every isIdByte (drop i id)
+
+abbrev μ-loop : tie.MeasureT-loop
+μ-loop id i₀ i = length id - i
+
+returns : tie.Need-returns Inv-loop μ-loop
+returns c = id-empty _ (c .if1 .taken)
+
+returns-2 : tie.Need-returns-2 Inv-loop μ-loop
+returns-2 c = id-long _ (c .if2 .taken)
+
+loop-holds : tie.Need-loop-holds Inv-loop μ-loop
+loop-holds c = refl
+
+shared-slice-read-is-id-byte : tie.Need-shared-slice-read-is-id-byte Inv-loop μ-loop
+shared-slice-read-is-id-byte c = search needs
+
+is-id-byte-requires : tie.Need-is-id-byte-requires Inv-loop μ-loop
+is-id-byte-requires c κs = search needs
+
+returns-3 : tie.Need-returns-3 Inv-loop μ-loop
+returns-3 c =
+    let l = c .before .before .before .before in
+    let s = c .before .before .before .before .before .before .before .before .args .id .now in
+    id-bytes s _ (omega arith) (omega arith) (l .loop .inv ∙ every-fails isIdByte s (l .loop .i) 0 (omega arith) (sym (c .before .is-id-byte .ensures) ∙ not-true _ (c .if3 .taken)))
+
+add-i : tie.Need-add-i Inv-loop μ-loop
+add-i c = search needs
+
+loop-less : tie.Need-loop-less Inv-loop μ-loop
+loop-less c = search needs
+
+loop-again : tie.Need-loop-again Inv-loop μ-loop
+loop-again c =
+    let l = c .before .before .before .before in
+    let s = c .before .before .before .before .before .before .before .before .args .id .now in
+    l .loop .inv ∙ every-goes-on isIdByte s (l .loop .i) 0 (omega arith) (sym (c .before .is-id-byte .ensures) ∙ not-false _ (c .if3 .left))
+
+returns-4 : tie.Need-returns-4 Inv-loop μ-loop
+returns-4 c =
+    let l = c .before in
+    let s = c .before .before .before .before .before .args .id .now in
+    id-bytes s _ (omega arith) (omega arith) (l .loop .inv ∙ every-ends isIdByte s (l .loop .i) (omega arith))
+
+pub id-right-spec : {M : Type 1} → statement M
+id-right-spec =
+    tie.close
+    (tie.spec
+    Inv-loop
+    μ-loop
+    returns
+    returns-2
+    loop-holds
+    shared-slice-read-is-id-byte
+    is-id-byte-requires
+    returns-3
+    add-i
+    loop-less
+    loop-again
+    returns-4)

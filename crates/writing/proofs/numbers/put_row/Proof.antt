@@ -1,0 +1,46 @@
+-- The first number, then the others. Assumes nothing.
+use native.Mathlib.Omega.{arith}
+use Rattle.text_out.proofs.Laws.{goes-start, goes-end, puts-as, puts-then}
+use Rattle.writing.proofs.Laws.{row-none, row-some}
+use borrow.Author.Needs.{needs}
+use Rattle.writing.proofs.numbers.put_row.Statement.{statement}
+use Rattle.writing.proofs.numbers.put_row.Tie as tie
+
+returns : tie.Need-returns
+returns c =
+    let s = c .before .before in
+    let a = s .args in
+    goes-end (goes-start _ _ _) (row-none (a .coefficients .now) (a .powers .now) (a .from) (a .count) (s .pre .0) (s .pre .1) (c .if1 .taken))
+
+put-number-requires : tie.Need-put-number-requires
+put-number-requires c κs = search needs
+
+add-put-spaced : tie.Need-add-put-spaced
+add-put-spaced c = search needs
+
+sub-put-spaced : tie.Need-sub-put-spaced
+sub-put-spaced c = search needs
+
+put-spaced-requires : tie.Need-put-spaced-requires
+put-spaced-requires c κs = search needs
+
+same-length : tie.Need-same-length
+same-length c = search needs
+
+returns-2 : tie.Need-returns-2
+returns-2 c =
+    let s = c .before .before .before .before .before .before .before .before .before .before in
+    let a = s .args in
+    puts-as (row-some (a .coefficients .now) (a .powers .now) (a .from) (a .count) (s .pre .0) (s .pre .1) (omega (arith, c .before .before .before .before .before .before .before .before .if1 .left))) (puts-then (c .before .before .before .before .before .before .put-number .ensures) (c .before .before .put-spaced .ensures))
+
+pub put-row-spec : {M : Type 1} → statement M
+put-row-spec =
+    tie.close
+    (tie.spec
+    returns
+    put-number-requires
+    add-put-spaced
+    sub-put-spaced
+    put-spaced-requires
+    same-length
+    returns-2)

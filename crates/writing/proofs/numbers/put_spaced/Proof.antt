@@ -1,0 +1,72 @@
+-- What is left are the numbers from index i on. Assumes nothing.
+use Prim.Native.Nat.{_+_, _-_, _≤_}
+use native.Mathlib.Omega.{arith}
+use Rattle.valid.specs.Valid.{numbersAt}
+use Rattle.text_out.specs.Output.{Goes}
+use Rattle.text_out.proofs.Laws.{goes-then, goes-end, puts-then}
+use Rattle.written_form.specs.Written.{spacedText}
+use Rattle.writing.proofs.Laws.{spaced-start, spaced-next, spaced-last}
+use borrow.Author.Needs.{needs}
+use Rattle.writing.proofs.numbers.put_spaced.Statement.{statement}
+use Rattle.writing.proofs.numbers.put_spaced.Tie as tie
+
+abbrev Inv-loop : tie.InvT-loop
+Inv-loop out₀ at coefficients powers from count held₀ i₀ t9 out held i = (i ≤ count) × Goes (spacedText (numbersAt coefficients powers from count)) (spacedText (numbersAt coefficients powers (from + i) (count - i))) at out₀ out held
+
+abbrev μ-loop : tie.MeasureT-loop
+μ-loop out₀ at coefficients powers from count held₀ i₀ t9 out held i = count - i
+
+loop-holds : tie.Need-loop-holds Inv-loop μ-loop
+loop-holds c = (search needs, spaced-start _ _ _ _ _ _)
+
+slice-aggregate-put : tie.Need-slice-aggregate-put Inv-loop μ-loop
+slice-aggregate-put c = search needs
+
+put-requires : tie.Need-put-requires Inv-loop μ-loop
+put-requires c κs = search needs
+
+add-put-number : tie.Need-add-put-number Inv-loop μ-loop
+add-put-number c = search needs
+
+put-number-requires : tie.Need-put-number-requires Inv-loop μ-loop
+put-number-requires c κs = search needs
+
+add-i : tie.Need-add-i Inv-loop μ-loop
+add-i c = search needs
+
+loop-less : tie.Need-loop-less Inv-loop μ-loop
+loop-less c = search needs
+
+loop-again : tie.Need-loop-again Inv-loop μ-loop
+loop-again c =
+    let l = c .before .before .before .before .before .before .before .before .before .before in
+    let a = c .before .before .before .before .before .before .before .before .before .before .before .before .args in
+    let h = c .before .before .before .before .before .before .before .before .before .before .before .before .pre in
+    (search needs, goes-then (l .loop .inv .1) (spaced-next (a .coefficients .now) (a .powers .now) (a .from) (a .count) (h .0) (h .1) (l .loop .i) (omega arith)) (puts-then (c .before .before .before .before .before .before .put .ensures) (c .before .before .put-number .ensures)))
+
+same-length : tie.Need-same-length Inv-loop μ-loop
+same-length c = search needs
+
+returns : tie.Need-returns Inv-loop μ-loop
+returns c =
+    let l = c .before in
+    let a = c .before .before .before .args in
+    let h = c .before .before .before .pre in
+    goes-end (l .loop .inv .1) (spaced-last (a .coefficients .now) (a .powers .now) (a .from) (a .count) (h .0) (h .1) (l .loop .i) (omega arith))
+
+pub put-spaced-spec : {M : Type 1} → statement M
+put-spaced-spec =
+    tie.close
+    (tie.spec
+    Inv-loop
+    μ-loop
+    loop-holds
+    slice-aggregate-put
+    put-requires
+    add-put-number
+    put-number-requires
+    add-i
+    loop-less
+    loop-again
+    same-length
+    returns)

@@ -1,0 +1,86 @@
+// Names, depths and styles: the start and end tags of nodes.
+ghost use mathlib.Core.List.{_++_};
+ghost use Rattle.text_out.specs.Output.{Puts};
+ghost use Rattle.written_form.specs.Written as Text;
+use process_list::Depth;
+use process_list::Kind;
+use text_out::put;
+
+fn put_depth(out: &mut [u8], at: usize, depth: Depth) -> usize
+    ensures { λ r. ⌜ Puts (λ t. Text.depthText depth ++ t) at (now (out .entry)) (now (out .exit)) r ⌝ }
+{
+    match depth {
+        Depth::I8 => put(out, at, b"8i"),
+        Depth::I10 => put(out, at, b"10i"),
+        Depth::I12 => put(out, at, b"12i"),
+        Depth::I16 => put(out, at, b"16i"),
+        Depth::F16 => put(out, at, b"16f"),
+        Depth::F32 => put(out, at, b"32f"),
+    }
+}
+
+fn put_name(out: &mut [u8], at: usize, kind: Kind) -> usize
+    ensures { λ r. ⌜ Puts (λ t. Text.nameText kind ++ t) at (now (out .entry)) (now (out .exit)) r ⌝ }
+{
+    match kind {
+        Kind::Matrix { wide: _ } => put(out, at, b"Matrix"),
+        Kind::Lut1d {
+            entries: _,
+            columns: _,
+        } => put(out, at, b"LUT1D"),
+        Kind::Range { clamp: _ } => put(out, at, b"Range"),
+        Kind::Cdl { clamp: _ } => put(out, at, b"ASC_CDL"),
+    }
+}
+
+fn put_style(out: &mut [u8], at: usize, kind: Kind) -> usize
+    ensures { λ r. ⌜ Puts (λ t. Text.styleText kind ++ t) at (now (out .entry)) (now (out .exit)) r ⌝ }
+{
+    match kind {
+        Kind::Matrix { wide: _ } => at,
+        Kind::Lut1d {
+            entries: _,
+            columns: _,
+        } => at,
+        Kind::Range { clamp } => {
+            if clamp {
+                return put(out, at, b" style=\"Clamp\"");
+            }
+            put(out, at, b" style=\"noClamp\"")
+        }
+        Kind::Cdl { clamp } => {
+            if clamp {
+                return put(out, at, b" style=\"Fwd\"");
+            }
+            put(out, at, b" style=\"FwdNoClamp\"")
+        }
+    }
+}
+
+fn put_depths(out: &mut [u8], at: usize, input: Depth, output: Depth) -> usize
+    ensures { λ r. ⌜ Puts (Text.depthsText input output) at (now (out .entry)) (now (out .exit)) r ⌝ }
+{
+    let a = put(out, at, b" inBitDepth=\"");
+    let b = put_depth(out, a, input);
+    let c = put(out, b, b"\" outBitDepth=\"");
+    let d = put_depth(out, c, output);
+    put(out, d, b"\"")
+}
+
+pub fn put_start(out: &mut [u8], at: usize, kind: Kind, input: Depth, output: Depth) -> usize
+    ensures { λ r. ⌜ Puts (Text.startText kind input output) at (now (out .entry)) (now (out .exit)) r ⌝ }
+{
+    let a = put(out, at, b"<");
+    let b = put_name(out, a, kind);
+    let c = put_depths(out, b, input, output);
+    let d = put_style(out, c, kind);
+    put(out, d, b">\n")
+}
+
+pub fn put_end(out: &mut [u8], at: usize, kind: Kind) -> usize
+    ensures { λ r. ⌜ Puts (Text.endText kind) at (now (out .entry)) (now (out .exit)) r ⌝ }
+{
+    let a = put(out, at, b"</");
+    let b = put_name(out, a, kind);
+    put(out, b, b">\n")
+}

@@ -1,0 +1,129 @@
+// Numbers of the table room, as rows of text.
+ghost use Prim.Native.Nat.{_+_, _*_, _≤_, _<_};
+ghost use mathlib.Core.List.{_++_};
+ghost use lib.ListN.{length};
+ghost use Rattle.decimal_write.specs.Written.{writtenOf};
+ghost use Rattle.valid.specs.Valid.{numberAt, numbersAt};
+ghost use Rattle.text_out.specs.Output.{Puts};
+ghost use Rattle.written_form.specs.Written as Text;
+use decimal::Decimal;
+
+// The number of index k.
+fn put_number(out: &mut [u8], at: usize, coefficients: &[i64], powers: &[i8], k: usize) -> usize
+    requires { ⌜ (k < length (now coefficients)) × (k < length (now powers)) ⌝ }
+    ensures { λ r. ⌜ Puts (λ t. writtenOf (numberAt (now (coefficients .entry)) (now (powers .entry)) k) ++ t) at (now (out .entry)) (now (out .exit)) r ⌝ }
+{
+    let coefficient = coefficients[k];
+    let power = powers[k];
+    text_out::put_number(out, at, Decimal { coefficient, power })
+}
+
+// The numbers from index `from` up to `end`, a space before each.
+fn put_spaced(
+    out: &mut [u8],
+    at: usize,
+    coefficients: &[i64],
+    powers: &[i8],
+    from: usize,
+    count: usize,
+) -> usize
+    requires { ⌜ (from + count ≤ length (now coefficients)) × (from + count ≤ length (now powers)) ⌝ }
+    ensures { λ r. ⌜ Puts (Text.spacedText (numbersAt (now (coefficients .entry)) (now (powers .entry)) from count)) at (now (out .entry)) (now (out .exit)) r ⌝ }
+{
+    let mut held = at;
+    let mut i = 0;
+    while i < count {
+        held = text_out::put(out, held, b" ");
+        held = put_number(out, held, coefficients, powers, from + i);
+        i += 1;
+    }
+    held
+}
+
+// The numbers of one line.
+pub fn put_row(
+    out: &mut [u8],
+    at: usize,
+    coefficients: &[i64],
+    powers: &[i8],
+    from: usize,
+    count: usize,
+) -> usize
+    requires { ⌜ (from + count ≤ length (now coefficients)) × (from + count ≤ length (now powers)) ⌝ }
+    ensures { λ r. ⌜ Puts (Text.rowText (numbersAt (now (coefficients .entry)) (now (powers .entry)) from count)) at (now (out .entry)) (now (out .exit)) r ⌝ }
+{
+    if count == 0 {
+        return at;
+    }
+    let held = put_number(out, at, coefficients, powers, from);
+    put_spaced(out, held, coefficients, powers, from + 1, count - 1)
+}
+
+// One row a line.
+fn put_rows(
+    out: &mut [u8],
+    at: usize,
+    coefficients: &[i64],
+    powers: &[i8],
+    from: usize,
+    rows: usize,
+    columns: usize,
+) -> usize
+    requires { ⌜ (from + rows * columns ≤ length (now coefficients)) × (from + rows * columns ≤ length (now powers)) ⌝ }
+    ensures { λ r. ⌜ Puts (Text.rowsText rows columns (numbersAt (now (coefficients .entry)) (now (powers .entry)) from (rows * columns))) at (now (out .entry)) (now (out .exit)) r ⌝ }
+{
+    let mut held = at;
+    let mut k = from;
+    let mut i = 0;
+    while i < rows {
+        held = put_row(out, held, coefficients, powers, k, columns);
+        held = text_out::put(out, held, b"\n");
+        k += columns;
+        i += 1;
+    }
+    held
+}
+
+// An Array of so many rows and columns.
+pub fn put_array(
+    out: &mut [u8],
+    at: usize,
+    coefficients: &[i64],
+    powers: &[i8],
+    from: usize,
+    rows: usize,
+    columns: usize,
+) -> usize
+    requires { ⌜ (from + rows * columns ≤ length (now coefficients)) × (from + rows * columns ≤ length (now powers)) ⌝ }
+    ensures { λ r. ⌜ Puts (Text.arrayText rows columns (numbersAt (now (coefficients .entry)) (now (powers .entry)) from (rows * columns))) at (now (out .entry)) (now (out .exit)) r ⌝ }
+{
+    let a = text_out::put(out, at, b"<Array dim=\"");
+    let b = text_out::put_digits(out, a, rows);
+    let c = text_out::put(out, b, b" ");
+    let d = text_out::put_digits(out, c, columns);
+    let e = text_out::put(out, d, b"\">\n");
+    let f = put_rows(out, e, coefficients, powers, from, rows, columns);
+    text_out::put(out, f, b"</Array>\n")
+}
+
+// A value element of this name.
+pub fn put_value(
+    out: &mut [u8],
+    at: usize,
+    name: &[u8],
+    coefficients: &[i64],
+    powers: &[i8],
+    from: usize,
+    count: usize,
+) -> usize
+    requires { ⌜ (from + count ≤ length (now coefficients)) × (from + count ≤ length (now powers)) ⌝ }
+    ensures { λ r. ⌜ Puts (Text.valueText (now (name .entry)) (numbersAt (now (coefficients .entry)) (now (powers .entry)) from count)) at (now (out .entry)) (now (out .exit)) r ⌝ }
+{
+    let a = text_out::put(out, at, b"<");
+    let b = text_out::put(out, a, name);
+    let c = text_out::put(out, b, b">");
+    let d = put_row(out, c, coefficients, powers, from, count);
+    let e = text_out::put(out, d, b"</");
+    let f = text_out::put(out, e, name);
+    text_out::put(out, f, b">\n")
+}
