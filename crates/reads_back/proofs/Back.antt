@@ -1,0 +1,282 @@
+-- A LIST WRITTEN OUT READS BACK AS THAT LIST; and refusal 16 is given exactly where no file's accepted reading leaves list and room. Assumes nothing.
+use mathlib.Core.Path.{_≡_, refl, sym, ap, _∙_, subst}
+use mathlib.Core.Bool.{Bool, true, false, cond}
+use mathlib.Core.List.{List, [], _∷_, map}
+use Prim.Native.Nat.{ℕ, _≤_, min}
+use native.Mathlib.Omega.{arith}
+use lib.Dec.{ltb}
+use lib.IntN.{ℤ, pos}
+use lib.ListN.{length, drop, length-map, drop-of-length-le}
+use borrow.Author.Tests.{le-ltb}
+use Rattle.decimal.specs.declared.Decimal.{Decimal}
+use Rattle.process_list.specs.declared.Verdict.the-variants.{Accepted}
+use Rattle.process_list.specs.List.{Element, nodeOf, allNumbers, placed, coefficientsOf, powersOf, verdict}
+use Rattle.process_list.proofs.Lists.{list-length, heads-length, Fine, accepted-fine, fine-accepted}
+use Rattle.room.specs.Room.{roomLength}
+use Rattle.room.proofs.Contents.{filled-length, filled-behind, filled-over}
+use Rattle.valid.specs.Valid.{every, sound, isValid, elementsOf}
+use Rattle.valid.proofs.Readings.{all-length, parts}
+use Rattle.valid.proofs.Readings as Readings
+use Rattle.grammar.specs.Parse.{Out, done, before, thenOut, retP, keptOut, loopP}
+use Rattle.grammar.specs.Laws.{nope}
+use Rattle.xml.specs.Bytes.{bytes, isSpace, isLetter}
+use Rattle.xml.specs.Xml.{Tag}
+use Rattle.xml.specs.Elements.{gap, between}
+use Rattle.clf.specs.Nodes.{NodeRead}
+use Rattle.clf.specs.List.{noFlags, Document, listContent, document, tail}
+use Rattle.clf.specs.Reading.{accepted, faulty, unfit, mostBytes, nodesOf, nodesIn, byVerdict, listReading, tailReading, textReading, readText, read}
+use Rattle.clf.specs.Reading as Reading
+use Rattle.look.specs.Look.{Look, roomOf, holding}
+use Rattle.claims.specs.LookRuns.{readInto}
+use Rattle.claims.proofs.Rules.{WholeElements, read-short, text-elements}
+use Rattle.claims.proofs.Look.{held-valid}
+use Rattle.written_form.specs.Written.{refused, written, isIdByte, idRight, nodesText, headText, listText, fitting, writeOf}
+use Rattle.reads_back.specs.Back.{Allowed, ReadAs, HasPlaces, Valid, held, writing, EqualRoom, Leaves, WrittenReadsBack, Refusal16, ExactlyAllowed}
+use Rattle.reads_back.proofs.Nodes.{readAs}
+use Rattle.reads_back.proofs.Items.{Item, items-from, line-item, Read, nodes-read}
+use Rattle.reads_back.proofs.Heads.{Id, id-parts, rootAttributes, head-reads}
+use Rattle.reads_back.proofs.Lengths.{list-long}
+
+-- ---- the document of a written list
+
+record Documented (id : List ℕ) (es : List Element) : Type 0 where
+  start : List ℕ
+  items : List Item
+  reads : document .run (listText id es) ≡ done (record { start = start; parts = items }) (10 ∷ [])
+  nodes : nodesOf items ≡ map readAs es
+
+document-reads : (id : List ℕ) (es : List Element) → Id id → every sound es ≡ true → Documented id es
+unfolding listText headText document nodesOf
+document-reads id es k h =
+    let s : List ℕ = listText id es in
+    let n : List ℕ = nodesText es (bytes "</ProcessList>\n") in
+    let g : Item = (gap, before (10 ∷ n) n) in
+    let tag : Tag = record { attributes = rootAttributes id k; empty = false } in
+    let i : Read noFlags (g ∷ []) n (10 ∷ []) (map readAs es) = nodes-read noFlags (g ∷ []) es (10 ∷ []) h in
+    record {
+      start = before s (10 ∷ n);
+      items = g ∷ i .parts;
+      reads = ap (λ (o : Out Tag). thenOut (keptOut o s) (λ x r. thenOut ((listContent (x .0)) .run r) (λ l. retP (record { start = x .1; parts = l })))) (head-reads id k (10 ∷ n))
+          ∙ ap (λ (o : Out (List Item)). thenOut o (λ l. retP (record { start = before s (10 ∷ n); parts = l }))) (items-from (10 ∷ n) ∙ line-item noFlags [] n ∙ i .reads);
+      nodes = i .nodes;
+    }
+
+tail-reads : tail (10 ∷ []) ≡ done tt []
+unfolding tail loopP between isSpace
+tail-reads = refl
+
+-- ---- reading it
+
+elements-back : (es : List Element) → Reading.elementsOf (map readAs es) ≡ es
+elements-back [] = refl
+elements-back (e ∷ es) = ap (λ (l : List Element). e ∷ l) (elements-back es)
+
+allowed-verdict : (room : ℕ) (es : List Element) → Allowed room es → verdict room es ≡ Accepted
+unfolding verdict
+allowed-verdict room es a =
+    fine-accepted room (map nodeOf es) (record {
+      some = omega (arith, a .some, heads-length es);
+      few = omega (arith, a .few, heads-length es);
+      chained = a .chained;
+      holds = omega (arith, a .holds, all-length es (a .nodes));
+    })
+
+list-accepted : (room : ℕ) (es : List Element) → verdict room es ≡ Accepted → listReading room (map readAs es) ≡ accepted (map readAs es)
+unfolding listReading
+list-accepted room es v = ap (λ (l : List Element). byVerdict (map readAs es) (verdict room l)) (elements-back es) ∙ ap (byVerdict (map readAs es)) v
+
+text-accepted : (room : ℕ) (id : List ℕ) (es : List Element) → Id id → every sound es ≡ true → verdict room es ≡ Accepted → readText room (listText id es) ≡ accepted (map readAs es)
+unfolding readText
+text-accepted room id es k h v =
+    let s : List ℕ = listText id es in
+    let d : Documented id es = document-reads id es k h in
+    let x : Document = record { start = d .start; parts = d .items } in
+    ap (textReading room s) (d .reads)
+    ∙ ap (tailReading room s x) tail-reads
+    ∙ ap (listReading room) (d .nodes)
+    ∙ list-accepted room es v
+
+-- at most 16 MiB: '4 first'
+text-small : (room : ℕ) (id : List ℕ) (es : List Element) → Id id → Allowed room es → length (listText id es) ≤ mostBytes
+text-small room id es k a = omega (arith, list-long id es (k .few) (a .nodes), a .few, a .holds)
+
+-- over the elements: 'a list written out reads back as that list'
+pub list-reads-back : (room : ℕ) (id : List ℕ) (es : List Element) → idRight id ≡ true → Allowed room es → ReadAs room (listText id es) es
+unfolding read
+list-reads-back room id es i a =
+    let k : Id id = id-parts id i in
+    record {
+      nodes = map readAs es;
+      accepted = ap (λ (v : Bool). cond v (faulty 4 0) (readText room (listText id es))) (le-ltb mostBytes (length (listText id es)) (text-small room id es k a))
+          ∙ text-accepted room id es k (a .nodes) (allowed-verdict room es a);
+      elements = elements-back es;
+    }
+
+-- ---- which lists are read
+
+verdict-allowed : (room : ℕ) (es : List Element) → every sound es ≡ true → verdict room es ≡ Accepted → Allowed room es
+unfolding verdict
+verdict-allowed room es h v =
+    let f : Fine room (map nodeOf es) = accepted-fine room (map nodeOf es) v in
+    record {
+      some = omega (arith, f .some, heads-length es);
+      few = omega (arith, f .few, heads-length es);
+      chained = f .chained;
+      holds = omega (arith, f .holds, all-length es h);
+      nodes = h;
+    }
+
+-- what is accepted keeps the rules
+accepted-whole : (room : ℕ) (file : List ℕ) (l : List NodeRead) → read room file ≡ accepted l → WholeElements room (Reading.elementsOf l)
+accepted-whole room file l e = text-elements room file l (read-short room file l e .text)
+
+plain-id : idRight (bytes "a") ≡ true
+unfolding idRight isIdByte isLetter every
+plain-id = refl
+
+-- a list is the list of some accepted file exactly if it keeps the rules (1 to 32 nodes, 10, 13, and each node's own)
+pub exactly-allowed : (room : ℕ) (es : List Element) → ExactlyAllowed room es
+exactly-allowed room es = (λ a. (listText (bytes "a") es, list-reads-back room (bytes "a") es plain-id a), λ f. back (f .0) (f .1))
+  where
+    back : (file : List ℕ) → ReadAs room file es → Allowed room es
+    back file r =
+        let w : WholeElements room (Reading.elementsOf (r .nodes)) = accepted-whole room file (r .nodes) (r .accepted) in
+        subst (Allowed room) (r .elements) (verdict-allowed room (Reading.elementsOf (r .nodes)) (w .sounds) (w .fits))
+
+-- ---- list and room
+
+module _ (x : Look) (p : HasPlaces x) (v : Valid x) where
+  -- what a valid list and room are: the reading of their elements
+  reading : Readings.Reading (x .list) (x .coefficients) (x .powers) (held x)
+  reading = parts (x .list) (x .coefficients) (x .powers) p v
+
+  held-allowed : Allowed (roomOf x) (held x)
+  held-allowed = verdict-allowed (roomOf x) (held x) (reading .sounds) (reading .accepted)
+
+  holding-self : holding x (held x) ≡ x
+  unfolding holding
+  holding-self = λ i. record { list = sym (reading .list) i; coefficients = sym (reading .coefficients) i; powers = sym (reading .powers) i }
+
+  -- what the room held before does not matter
+  module _ (y : Look) (e : EqualRoom x y) where
+    holding-equal : (es : List Element) → holding y es ≡ holding x es
+    unfolding holding
+    holding-equal es =
+        let a = filled-over (roomOf x) (pos 0) (coefficientsOf es) (y .coefficients) (x .coefficients) (e .coefficients) in
+        let b = filled-over (roomOf x) (pos 0) (powersOf es) (y .powers) (x .powers) (e .powers) in
+        rw (e .room, a, b)
+
+    -- the text of a valid list and room, under any right id
+    pub valid-reads-back : (id : List ℕ) → idRight id ≡ true → Leaves y (listText id (held x)) x
+    valid-reads-back id i =
+        let r : ReadAs (roomOf x) (listText id (held x)) (held x) = list-reads-back (roomOf x) id (held x) i held-allowed in
+        let q : read (roomOf y) (listText id (held x)) ≡ accepted (r .nodes) = ap (λ (n : ℕ). read n (listText id (held x))) (e .room) ∙ r .accepted in
+        record {
+          nodes = r .nodes;
+          accepted = q;
+          look = ap (λ (z : Reading.Reading). holding y (Reading.elementsOf (nodesIn z))) q ∙ ap (holding y) (r .elements) ∙ holding-equal (held x) ∙ holding-self;
+        }
+
+-- what writing answered: list and room are valid, the id is right, and the text is theirs
+record Wrote (x : Look) (id text : List ℕ) : Type 0 where
+  valid : Valid x
+  right : idRight id ≡ true
+  is : listText id (held x) ≡ text
+
+wrote : (x : Look) (id : List ℕ) (out : ℕ) (text : List ℕ) → writing x id out ≡ written text → Wrote x id text
+unfolding writeOf fitting
+wrote x id out text e = go (isValid (x .list) (x .coefficients) (x .powers)) (idRight id) (ltb out (length (listText id (held x)))) refl refl e
+  where
+    go : (a b c : Bool) → isValid (x .list) (x .coefficients) (x .powers) ≡ a → idRight id ≡ b
+        → cond a (cond b (cond c (refused 17) (written (listText id (held x)))) (refused 18)) (refused 16) ≡ written text → Wrote x id text
+    go true true true q r z = nope cc
+    go true true false q r z = record { valid = q; right = r; is = cc }
+    go true false c q r z = nope cc
+    go false b c q r z = nope cc
+
+-- DEMAND 2: 'a list written out reads back as that list'
+pub written-reads-back : (x : Look) → HasPlaces x → WrittenReadsBack x
+written-reads-back x p id out text e y room =
+    let w : Wrote x id text = wrote x id out text e in
+    subst (λ (t : List ℕ). Leaves y t x) (w .is) (valid-reads-back x p (w .valid) y room id (w .right))
+
+-- ---- refusal 16
+
+-- what an accepted reading leaves, whatever list and room held before, is valid
+pub left-valid : (y : Look) (file : List ℕ) (x : Look) → Leaves y file x → Valid x
+left-valid y file x l =
+    let es : List Element = Reading.elementsOf (l .nodes) in
+    let w : WholeElements (roomOf y) es = accepted-whole (roomOf y) file (l .nodes) (l .accepted) in
+    let q : holding y es ≡ x = ap (λ (z : Reading.Reading). holding y (Reading.elementsOf (nodesIn z))) (sym (l .accepted)) ∙ l .look in
+    subst Valid q (held-valid y es w)
+
+itself : (x : Look) → EqualRoom x x
+itself x = record { room = refl; coefficients = refl; powers = refl }
+
+-- REFUSAL 16: 'list and room are no accepted reading of any file into that room'
+pub refusal-16 : (x : Look) → HasPlaces x → Refusal16 x
+refusal-16 x p = (λ v. (listText (bytes "a") (held x), valid-reads-back x p v x (itself x) (bytes "a") plain-id), λ f. left-valid x (f .0) x (f .1))
+
+-- ---- which rooms are equal, and which lists have 32 places
+
+all-dropped : (n : ℕ) (s t : List ℤ) → length s ≤ n → length t ≤ n → drop n s ≡ drop n t
+all-dropped n s t h k = drop-of-length-le s h ∙ sym (drop-of-length-le t k)
+
+-- slices of one length
+pub same-lengths : (n : ℕ) (x y : Look) → length (x .coefficients) ≡ n → length (x .powers) ≡ n → length (y .coefficients) ≡ n → length (y .powers) ≡ n → EqualRoom x y
+unfolding roomLength
+same-lengths n x y a b c d =
+    record {
+      room = omega arith;
+      coefficients = all-dropped (roomOf x) (y .coefficients) (x .coefficients) (omega arith) (omega arith);
+      powers = all-dropped (roomOf x) (y .powers) (x .powers) (omega arith) (omega arith);
+    }
+
+-- every list that a reading leaves, a refused one too
+pub read-places : (y : Look) (file : List ℕ) → HasPlaces (readInto y file)
+unfolding holding
+read-places y file = list-length (placed (Reading.elementsOf (nodesIn (read (roomOf y) file))))
+
+-- and its room is equal to the one that was lent
+read-few : (room : ℕ) (file : List ℕ) → length (allNumbers (Reading.elementsOf (nodesIn (read room file)))) ≤ room
+unfolding allNumbers
+read-few room file = go (read room file) refl
+  where
+    go : (r : Reading.Reading) → read room file ≡ r → length (allNumbers (Reading.elementsOf (nodesIn r))) ≤ room
+    go (accepted l) e =
+        let w : WholeElements room (Reading.elementsOf l) = accepted-whole room file l e in
+        let a : Allowed room (Reading.elementsOf l) = verdict-allowed room (Reading.elementsOf l) (w .sounds) (w .fits) in
+        omega (arith, a .holds)
+    go (faulty k p) e = omega arith
+    go (unfit k p) e = omega arith
+
+module _ (y : Look) (es : List Element) (h : length (allNumbers es) ≤ roomOf y) where
+  few-coefficients : length (coefficientsOf es) ≤ roomOf y
+  unfolding coefficientsOf
+  few-coefficients = omega (arith, length-map (allNumbers es) (λ (d : Decimal). d .coefficient))
+
+  few-powers : length (powersOf es) ≤ roomOf y
+  unfolding powersOf
+  few-powers = omega (arith, length-map (allNumbers es) (λ (d : Decimal). d .power))
+
+  room-kept : roomOf y ≡ roomOf (holding y es)
+  unfolding holding roomLength
+  room-kept =
+      let n : ℕ = min (length (y .coefficients)) (length (y .powers)) in
+      let a = filled-length n (pos 0) (coefficientsOf es) (y .coefficients) few-coefficients (omega arith) in
+      let b = filled-length n (pos 0) (powersOf es) (y .powers) few-powers (omega arith) in
+      omega arith
+
+  pub holding-room : EqualRoom (holding y es) y
+  unfolding holding
+  holding-room = record {
+    room = room-kept;
+    coefficients = rw (← room-kept) (sym (filled-behind (roomOf y) (pos 0) (coefficientsOf es) (y .coefficients) few-coefficients));
+    powers = rw (← room-kept) (sym (filled-behind (roomOf y) (pos 0) (powersOf es) (y .powers) few-powers));
+  }
+
+-- so: read any file, write the list out under any id, read that text into the same room: list and room are the same
+pub read-written-read : (y : Look) (file id : List ℕ) (out : ℕ) (text : List ℕ) → writing (readInto y file) id out ≡ written text → Leaves y text (readInto y file)
+read-written-read y file id out text e =
+    written-reads-back (readInto y file) (read-places y file) id out text e y
+    (holding-room y (Reading.elementsOf (nodesIn (read (roomOf y) file))) (read-few (roomOf y) file))

@@ -1,0 +1,17 @@
+pub mod Texts
+pub mod Tags
+pub mod Held
+pub mod Numbers
+pub mod Shapes
+pub mod Values
+pub mod Depths
+pub mod Tables
+pub mod Ranges
+pub mod Cdls
+pub mod One
+pub mod Sound
+pub mod Nodes
+pub mod Items
+pub mod Heads
+pub mod Lengths
+pub mod Back

@@ -1,0 +1,142 @@
+-- A node of ProcessList in front of what follows it. Assumes nothing.
+use mathlib.Core.Path.{_≡_, refl, sym, ap, subst}
+use mathlib.Core.Bool.{Bool, true, false}
+use mathlib.Core.List.{List, [], _∷_, _++_}
+use Prim.Native.Nat.{ℕ, _<_}
+use native.Mathlib.Omega.{arith}
+use lib.ListN.{length, length-append}
+use Rattle.decimal.specs.declared.Decimal.{Decimal}
+use Rattle.process_list.specs.declared.Depth.{Depth}
+use Rattle.process_list.specs.declared.Kind.{Kind}
+use Rattle.process_list.specs.declared.Kind.the-variants.{Matrix, Lut1d, Range, Cdl}
+use Rattle.process_list.specs.List.{Element, numbersOf}
+use Rattle.valid.specs.Valid.{shapeRight, rulesHold, sound}
+use Rattle.grammar.specs.Parse.{Out, done, thenOut, retP}
+use Rattle.xml.specs.Bytes.{bytes, same}
+use Rattle.xml.specs.Xml.{endTag}
+use Rattle.xml.specs.Elements.{child}
+use Rattle.clf.specs.Nodes.{NodeRead, nodeName, matrix, lut1d, range, ascCdl}
+use Rattle.clf.specs.List.{node, Flags, childFault, childBody, listItem}
+use Rattle.written_form.specs.Written.{depthText, nameText, styleText, contentText, startText, endText, nodeText}
+use Rattle.reads_back.proofs.Texts.{rest-short, isName}
+use Rattle.reads_back.proofs.Held.{between-child}
+use Rattle.reads_back.proofs.Tables.{space-name, matrix-name, lut-name, matrix-reads, lut-reads}
+use Rattle.reads_back.proofs.Ranges.{range-name, range-reads}
+use Rattle.reads_back.proofs.Cdls.{cdl-name, cdl-reads}
+use Rattle.reads_back.proofs.Sound.{Parts, sound-parts, any-kept, Four, four, range-order, TenOf, ten-of, ten-kept}
+
+-- the node that is read: the element, without a Description
+abbrev pub readAs : Element → NodeRead
+readAs e = record { element = e; description = [] }
+
+-- ---- a child of each of the four names
+
+name-right : (k : Kind) → isName (nameText k) ≡ true
+name-right (Matrix wide) = matrix-name
+name-right (Lut1d entries columns) = lut-name
+name-right (Range clamp) = range-name
+name-right (Cdl clamp) = cdl-name
+
+fault-none : (st : Flags) (k : Kind) → childFault st (nameText k) ≡ 0
+unfolding childFault nodeName same
+fault-none st (Matrix wide) = refl
+fault-none st (Lut1d entries columns) = refl
+fault-none st (Range clamp) = refl
+fault-none st (Cdl clamp) = refl
+
+matrix-child : (s : List ℕ) (n : NodeRead) (r : List ℕ) → matrix .run s ≡ done n r → (childBody (bytes "Matrix")) .run s ≡ done (node n) r
+unfolding childBody nodeName same
+matrix-child s n r e = ap (λ (o : Out NodeRead). thenOut o (λ n. retP (node n))) e
+
+lut-child : (s : List ℕ) (n : NodeRead) (r : List ℕ) → lut1d .run s ≡ done n r → (childBody (bytes "LUT1D")) .run s ≡ done (node n) r
+unfolding childBody nodeName same
+lut-child s n r e = ap (λ (o : Out NodeRead). thenOut o (λ n. retP (node n))) e
+
+range-child : (s : List ℕ) (n : NodeRead) (r : List ℕ) → range .run s ≡ done n r → (childBody (bytes "Range")) .run s ≡ done (node n) r
+unfolding childBody nodeName same
+range-child s n r e = ap (λ (o : Out NodeRead). thenOut o (λ n. retP (node n))) e
+
+cdl-child : (s : List ℕ) (n : NodeRead) (r : List ℕ) → ascCdl .run s ≡ done n r → (childBody (bytes "ASC_CDL")) .run s ≡ done (node n) r
+unfolding childBody nodeName same
+cdl-child s n r e = ap (λ (o : Out NodeRead). thenOut o (λ n. retP (node n))) e
+
+-- ---- what stands behind a node's name, up to the LF behind its end tag
+
+abbrev behindName : Element → List ℕ → List ℕ
+behindName e t =
+    bytes "inBitDepth=\"" ++ (depthText (e .input) ++ (bytes "\" outBitDepth=\"" ++ (depthText (e .output) ++ (bytes "\"" ++ (styleText (e .kind) ++ (bytes ">\n" ++
+    contentText (e .kind) (e .numbers) (endText (e .kind) t)))))))
+
+module _ (i o : Depth) (ds : List Decimal) (t : List ℕ) where
+  abbrev made : Kind → Element
+  made k = record { kind = k; input = i; output = o; numbers = ds }
+
+  matrix-body : (wide : Bool) → Parts (Matrix wide) ds → (childBody (bytes "Matrix")) .run (32 ∷ behindName (made (Matrix wide)) t) ≡ done (node (readAs (made (Matrix wide)))) (10 ∷ t)
+  unfolding contentText endText numbersOf
+  matrix-body true p = matrix-child (32 ∷ behindName (made (Matrix true)) t) (readAs (made (Matrix true))) (10 ∷ t)
+      (matrix-reads i o true ds (10 ∷ t) (any-kept ds (p .each)) (p .count) (sym (p .count)))
+  matrix-body false p = matrix-child (32 ∷ behindName (made (Matrix false)) t) (readAs (made (Matrix false))) (10 ∷ t)
+      (matrix-reads i o false ds (10 ∷ t) (any-kept ds (p .each)) (p .count) (sym (p .count)))
+
+  lut-body : (n c : ℕ) → Parts (Lut1d n c) ds → (childBody (bytes "LUT1D")) .run (32 ∷ behindName (made (Lut1d n c)) t) ≡ done (node (readAs (made (Lut1d n c)))) (10 ∷ t)
+  unfolding contentText endText numbersOf shapeRight
+  lut-body n c p = lut-child (32 ∷ behindName (made (Lut1d n c)) t) (readAs (made (Lut1d n c))) (10 ∷ t)
+      (lut-reads i o n c ds (10 ∷ t) (p .shape) (any-kept ds (p .each)) (p .count) (sym (p .count)))
+
+module _ (i o : Depth) (t : List ℕ) where
+  range-four : (clamp : Bool) (a b c d : Decimal) → Parts (Range clamp) (a ∷ b ∷ c ∷ d ∷ [])
+      → (childBody (bytes "Range")) .run (32 ∷ behindName (made i o (a ∷ b ∷ c ∷ d ∷ []) t (Range clamp)) t) ≡ done (node (readAs (made i o (a ∷ b ∷ c ∷ d ∷ []) t (Range clamp)))) (10 ∷ t)
+  unfolding contentText endText rulesHold
+  range-four true a b c d p = range-child (32 ∷ behindName (made i o (a ∷ b ∷ c ∷ d ∷ []) t (Range true)) t) (readAs (made i o (a ∷ b ∷ c ∷ d ∷ []) t (Range true))) (10 ∷ t)
+      (range-reads i o a b c d true (10 ∷ t) (any-kept (a ∷ b ∷ c ∷ d ∷ []) (p .each)) (range-order a b c d (p .rules)))
+  range-four false a b c d p = range-child (32 ∷ behindName (made i o (a ∷ b ∷ c ∷ d ∷ []) t (Range false)) t) (readAs (made i o (a ∷ b ∷ c ∷ d ∷ []) t (Range false))) (10 ∷ t)
+      (range-reads i o a b c d false (10 ∷ t) (any-kept (a ∷ b ∷ c ∷ d ∷ []) (p .each)) (range-order a b c d (p .rules)))
+
+  abbrev RangeBack : Bool → List Decimal → Type 0
+  RangeBack clamp ds = Parts (Range clamp) ds → (childBody (bytes "Range")) .run (32 ∷ behindName (made i o ds t (Range clamp)) t) ≡ done (node (readAs (made i o ds t (Range clamp)))) (10 ∷ t)
+
+  range-body : (clamp : Bool) (ds : List Decimal) → RangeBack clamp ds
+  unfolding numbersOf
+  range-body clamp ds p =
+      let f : Four ds = four ds (p .count) in
+      subst (RangeBack clamp) (sym (f .is)) (range-four clamp (f .a) (f .b) (f .c) (f .d)) p
+
+  abbrev CdlBack : Bool → List Decimal → Type 0
+  CdlBack clamp ds = Parts (Cdl clamp) ds → (childBody (bytes "ASC_CDL")) .run (32 ∷ behindName (made i o ds t (Cdl clamp)) t) ≡ done (node (readAs (made i o ds t (Cdl clamp)))) (10 ∷ t)
+
+  cdl-ten : (clamp : Bool) (s1 s2 s3 o1 o2 o3 p1 p2 p3 v : Decimal) → CdlBack clamp (s1 ∷ s2 ∷ s3 ∷ o1 ∷ o2 ∷ o3 ∷ p1 ∷ p2 ∷ p3 ∷ v ∷ [])
+  unfolding contentText endText rulesHold
+  cdl-ten true s1 s2 s3 o1 o2 o3 p1 p2 p3 v p =
+      let ds : List Decimal = s1 ∷ s2 ∷ s3 ∷ o1 ∷ o2 ∷ o3 ∷ p1 ∷ p2 ∷ p3 ∷ v ∷ [] in
+      cdl-child (32 ∷ behindName (made i o ds t (Cdl true)) t) (readAs (made i o ds t (Cdl true))) (10 ∷ t)
+      (cdl-reads s1 s2 s3 o1 o2 o3 p1 p2 p3 v (ten-kept s1 s2 s3 o1 o2 o3 p1 p2 p3 v (p .each) (p .rules)) i o true (10 ∷ t))
+  cdl-ten false s1 s2 s3 o1 o2 o3 p1 p2 p3 v p =
+      let ds : List Decimal = s1 ∷ s2 ∷ s3 ∷ o1 ∷ o2 ∷ o3 ∷ p1 ∷ p2 ∷ p3 ∷ v ∷ [] in
+      cdl-child (32 ∷ behindName (made i o ds t (Cdl false)) t) (readAs (made i o ds t (Cdl false))) (10 ∷ t)
+      (cdl-reads s1 s2 s3 o1 o2 o3 p1 p2 p3 v (ten-kept s1 s2 s3 o1 o2 o3 p1 p2 p3 v (p .each) (p .rules)) i o false (10 ∷ t))
+
+  cdl-body : (clamp : Bool) (ds : List Decimal) → CdlBack clamp ds
+  unfolding numbersOf
+  cdl-body clamp ds p =
+      let f : TenOf ds = ten-of ds (p .count) in
+      subst (CdlBack clamp) (sym (f .is)) (cdl-ten clamp (f .s1) (f .s2) (f .s3) (f .o1) (f .o2) (f .o3) (f .p1) (f .p2) (f .p3) (f .v)) p
+
+  node-body : (k : Kind) (ds : List Decimal) → Parts k ds → (childBody (nameText k)) .run (32 ∷ behindName (made i o ds t k) t) ≡ done (node (readAs (made i o ds t k))) (10 ∷ t)
+  node-body (Matrix wide) ds p = matrix-body i o ds t wide p
+  node-body (Lut1d n c) ds p = lut-body i o ds t n c p
+  node-body (Range clamp) ds p = range-body clamp ds p
+  node-body (Cdl clamp) ds p = cdl-body clamp ds p
+
+-- A WRITTEN NODE READS BACK, as an item of ProcessList; the LF behind it is left
+pub node-reads : (st : Flags) (e : Element) (t : List ℕ) → sound e ≡ true → (listItem st) .run (nodeText e t) ≡ done (child (node (readAs e))) (10 ∷ t)
+unfolding listItem nodeText startText
+node-reads st e t h =
+    between-child (endTag (bytes "ProcessList") 0) (childFault st) childBody (nameText (e .kind)) 32 (behindName e t) (node (readAs e)) (10 ∷ t)
+    (name-right (e .kind)) space-name (fault-none st (e .kind)) (node-body (e .input) (e .output) t (e .kind) (e .numbers) (sound-parts e h))
+
+-- it takes bytes
+pub node-shorter : (e : Element) (t : List ℕ) → sound e ≡ true → length (10 ∷ t) < length (nodeText e t)
+unfolding nodeText startText
+node-shorter e t h =
+    let q = node-body (e .input) (e .output) t (e .kind) (e .numbers) (sound-parts e h) in
+    omega (arith, rest-short (childBody (nameText (e .kind))) (32 ∷ behindName e t) (node (readAs e)) (10 ∷ t) q, length-append (nameText (e .kind)) (32 ∷ behindName e t))

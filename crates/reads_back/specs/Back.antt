@@ -1,0 +1,81 @@
+-- Demand 2, 'a list written out reads back as that list', and refusal 16 of document 01, 'list and room are no accepted reading of any file into that room': what is proved of them.
+use mathlib.Core.Path.{_≡_}
+use mathlib.Core.Logic.{_↔_}
+use mathlib.Core.Bool.{true}
+use mathlib.Core.List.{List, map}
+use Prim.Native.Nat.{ℕ, _≤_, _<_, min}
+use lib.ListN.{length, drop}
+use Rattle.process_list.specs.List.{Element, mostNodes, mostNumbers, nodeOf, allNumbers, firstDiffers}
+use Rattle.valid.specs.Valid.{every, sound, isValid, elementsOf}
+use Rattle.clf.specs.Nodes.{NodeRead}
+use Rattle.clf.specs.Reading.{accepted, read}
+use Rattle.clf.specs.Reading as Reading
+use Rattle.look.specs.Look.{Look, roomOf}
+use Rattle.claims.specs.LookRuns.{readInto}
+use Rattle.written_form.specs.Written.{Writing, written, writeOf}
+
+-- ---- lists of elements
+
+-- the rules of document 01 on a list, for a room of this length
+pub record Allowed (room : ℕ) (es : List Element) : Type 0 where
+  -- '1 to 32 nodes' (12, 11)
+  pub some : 0 < length es
+  pub few : length es ≤ mostNodes
+  -- 10: no inBitDepth differs from the previous outBitDepth
+  pub chained : firstDiffers (map nodeOf es) ≡ 0
+  -- 13: 'At most 262,144 numbers, fewer if the lent room is smaller'
+  pub holds : length (allNumbers es) ≤ min room mostNumbers
+  -- each node's own rules
+  pub nodes : every sound es ≡ true
+
+-- a file whose reading into a room of this length is accepted, with these elements for its list
+pub record ReadAs (room : ℕ) (file : List ℕ) (es : List Element) : Type 0 where
+  pub nodes : List NodeRead
+  pub accepted : read room file ≡ accepted nodes
+  pub elements : Reading.elementsOf nodes ≡ es
+
+-- ---- list and room
+
+-- 'list and room', of which a list is an array of 32 nodes
+abbrev pub HasPlaces : Look → Type 0
+HasPlaces x = length (x .list .nodes) ≡ mostNodes
+
+-- 16 is not given
+abbrev pub Valid : Look → Type 0
+Valid x = isValid (x .list) (x .coefficients) (x .powers) ≡ true
+
+-- the elements that list and room hold
+abbrev pub held : Look → List Element
+held x = elementsOf (x .list) (x .coefficients) (x .powers)
+
+-- what writing answers for list and room, under an id, for an output of this length
+abbrev pub writing : Look → List ℕ → ℕ → Writing
+writing x id out = writeOf (x .list) (x .coefficients) (x .powers) id out
+
+-- 'into equal room': of the same length, and the same behind it where one slice is longer than the other; list and room itself may hold anything
+pub record EqualRoom (x y : Look) : Type 0 where
+  pub room : roomOf y ≡ roomOf x
+  pub coefficients : drop (roomOf x) (y .coefficients) ≡ drop (roomOf x) (x .coefficients)
+  pub powers : drop (roomOf x) (y .powers) ≡ drop (roomOf x) (x .powers)
+
+-- reading the file into y is accepted, and leaves the list and room x
+pub record Leaves (y : Look) (file : List ℕ) (x : Look) : Type 0 where
+  pub nodes : List NodeRead
+  pub accepted : read (roomOf y) file ≡ accepted nodes
+  pub look : readInto y file ≡ x
+
+-- 'list and room are [an] accepted reading of [some] file into that room'
+abbrev pub SomeReading : Look → Type 0
+SomeReading x = (file : List ℕ) × Leaves x file x
+
+-- DEMAND 2, its last part. Whatever text writing answers for list and room is accepted, and leaves this very list and room, when it is read into equal room
+abbrev pub WrittenReadsBack : Look → Type 0
+WrittenReadsBack x = (id : List ℕ) (out : ℕ) (text : List ℕ) → writing x id out ≡ written text → (y : Look) → EqualRoom x y → Leaves y text x
+
+-- REFUSAL 16, both ways: list and room pass exactly if they are the accepted reading of some file into that room
+abbrev pub Refusal16 : Look → Type 0
+Refusal16 x = Valid x ↔ SomeReading x
+
+-- WHICH LISTS ARE READ: exactly those that keep the rules are the list of some file
+abbrev pub ExactlyAllowed : ℕ → List Element → Type 0
+ExactlyAllowed room es = Allowed room es ↔ ((file : List ℕ) × ReadAs room file es)
