@@ -1,7 +1,7 @@
 -- Mapping the pixels of a slice one after the other: what is done so far, with the rest mapped, is the whole mapped. The length stays. Assumes nothing.
 use mathlib.Core.Path.{_≡_, refl, sym, ap, _∙_, subst}
 use mathlib.Core.List.{List, [], _∷_, _++_, append-assoc}
-use Prim.Native.Nat.{ℕ, suc, _+_, _-_, _*_, _<_}
+use Prim.Native.Nat.{ℕ, suc, _+_, _-_, _*_, _≤_, _<_}
 use native.Mathlib.Omega.{arith}
 use lib.ListN.{length, take, drop, getD, set, length-set, length-drop, take-append-drop}
 use lib.Seq.{drop-cons, take-suc-set, drop-set-lt}
@@ -82,6 +82,27 @@ done-end f xs₀ xs i h d =
     sym (take-append-drop i xs)
     ∙ ap (λ (l : List Float). take i xs ++ l) (sym (short f (drop i xs) (subst (λ (n : ℕ). n < 3) (sym (length-drop i xs)) h)))
     ∙ d
+
+-- what a loop over the pixels keeps
+pub record Passed (f : Pixel → Pixel) (xs₀ xs : List Float) (i : ℕ) : Type 0 where
+  pub within : i ≤ length xs
+  pub whole : length xs ≡ length xs₀
+  pub done : Done f xs₀ xs i
+
+length-stored : (xs : List Float) (i : ℕ) (q : Pixel) → length (stored xs i q) ≡ length xs
+length-stored xs i q = simp length-set
+
+pub passed-start : (f : Pixel → Pixel) (xs : List Float) → Passed f xs xs 0
+passed-start f xs = record { within = omega arith; whole = refl; done = done-start f xs }
+
+-- one pixel read, mapped and put back
+pub passed-more : {f : Pixel → Pixel} {xs₀ xs : List Float} {i : ℕ} {x y : Pixel} {ys : List Float} → Passed f xs₀ xs i → i + 2 < length xs → x ≡ pixelAt xs i → y ≡ f x → ys ≡ stored xs i y → Passed f xs₀ ys (i + 3)
+passed-more {f} {xs₀} {xs} {i} {x} {y} {ys} p h ex ey es =
+    let l : length ys ≡ length xs = ap length es ∙ length-stored xs i y in
+    record { within = omega arith; whole = l ∙ p .whole; done = rw (es, ey, ex) (done-more f xs₀ xs i h (p .done)) }
+
+pub passed-end : {f : Pixel → Pixel} {xs₀ xs : List Float} {i : ℕ} → length xs - i < 3 → Passed f xs₀ xs i → xs ≡ eachPixel f xs₀
+passed-end {f} {xs₀} {xs} {i} h p = done-end f xs₀ xs i h (p .done)
 
 pub each-length : (f : Pixel → Pixel) (xs : List Float) → length (eachPixel f xs) ≡ length xs
 unfolding eachPixel

@@ -3,4 +3,6 @@ pub mod StepLaws
 pub mod Prepare
 pub mod Each
 pub mod EachLaws
+pub mod Clamped
 pub mod Finite
+pub mod FiniteLaws

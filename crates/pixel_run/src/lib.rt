@@ -1,10 +1,22 @@
 // One prepared node over the pixels of a lent slice, and refusal 15 (document 01, 'What a pixel goes through').
 ghost use mathlib.Core.Path.{_≡_};
+ghost use mathlib.Core.Bool.{true};
+ghost use Prim.Native.Nat.{_+_, _<_};
+ghost use lib.ListN.{length};
+ghost use lib.Ieee.{lt};
 ghost use lib.Ieee.Scale.{finite};
+ghost use Rattle.pixel.specs.Hold as Hold;
+ghost use Rattle.pixel.specs.Range as Range;
+ghost use Rattle.pixel.specs.Matrix as Matrix;
+ghost use Rattle.pixel.specs.Cdl as Cdl;
+ghost use Rattle.pixel_lut.specs.Table as Table;
 ghost use Rattle.pixel_run.specs.Step as Step;
 ghost use Rattle.pixel_run.specs.Prepare as Prepare;
 ghost use Rattle.pixel_run.specs.Each as Each;
+ghost use Rattle.pixel_run.specs.EachLaws as EachLaws;
+ghost use Rattle.pixel_run.specs.Clamped as Clamped;
 ghost use Rattle.pixel_run.specs.Finite as Finite;
+ghost use Rattle.pixel_run.specs.FiniteLaws as FiniteLaws;
 use pixel::Pixel;
 
 // A prepared node: Range with its four numbers, CDL with its ten, Matrix and LUT1D with where theirs stand.
@@ -127,6 +139,188 @@ pub fn step(
     }
 }
 
+// The pixel whose red stands at i.
+fn load(pixels: &[f64], i: usize) -> Pixel
+    requires { ⌜ i + 2 < length (now pixels) ⌝ }
+    ensures { λ r. ⌜ r ≡ EachLaws.pixelAt (now (pixels .entry)) i ⌝ }
+{
+    Pixel {
+        r: pixels[i],
+        g: pixels[i + 1],
+        b: pixels[i + 2],
+    }
+}
+
+// A pixel put at i.
+fn store(pixels: &mut [f64], i: usize, y: Pixel)
+    requires { ⌜ i + 2 < length (now pixels) ⌝ }
+    ensures { λ _. ⌜ now (pixels .exit) ≡ EachLaws.stored (now (pixels .entry)) i y ⌝ }
+{
+    pixels[i] = y.r;
+    pixels[i + 1] = y.g;
+    pixels[i + 2] = y.b;
+}
+
+// One loop for each kind of node, so that each has few tests inside.
+fn run_range(pixels: &mut [f64], min_in: f64, max_in: f64, min_out: f64, max_out: f64, clamp: bool)
+    ensures { λ _. ⌜ now (pixels .exit) ≡ Each.eachPixel (Range.rangePixel «min_in» «max_in» «min_out» «max_out» clamp) (now (pixels .entry)) ⌝ }
+{
+    let mut i = 0usize;
+    while pixels.len() - i >= 3 {
+        let x = load(pixels, i);
+        let y = pixel::range_pixel(min_in, max_in, min_out, max_out, clamp, x);
+        store(pixels, i, y);
+        i += 3;
+    }
+}
+
+fn at_most(x: f64, hi: f64) -> f64
+    ensures { λ r. ⌜ r ≡ Clamped.atMost x hi ⌝ }
+{
+    if x > hi {
+        return hi;
+    }
+    x
+}
+
+// Hold between lo and hi: a minimum and a maximum, since lo is below hi.
+fn hold_ordered(x: f64, lo: f64, hi: f64) -> f64
+    requires { ⌜ lt lo hi ≡ true ⌝ }
+    ensures { λ r. ⌜ r ≡ Hold.hold x lo hi ⌝ }
+{
+    let z = at_most(x, hi);
+    if z > lo {
+        return z;
+    }
+    lo
+}
+
+// A Range of style Clamp with its scale and its shift worked out.
+fn clamped_pixel(s: f64, shift: f64, lo: f64, hi: f64, x: Pixel) -> Pixel
+    requires { ⌜ lt lo hi ≡ true ⌝ }
+    ensures { λ r. ⌜ r ≡ Clamped.clampedPixel s shift lo hi x ⌝ }
+{
+    Pixel {
+        r: hold_ordered(x.r * s + shift, lo, hi),
+        g: hold_ordered(x.g * s + shift, lo, hi),
+        b: hold_ordered(x.b * s + shift, lo, hi),
+    }
+}
+
+fn run_clamped(pixels: &mut [f64], s: f64, shift: f64, lo: f64, hi: f64)
+    requires { ⌜ lt lo hi ≡ true ⌝ }
+    ensures { λ _. ⌜ now (pixels .exit) ≡ Each.eachPixel (Clamped.clampedPixel s shift lo hi) (now (pixels .entry)) ⌝ }
+{
+    let mut i = 0usize;
+    while pixels.len() - i >= 3 {
+        let x = load(pixels, i);
+        let y = clamped_pixel(s, shift, lo, hi, x);
+        store(pixels, i, y);
+        i += 3;
+    }
+}
+
+// A Range of either style: Clamp between a lower and a higher bound has a loop of its own.
+fn run_ranges(pixels: &mut [f64], min_in: f64, max_in: f64, min_out: f64, max_out: f64, clamp: bool)
+    ensures { λ _. ⌜ now (pixels .exit) ≡ Each.eachPixel (Range.rangePixel «min_in» «max_in» «min_out» «max_out» clamp) (now (pixels .entry)) ⌝ }
+{
+    if !clamp {
+        run_range(pixels, min_in, max_in, min_out, max_out, false);
+        return;
+    }
+    if min_out < max_out {
+        let s = pixel::range_scale(min_in, max_in, min_out, max_out);
+        let shift = pixel::range_shift(min_in, min_out, s);
+        run_clamped(pixels, s, shift, min_out, max_out);
+        return;
+    }
+    run_range(pixels, min_in, max_in, min_out, max_out, true);
+}
+
+fn run_matrix(pixels: &mut [f64], rows: [[f64; 4]; 3], wide: bool)
+    ensures { λ _. ⌜ now (pixels .exit) ≡ Each.eachPixel (Matrix.matrixPixel rows wide) (now (pixels .entry)) ⌝ }
+{
+    let mut i = 0usize;
+    while pixels.len() - i >= 3 {
+        let x = load(pixels, i);
+        let y = pixel::matrix_pixel(rows, wide, x);
+        store(pixels, i, y);
+        i += 3;
+    }
+}
+
+// sr, sg and sb are the slopes, or, og and ob the offsets, input and output the scales.
+fn run_cdl(
+    pixels: &mut [f64],
+    sr: f64,
+    sg: f64,
+    sb: f64,
+    or: f64,
+    og: f64,
+    ob: f64,
+    sat: f64,
+    clamp: bool,
+    input: f64,
+    output: f64,
+)
+    ensures { λ _. ⌜ now (pixels .exit) ≡ Each.eachPixel (Cdl.cdlPixel sr sg sb or og ob sat clamp input output) (now (pixels .entry)) ⌝ }
+{
+    let mut i = 0usize;
+    while pixels.len() - i >= 3 {
+        let x = load(pixels, i);
+        let y = pixel::cdl_pixel(sr, sg, sb, or, og, ob, sat, clamp, input, output, x);
+        store(pixels, i, y);
+        i += 3;
+    }
+}
+
+// An ASC_CDL: with both scales 1 and style Fwd the loop tests neither.
+fn run_cdls(
+    pixels: &mut [f64],
+    sr: f64,
+    sg: f64,
+    sb: f64,
+    or: f64,
+    og: f64,
+    ob: f64,
+    sat: f64,
+    clamp: bool,
+    input: f64,
+    output: f64,
+)
+    ensures { λ _. ⌜ now (pixels .exit) ≡ Each.eachPixel (Cdl.cdlPixel sr sg sb or og ob sat clamp input output) (now (pixels .entry)) ⌝ }
+{
+    if clamp {
+        if input == 1.0 {
+            if output == 1.0 {
+                run_cdl(pixels, sr, sg, sb, or, og, ob, sat, true, 1.0, 1.0);
+                return;
+            }
+        }
+    }
+    run_cdl(pixels, sr, sg, sb, or, og, ob, sat, clamp, input, output);
+}
+
+fn run_lut1d(
+    pixels: &mut [f64],
+    coefficients: &[i64],
+    powers: &[i8],
+    at: usize,
+    entries: usize,
+    columns: usize,
+    in_scale: f64,
+)
+    ensures { λ _. ⌜ now (pixels .exit) ≡ Each.eachPixel (Table.lut1dPixel (now (coefficients .entry)) (now (powers .entry)) at entries columns «in_scale») (now (pixels .entry)) ⌝ }
+{
+    let mut i = 0usize;
+    while pixels.len() - i >= 3 {
+        let x = load(pixels, i);
+        let y = pixel_lut::lut1d_pixel(coefficients, powers, at, entries, columns, in_scale, x);
+        store(pixels, i, y);
+        i += 3;
+    }
+}
+
 // One node over all pixels of the slice.
 pub fn run_node(
     pixels: &mut [f64],
@@ -139,34 +333,71 @@ pub fn run_node(
 )
     ensures { λ _. ⌜ now (pixels .exit) ≡ Each.eachPixel (Step.stepPixel p rows «in_scale» «out_scale» (now (coefficients .entry)) (now (powers .entry))) (now (pixels .entry)) ⌝ }
 {
-    let mut i = 0usize;
-    while pixels.len() - i >= 3 {
-        let x = Pixel {
-            r: pixels[i],
-            g: pixels[i + 1],
-            b: pixels[i + 2],
-        };
-        let y = step(p, rows, in_scale, out_scale, coefficients, powers, x);
-        pixels[i] = y.r;
-        pixels[i + 1] = y.g;
-        pixels[i + 2] = y.b;
-        i += 3;
+    match p {
+        Prepared::Range {
+            min_in,
+            max_in,
+            min_out,
+            max_out,
+            clamp,
+        } => run_ranges(pixels, min_in, max_in, min_out, max_out, clamp),
+        Prepared::Cdl {
+            slope_r,
+            slope_g,
+            slope_b,
+            offset_r,
+            offset_g,
+            offset_b,
+            power_r: _,
+            power_g: _,
+            power_b: _,
+            saturation,
+            clamp,
+        } => run_cdls(
+            pixels,
+            slope_r,
+            slope_g,
+            slope_b,
+            offset_r,
+            offset_g,
+            offset_b,
+            saturation,
+            clamp,
+            in_scale,
+            out_scale,
+        ),
+        Prepared::Matrix { at: _, wide } => run_matrix(pixels, rows, wide),
+        Prepared::Lut1d {
+            at,
+            entries,
+            columns,
+        } => run_lut1d(pixels, coefficients, powers, at, entries, columns, in_scale),
     }
 }
 
-// Neither a NaN nor an infinity.
+// Neither a NaN nor an infinity: from those the difference is a NaN.
 fn is_finite(x: f64) -> bool
     ensures { λ r. ⌜ r ≡ finite x ⌝ }
 {
-    let infinity = 1.0 / 0.0;
-    if x < infinity {
-        return -infinity < x;
-    }
-    false
+    x - x == 0.0
 }
 
-// The index of the first component that is a NaN or an infinity; the length if there is none.
-pub fn first_not_finite(pixels: &[f64]) -> usize
+// Whether every component is finite; none ends the loop early, so that many are tested at a time.
+fn all_finite(pixels: &[f64]) -> bool
+    ensures { λ r. ⌜ r ≡ FiniteLaws.allFinite (now (pixels .entry)) ⌝ }
+{
+    let mut ok = true;
+    let mut i = 0usize;
+    while i < pixels.len() {
+        if !is_finite(pixels[i]) {
+            ok = false;
+        }
+        i += 1;
+    }
+    ok
+}
+
+fn search_not_finite(pixels: &[f64]) -> usize
     ensures { λ r. ⌜ r ≡ Finite.firstNotFinite (now (pixels .entry)) ⌝ }
 {
     let mut i = 0usize;
@@ -177,4 +408,14 @@ pub fn first_not_finite(pixels: &[f64]) -> usize
         i += 1;
     }
     i
+}
+
+// The index of the first component that is a NaN or an infinity; the length if there is none.
+pub fn first_not_finite(pixels: &[f64]) -> usize
+    ensures { λ r. ⌜ r ≡ Finite.firstNotFinite (now (pixels .entry)) ⌝ }
+{
+    if all_finite(pixels) {
+        return pixels.len();
+    }
+    search_not_finite(pixels)
 }

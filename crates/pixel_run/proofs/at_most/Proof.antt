@@ -1,0 +1,15 @@
+-- `pixel_run::at_most` meets its contract. Assumes nothing.
+use Rattle.pixel_run.specs.Clamped.{atMost}
+use Rattle.pixel_run.proofs.at_most.Statement.{statement}
+use Rattle.pixel_run.proofs.at_most.Tie as tie
+
+returns : tie.Need-returns
+unfolding atMost
+returns c = simp (c .if1 .taken)
+
+returns-2 : tie.Need-returns-2
+unfolding atMost
+returns-2 c = simp (c .if1 .left)
+
+pub at-most-spec : {M : Type 1} → statement M
+at-most-spec = tie.close (tie.spec returns returns-2)

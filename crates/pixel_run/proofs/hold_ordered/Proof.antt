@@ -1,0 +1,17 @@
+-- `pixel_run::hold_ordered` meets its contract. Assumes nothing.
+use Rattle.pixel_run.specs.Clamped.{ordered-hold}
+use borrow.Author.Needs.{needs}
+use Rattle.pixel_run.proofs.hold_ordered.Statement.{statement}
+use Rattle.pixel_run.proofs.hold_ordered.Tie as tie
+
+at-most-requires : tie.Need-at-most-requires
+at-most-requires c κs = search needs
+
+returns : tie.Need-returns
+returns c = rw (← ordered-hold _ _ _ (c .before .before .pre), ← (c .before .at-most .ensures)) (simp (c .if1 .taken))
+
+returns-2 : tie.Need-returns-2
+returns-2 c = rw (← ordered-hold _ _ _ (c .before .before .pre), ← (c .before .at-most .ensures)) (simp (c .if1 .left))
+
+pub hold-ordered-spec : {M : Type 1} → statement M
+hold-ordered-spec = tie.close (tie.spec at-most-requires returns returns-2)
