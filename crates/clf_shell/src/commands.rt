@@ -9,6 +9,7 @@ use crate::out::put_hex;
 use crate::out::put_number;
 use crate::pixels;
 use crate::show::put_state;
+use crate::writes;
 use fields::Parsed;
 use libc::STDOUT_FILENO;
 use process_list::ProcessList;
@@ -29,11 +30,11 @@ pub fn fresh() -> State {
 }
 
 // Answers a line that is no command.
-fn unknown() {
+pub fn unknown() {
     io::write_all(STDOUT_FILENO, b"?\n");
 }
 
-fn least(a: usize, b: usize) -> usize
+pub fn least(a: usize, b: usize) -> usize
     ensures { λ r. ⌜ (r ≤ a) × (r ≤ b) ⌝ }
 {
     if a < b {
@@ -99,6 +100,60 @@ fn read(line: &mut [u8], state: State, coefficients: &mut [i64], powers: &mut [i
     let parsed = fields::number(part(line, start, end));
     match parsed {
         Parsed::Number(room) => read_into(line, end, room, state, coefficients, powers),
+        Parsed::Malformed => {
+            unknown();
+            state
+        }
+    }
+}
+
+// Puts the element in the place of node k, in the table room that the list was read into.
+fn replace_by(
+    element: &[u8],
+    k: usize,
+    state: State,
+    coefficients: &mut [i64],
+    powers: &mut [i8],
+) -> State {
+    let n = least(state.room, least(coefficients.len(), powers.len()));
+    let list = state.list;
+    let room = state.room;
+    let answer = replacing::replace(list, &mut coefficients[0..n], &mut powers[0..n], k, element);
+    let list = answer.list;
+    let after = State { list, room };
+    print_state(answer.number, answer.place, after, coefficients, powers);
+    after
+}
+
+// `P K HEX`, from behind K.
+fn replace_node(
+    line: &mut [u8],
+    at: usize,
+    k: usize,
+    state: State,
+    coefficients: &mut [i64],
+    powers: &mut [i8],
+) -> State {
+    let d = last_field(line, at);
+    match d {
+        Decoded::Bytes(start, end) => {
+            replace_by(part(line, start, end), k, state, coefficients, powers)
+        }
+        Decoded::Malformed => {
+            unknown();
+            state
+        }
+    }
+}
+
+// `P K HEX`: replaces node K by the element HEX.
+fn replace(line: &mut [u8], state: State, coefficients: &mut [i64], powers: &mut [i8]) -> State {
+    let first = fields::next_field(line, 2);
+    let start = first.start;
+    let end = first.end;
+    let parsed = fields::number(part(line, start, end));
+    match parsed {
+        Parsed::Number(k) => replace_node(line, end, k, state, coefficients, powers),
         Parsed::Malformed => {
             unknown();
             state
@@ -172,6 +227,13 @@ fn run(line: &[u8], state: State, coefficients: &[i64], powers: &[i8]) {
     pixels::run(line, list, &coefficients[0..n], &powers[0..n]);
 }
 
+// `W IDHEX OUTLEN`: writes the list, with the table room that it was read into.
+fn write(line: &mut [u8], state: State, coefficients: &[i64], powers: &[i8]) {
+    let list = state.list;
+    let n = least(state.room, least(coefficients.len(), powers.len()));
+    writes::write(line, list, &coefficients[0..n], &powers[0..n]);
+}
+
 // Answers a command that changes no state; its line is the command's letter, a space and more.
 fn answer_alone(line: &mut [u8], command: u8) {
     match command {
@@ -213,6 +275,13 @@ pub fn answer(line: &mut [u8], state: State, coefficients: &mut [i64], powers: &
     let command = line[0];
     if command == b'R' {
         return read(line, state, coefficients, powers);
+    }
+    if command == b'P' {
+        return replace(line, state, coefficients, powers);
+    }
+    if command == b'W' {
+        write(line, state, coefficients, powers);
+        return state;
     }
     answer_alone(line, command);
     state

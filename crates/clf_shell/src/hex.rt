@@ -46,7 +46,7 @@ fn decode(word: &mut [u8]) -> usize {
 }
 
 // Decodes the part of a line from `start` up to `end`.
-fn decoded_part(line: &mut [u8], start: usize, end: usize) -> Decoded {
+pub fn decoded_part(line: &mut [u8], start: usize, end: usize) -> Decoded {
     if line.len() < end {
         return Decoded::Malformed;
     }

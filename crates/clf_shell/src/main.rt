@@ -7,6 +7,7 @@ mod hex;
 mod out;
 mod pixels;
 mod show;
+mod writes;
 
 use commands::State;
 use libc::STDIN_FILENO;
