@@ -31,11 +31,11 @@ use Rattle.claims.specs.LookRuns.{readInto}
 use Rattle.claims.proofs.Rules.{WholeElements, read-short, text-elements}
 use Rattle.claims.proofs.Look.{held-valid}
 use Rattle.written_form.specs.Written.{refused, written, isIdByte, idRight, nodesText, headText, listText, fitting, writeOf}
+use Rattle.written_form.proofs.Short.{elements-short}
 use Rattle.reads_back.specs.Back.{Allowed, ReadAs, HasPlaces, Valid, held, writing, EqualRoom, Leaves, WrittenReadsBack, Refusal16, ExactlyAllowed}
 use Rattle.reads_back.proofs.Nodes.{readAs}
 use Rattle.reads_back.proofs.Items.{Item, items-from, line-item, Read, nodes-read}
 use Rattle.reads_back.proofs.Heads.{Id, id-parts, rootAttributes, head-reads}
-use Rattle.reads_back.proofs.Lengths.{list-long}
 
 -- ---- the document of a written list
 
@@ -97,8 +97,8 @@ text-accepted room id es k h v =
     ∙ list-accepted room es v
 
 -- at most 16 MiB: '4 first'
-text-small : (room : ℕ) (id : List ℕ) (es : List Element) → Id id → Allowed room es → length (listText id es) ≤ mostBytes
-text-small room id es k a = omega (arith, list-long id es (k .few) (a .nodes), a .few, a .holds)
+text-small : (room : ℕ) (id : List ℕ) (es : List Element) → idRight id ≡ true → Allowed room es → length (listText id es) ≤ mostBytes
+text-small room id es i a = elements-short id es i (a .nodes) (a .few) (omega (arith, a .holds))
 
 -- over the elements: 'a list written out reads back as that list'
 pub list-reads-back : (room : ℕ) (id : List ℕ) (es : List Element) → idRight id ≡ true → Allowed room es → ReadAs room (listText id es) es
@@ -107,7 +107,7 @@ list-reads-back room id es i a =
     let k : Id id = id-parts id i in
     record {
       nodes = map readAs es;
-      accepted = ap (λ (v : Bool). cond v (faulty 4 0) (readText room (listText id es))) (le-ltb mostBytes (length (listText id es)) (text-small room id es k a))
+      accepted = ap (λ (v : Bool). cond v (faulty 4 0) (readText room (listText id es))) (le-ltb mostBytes (length (listText id es)) (text-small room id es i a))
           ∙ text-accepted room id es k (a .nodes) (allowed-verdict room es a);
       elements = elements-back es;
     }

@@ -13,5 +13,4 @@ pub mod Sound
 pub mod Nodes
 pub mod Items
 pub mod Heads
-pub mod Lengths
 pub mod Back

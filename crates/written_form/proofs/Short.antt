@@ -7,7 +7,7 @@ use native.Mathlib.Omega.{arith}
 use borrow.Author.Tests.{leb-true, eqb-true}
 use lib.Dec.{eqb, leb, lit≤}
 use lib.IntN.{ℤ}
-use lib.ListN.{length, take, drop, length-append, length-take, length-drop}
+use lib.ListN.{length, take, drop, length-append, length-take, length-drop, length-map}
 use Rattle.decimal.specs.declared.Decimal.{Decimal}
 use Rattle.decimal_write.specs.Written.{digits, writtenOf}
 use Rattle.decimal_write.specs.Laws.{digits-short, written-short}
@@ -17,7 +17,7 @@ use Rattle.process_list.specs.declared.Kind.{Kind}
 use Rattle.process_list.specs.declared.Kind.the-variants.{Matrix, Lut1d, Range, Cdl}
 use Rattle.process_list.specs.declared.Node.{Node}
 use Rattle.process_list.specs.declared.ProcessList.{ProcessList}
-use Rattle.process_list.specs.List.{Element, numbersOf, total, nodesOf}
+use Rattle.process_list.specs.List.{Element, numbersOf, allNumbers, total, nodesOf}
 use Rattle.room.specs.Room.{roomLength}
 use Rattle.valid.specs.Valid.{every, isValid, listRight, restZero, sound, shapeRight, tableRight, carried, rulesHold, elementOf, elementsOf}
 use Rattle.valid.proofs.Elements.{both-true, Right, right-parts, right-few}
@@ -162,15 +162,13 @@ sound-parts e h =
     let r = both-true s n (q .0) in
     (r .0, eqb-true _ _ (r .1))
 
-nodes-short : (cs ps : List ℤ) (ns : List Node) (t : List ℕ) → every sound (map (elementOf cs ps) ns) ≡ true
-    → length (nodesText (map (elementOf cs ps) ns) t) ≤ 21 * total ns + 66000 * length ns + length t
-unfolding nodesText every total elementOf
-nodes-short cs ps [] t h = omega arith
-nodes-short cs ps (n ∷ ns) t h =
-    let p = both-true (sound (elementOf cs ps n)) (every sound (map (elementOf cs ps) ns)) h in
-    let s = sound-parts (elementOf cs ps n) (p .0) in
-    let i = nodes-short cs ps ns t (p .1) in
-    omega (arith, node-short (elementOf cs ps n) (nodesText (map (elementOf cs ps) ns) t) (s .0), s .1)
+nodes-short : (es : List Element) (t : List ℕ) → every sound es ≡ true → length (nodesText es t) ≤ 21 * length (allNumbers es) + 66000 * length es + length t
+unfolding nodesText every allNumbers
+nodes-short [] t h = omega arith
+nodes-short (e ∷ es) t h =
+    let p = both-true (sound e) (every sound es) h in
+    let s = sound-parts e (p .0) in
+    omega (arith, node-short e (nodesText es t) (s .0), nodes-short es t (p .1), length-append (e .numbers) (allNumbers es))
 
 -- ---- the whole
 head-short : (id t : List ℕ) → length (headText id t) ≤ 100 + length id + length t
@@ -182,6 +180,24 @@ unfolding idRight
 id-short id h =
     let p = both-true (leb 1 (length id) && leb (length id) 64) (every isIdByte id) h in
     leb-true (length id) 64 (both-true (leb 1 (length id)) (leb (length id) 64) (p .0) .1)
+
+-- the text of 32 sound elements at most, with 262,144 numbers at most
+pub elements-short : (id : List ℕ) (es : List Element) → idRight id ≡ true → every sound es ≡ true → length es ≤ 32 → length (allNumbers es) ≤ 262144 → length (listText id es) ≤ 16777216
+unfolding listText
+elements-short id es h s few n =
+    let z : List ℕ = bytes "</ProcessList>\n" in
+    omega (arith, head-short id (nodesText es z), id-short id h, nodes-short es z s)
+
+-- the elements of a list have as many numbers as its nodes
+numbers-counted : (cs ps : List ℤ) (ns : List Node) → every sound (map (elementOf cs ps) ns) ≡ true → length (allNumbers (map (elementOf cs ps) ns)) ≡ total ns
+unfolding every total allNumbers elementOf
+numbers-counted cs ps [] h = refl
+numbers-counted cs ps (n ∷ ns) h =
+    let p = both-true (sound (elementOf cs ps n)) (every sound (map (elementOf cs ps) ns)) h in
+    let s = sound-parts (elementOf cs ps n) (p .0) in
+    let e = elementOf cs ps n in
+    let i = numbers-counted cs ps ns (p .1) in
+    omega (arith, length-append (e .numbers) (allNumbers (map (elementOf cs ps) ns)), s .1)
 
 module _ (l : ProcessList) (cs ps : List ℤ) (v : isValid l cs ps ≡ true) where
   -- what validity says of the list, and of its elements
@@ -206,9 +222,10 @@ module _ (l : ProcessList) (cs ps : List ℤ) (v : isValid l cs ps ≡ true) whe
       both-true a b (q .0) .1
 
   pub list-short : (id : List ℕ) → idRight id ≡ true → length (listText id (elementsOf l cs ps)) ≤ 16777216
-  unfolding listText elementsOf nodesOf
+  unfolding elementsOf nodesOf
   list-short id h =
       let r = valid-list in
-      let z : List ℕ = bytes "</ProcessList>\n" in
-      let n = nodes-short cs ps (nodesOf l) z valid-sound in
-      omega (arith, head-short id (nodesText (elementsOf l cs ps) z), id-short id h, right-few l (roomLength cs ps) r, r .few, length-take (l .count) (l .nodes))
+      let es : List Element = map (elementOf cs ps) (nodesOf l) in
+      elements-short id es h valid-sound
+      (omega (arith, length-map (nodesOf l) (elementOf cs ps), r .few, length-take (l .count) (l .nodes)))
+      (omega (arith, numbers-counted cs ps (nodesOf l) valid-sound, right-few l (roomLength cs ps) r))
