@@ -259,13 +259,13 @@ int main(int argc, char **argv)
             all.push_back(f);
         }
         std::printf("\n%s, where clf_apply's processor time goes\n", size.name);
-        std::printf("%-20s %14s %14s %14s %14s\n", "look", "reading us", "validity us", "scan ns/pixel", "steps ns/pixel");
+        std::printf("%-20s %14s %14s %14s %14s\n", "look", "reading us", "validity us", "refusal 15 ns", "accepted ns");
         for (int i = 1; i < argc; ++i) {
             const Figures &f = all[size_t(i - 1)];
             const double calls = double(size.count);
             std::printf("%-20s %14.2f %14.2f", base_of(argv[i]).c_str(), f.read.processor / calls * 1e6, (f.empty.processor - f.read.processor) / calls * 1e6);
             if (f.tells_pixels())
-                std::printf(" %14.3f %14.3f\n", (f.scanned.processor - f.empty.processor) / n * 1e9, (f.apply.processor - f.scanned.processor) / n * 1e9);
+                std::printf(" %14.3f %14.3f\n", (f.scanned.processor - f.empty.processor) / n * 1e9, (f.apply.processor - f.empty.processor) / n * 1e9);
             else
                 std::printf(" %14s %14s\n", "-", "-");
         }
