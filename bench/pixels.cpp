@@ -156,7 +156,7 @@ template <class T> static void restore(std::vector<T> &to, const std::vector<T> 
 
 // What each takes, for all pictures of a size; `scanned` is a picture refused at its last component, `empty` one without pixels.
 struct Figures {
-    Best apply, scanned, empty, read, rgb, rgba;
+    Best apply, scanned, empty, read, rgb, rgba, single;
     double difference = 0;
 
     // Whether reading leaves enough of the time for a difference to mean anything.
@@ -169,6 +169,12 @@ static void run_theirs(const OCIO::CPUProcessor &processor, float *pixels, const
         OCIO::PackedImageDesc picture(pixels + size_t(k) * size.pixels() * size_t(channels), size.width, size.height, channels);
         processor.apply(picture);
     }
+}
+
+// The same picture, RGB, a call for each pixel.
+static void run_singly(const OCIO::CPUProcessor &processor, float *pixels, const Size &size)
+{
+    for (size_t i = 0; i < size.all(); ++i) processor.applyRGB(pixels + 3 * i);
 }
 
 static void run_ours(Ours &look, double *pixels, const Size &size, size_t components, uint64_t expected)
@@ -196,6 +202,8 @@ static Figures measure(Ours &ours, const Theirs &theirs, const Size &size)
                     best.difference = std::fmax(best.difference, std::fmax(std::fabs(work.rgb64[3 * i + c] - double(work.rgb[3 * i + c])),
                                                                            std::fabs(work.rgb64[3 * i + c] - double(work.rgba[4 * i + c]))));
 
+        restore(work.rgb, picture.rgb);
+        best.single.run([&] { run_singly(*theirs.processor, work.rgb.data(), size); });
         restore(work.rgb64, picture.rgb64);
         for (long p = 1; p <= size.count; ++p) work.rgb64[size_t(p) * components - 1] = std::numeric_limits<double>::quiet_NaN();
         best.scanned.run([&] { run_ours(ours, work.rgb64.data(), size, components, 15); });
@@ -230,7 +238,7 @@ int main(int argc, char **argv)
         std::vector<Figures> all;
         const double n = double(size.all());
         std::printf("\n%s, million pixels a second (processor time; wall time behind /)\n", size.name);
-        std::printf("%-20s %15s %15s %15s %15s %13s %13s %11s  %s\n", "look", "clf_apply", "pixels alone", "OCIO RGB", "OCIO RGBA", "to RGB", "to RGBA",
+        std::printf("%-20s %15s %15s %15s %15s %15s %13s %13s %13s %11s  %s\n", "look", "clf_apply", "pixels alone", "OCIO singly", "OCIO RGB", "OCIO RGBA", "to singly", "to RGB", "to RGBA",
                     "difference", "what OCIO runs");
         for (int i = 1; i < argc; ++i) {
             Ours ours = ours_from(argv[i]);
@@ -250,8 +258,10 @@ int main(int argc, char **argv)
                 rate(processor, wall);
             else
                 std::printf(" %15s", "-");
+            rate(f.single.processor, f.single.wall);
             rate(f.rgb.processor, f.rgb.wall);
             rate(f.rgba.processor, f.rgba.wall);
+            ratio(f.single);
             ratio(f.rgb);
             ratio(f.rgba);
             std::printf(" %11.1e  %s\n", f.difference, theirs.steps.c_str());
