@@ -13,10 +13,13 @@ use Rattle.pixel.specs.Cdl.{cdlPixel}
 use Rattle.pixel_run.specs.Each.{eachPixel}
 use Rattle.pixel_run.specs.EachLaws.{each-same}
 
--- ---- a Range with style Clamp
+-- ---- a Range with style Clamp: 'Clamp holds it between minOut and maxOut'
+
+-- 'hi if x > hi', and x otherwise: the first half of a hold
 unfoldable pub atMost : Float → Float → Float
 atMost x hi = cond (lt hi x) hi x
 
+-- the other half, 'x if x > lo; else lo', makes it the hold
 pub ordered-hold : (x lo hi : Float) → lt lo hi ≡ true → cond (lt lo (atMost x hi)) (atMost x hi) lo ≡ hold x lo hi
 unfolding atMost hold
 ordered-hold x lo hi h = go (lt hi x)
@@ -25,7 +28,7 @@ ordered-hold x lo hi h = go (lt hi x)
     go true = simp h
     go false = refl
 
--- the step, with the scale and the shift worked out
+-- 'out = x·s + (minOut − minIn·s)', held, with s and the shift minOut − minIn·s worked out
 unfoldable pub clampedPixel : Float → Float → Float → Float → Pixel → Pixel
 clampedPixel s shift lo hi x = record {
   r = hold (x .r ⊗ s ⊕ shift) lo hi;
@@ -46,7 +49,8 @@ pub clamped-run : (minIn maxIn minOut maxOut : Float) (xs : List Float) {ys : Li
     → ys ≡ eachPixel (rangePixel minIn maxIn minOut maxOut clamp) xs
 clamped-run minIn maxIn minOut maxOut xs k es eh e = rw (k, e, eh, es) (each-same _ _ (clamped-range minIn maxIn minOut maxOut) xs)
 
--- ---- an ASC_CDL whose scales equal 1
+-- ---- an ASC_CDL whose scales equal 1: 'Dividing or multiplying by a scale of 1 is not done'
+
 one-one : eq one one ≡ true
 unfolding eq ofBits
 one-one = refl

@@ -85,60 +85,6 @@ pub fn prepare_cdl(coefficients: &[i64], powers: &[i8], at: usize, clamp: bool) 
     }
 }
 
-// A prepared node's step on a pixel.
-pub fn step(
-    p: Prepared,
-    rows: [[f64; 4]; 3],
-    in_scale: f64,
-    out_scale: f64,
-    coefficients: &[i64],
-    powers: &[i8],
-    x: Pixel,
-) -> Pixel
-    ensures { λ r. ⌜ r ≡ Step.stepPixel p rows «in_scale» «out_scale» (now (coefficients .entry)) (now (powers .entry)) x ⌝ }
-{
-    match p {
-        Prepared::Range {
-            min_in,
-            max_in,
-            min_out,
-            max_out,
-            clamp,
-        } => pixel::range_pixel(min_in, max_in, min_out, max_out, clamp, x),
-        Prepared::Cdl {
-            slope_r,
-            slope_g,
-            slope_b,
-            offset_r,
-            offset_g,
-            offset_b,
-            power_r: _,
-            power_g: _,
-            power_b: _,
-            saturation,
-            clamp,
-        } => pixel::cdl_pixel(
-            slope_r,
-            slope_g,
-            slope_b,
-            offset_r,
-            offset_g,
-            offset_b,
-            saturation,
-            clamp,
-            in_scale,
-            out_scale,
-            x,
-        ),
-        Prepared::Matrix { at: _, wide } => pixel::matrix_pixel(rows, wide, x),
-        Prepared::Lut1d {
-            at,
-            entries,
-            columns,
-        } => pixel_lut::lut1d_pixel(coefficients, powers, at, entries, columns, in_scale, x),
-    }
-}
-
 // The pixel whose red stands at i.
 fn load(pixels: &[f64], i: usize) -> Pixel
     requires { ⌜ i + 2 < length (now pixels) ⌝ }

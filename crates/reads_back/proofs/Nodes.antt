@@ -23,7 +23,8 @@ use Rattle.reads_back.proofs.Held.{between-child}
 use Rattle.reads_back.proofs.Tables.{space-name, matrix-name, lut-name, matrix-reads, lut-reads}
 use Rattle.reads_back.proofs.Ranges.{range-name, range-reads}
 use Rattle.reads_back.proofs.Cdls.{cdl-name, cdl-reads}
-use Rattle.reads_back.proofs.Sound.{Parts, sound-parts, any-kept, Four, four, range-order, TenOf, ten-of, ten-kept}
+use Rattle.written_form.proofs.Short.{Parts, sound-parts}
+use Rattle.reads_back.proofs.Sound.{any-kept, Four, four, range-order, TenOf, ten-of, ten-kept}
 
 -- the node that is read: the element, without a Description
 abbrev pub readAs : Element → NodeRead

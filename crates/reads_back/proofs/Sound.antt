@@ -4,41 +4,18 @@ use mathlib.Core.Bool.{true, _&&_}
 use mathlib.Core.List.{List, [], _∷_}
 use Prim.Native.Nat.{ℕ, suc}
 use native.Mathlib.Omega.{arith}
-use lib.Dec.{eqb}
 use lib.ListN.{length}
-use borrow.Author.Tests.{eqb-true}
 use Rattle.decimal.specs.declared.Decimal.{Decimal}
 use Rattle.decimal.specs.Decimal.{inRange}
 use Rattle.decimal_write.specs.Written.{normal}
 use Rattle.decimal_value.specs.Value.{less, atMost, notNegative, isOne}
-use Rattle.process_list.specs.declared.Kind.{Kind}
-use Rattle.process_list.specs.List.{Element, numbersOf}
-use Rattle.valid.specs.Valid.{every, carried, shapeRight, rangeHolds, slopesHold, powersHold, cdlHolds, rulesHold, sound}
+use Rattle.valid.specs.Valid.{every, carried, rangeHolds, slopesHold, powersHold, cdlHolds, sound}
 use Rattle.valid.proofs.Elements.{both-true}
 use Rattle.valid.proofs.Readings.{every-cons}
 use Rattle.clf.specs.Numbers.{anyNumber, notBelowZero, onlyOne}
 use Rattle.claims.proofs.Numbers.{Each, Carried, Kept}
 use Rattle.reads_back.proofs.One.{one-above}
 use Rattle.reads_back.proofs.Cdls.{Ten}
-
--- ---- an element's parts
-
-pub record Parts (kind : Kind) (ds : List Decimal) : Type 0 where
-  pub shape : shapeRight kind ≡ true
-  pub count : length ds ≡ numbersOf kind
-  pub each : every carried ds ≡ true
-  pub rules : rulesHold kind ds ≡ true
-
-pub sound-parts : (e : Element) → sound e ≡ true → Parts (e .kind) (e .numbers)
-unfolding sound
-sound-parts e h =
-    let a = shapeRight (e .kind) in
-    let b = eqb (length (e .numbers)) (numbersOf (e .kind)) in
-    let c = every carried (e .numbers) in
-    let p = both-true (a && b && c) (rulesHold (e .kind) (e .numbers)) h in
-    let q = both-true (a && b) c (p .0) in
-    let r = both-true a b (q .0) in
-    record { shape = r .0; count = eqb-true (length (e .numbers)) (numbersOf (e .kind)) (r .1); each = q .1; rules = p .1 }
 
 -- ---- numbers of our form
 

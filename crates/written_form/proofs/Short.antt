@@ -150,17 +150,23 @@ node-short e t h =
     let y = contentText (e .kind) (e .numbers) z in
     omega (arith, start-short (e .kind) (e .input) (e .output) y, content-short (e .kind) (e .numbers) z h, end-short (e .kind) t)
 
--- what soundness says of the shape and of the count of numbers
-sound-parts : (e : Element) → sound e ≡ true → (shapeRight (e .kind) ≡ true) × (length (e .numbers) ≡ numbersOf (e .kind))
+-- what soundness says: of the shape, of the count of numbers, of each number, and of the rules on them
+pub record Parts (kind : Kind) (ds : List Decimal) : Type 0 where
+  pub shape : shapeRight kind ≡ true
+  pub count : length ds ≡ numbersOf kind
+  pub each : every carried ds ≡ true
+  pub rules : rulesHold kind ds ≡ true
+
+pub sound-parts : (e : Element) → sound e ≡ true → Parts (e .kind) (e .numbers)
 unfolding sound
 sound-parts e h =
-    let s = shapeRight (e .kind) in
-    let n = eqb (length (e .numbers)) (numbersOf (e .kind)) in
+    let a = shapeRight (e .kind) in
+    let b = eqb (length (e .numbers)) (numbersOf (e .kind)) in
     let c = every carried (e .numbers) in
-    let p = both-true (s && n && c) (rulesHold (e .kind) (e .numbers)) h in
-    let q = both-true (s && n) c (p .0) in
-    let r = both-true s n (q .0) in
-    (r .0, eqb-true _ _ (r .1))
+    let p = both-true (a && b && c) (rulesHold (e .kind) (e .numbers)) h in
+    let q = both-true (a && b) c (p .0) in
+    let r = both-true a b (q .0) in
+    record { shape = r .0; count = eqb-true (length (e .numbers)) (numbersOf (e .kind)) (r .1); each = q .1; rules = p .1 }
 
 nodes-short : (es : List Element) (t : List ℕ) → every sound es ≡ true → length (nodesText es t) ≤ 21 * length (allNumbers es) + 66000 * length es + length t
 unfolding nodesText every allNumbers
@@ -168,7 +174,7 @@ nodes-short [] t h = omega arith
 nodes-short (e ∷ es) t h =
     let p = both-true (sound e) (every sound es) h in
     let s = sound-parts e (p .0) in
-    omega (arith, node-short e (nodesText es t) (s .0), nodes-short es t (p .1), length-append (e .numbers) (allNumbers es))
+    omega (arith, node-short e (nodesText es t) (s .shape), nodes-short es t (p .1), length-append (e .numbers) (allNumbers es))
 
 -- ---- the whole
 head-short : (id t : List ℕ) → length (headText id t) ≤ 100 + length id + length t
@@ -197,7 +203,7 @@ numbers-counted cs ps (n ∷ ns) h =
     let s = sound-parts (elementOf cs ps n) (p .0) in
     let e = elementOf cs ps n in
     let i = numbers-counted cs ps ns (p .1) in
-    omega (arith, length-append (e .numbers) (allNumbers (map (elementOf cs ps) ns)), s .1)
+    omega (arith, length-append (e .numbers) (allNumbers (map (elementOf cs ps) ns)), s .count)
 
 module _ (l : ProcessList) (cs ps : List ℤ) (v : isValid l cs ps ≡ true) where
   -- what validity says of the list, and of its elements
