@@ -7,14 +7,14 @@ use borrow.Author.Needs.{needs}
 use Rattle.pixel.proofs.range_line.Statement.{statement}
 use Rattle.pixel.proofs.range_line.Tie as tie
 
-hold-requires : tie.Need-hold-requires
-hold-requires c κs = search needs
+quick-hold-requires : tie.Need-quick-hold-requires
+quick-hold-requires c κs = search needs
 
 returns : tie.Need-returns
 unfolding rangeLine
 returns c =
     let a = c .before .before .before .args in
-    let r : CodeValue = record { 0 = c .hold .result } in
+    let r : CodeValue = record { 0 = c .quick-hold .result } in
     let e : r ≡ rangeLine (a .s) (a .shift) (a .min-out) (a .max-out) (a .clamp) (a .x) = simp (c .before .if1 .taken) (cc) in
     (e, line-bound (a .s) (a .shift) (a .min-out) (a .max-out) (a .clamp) (a .x) r e)
 
@@ -25,4 +25,4 @@ returns-2 c =
     (simp (c .if1 .left), line-bound (a .s) (a .shift) (a .min-out) (a .max-out) (a .clamp) (a .x) _ (simp (c .if1 .left)))
 
 pub range-line-spec : {M : Type 1} → statement M
-range-line-spec = tie.close (tie.spec hold-requires returns returns-2)
+range-line-spec = tie.close (tie.spec quick-hold-requires returns returns-2)

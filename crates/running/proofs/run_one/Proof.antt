@@ -50,7 +50,7 @@ returns c =
     let r = i .before in
     let p = r .before in
     let a = p .before .before .args in
-    as-node (now (a .coefficients)) (now (a .powers)) (a .node) (now (a .pixels)) (p .prepared .ensures) (r .rows .ensures) (i .scale .ensures) (o .scale2 .ensures) (n .run-node .ensures)
+    as-node (now (a .coefficients)) (now (a .powers)) (a .node) (now (a .pixels)) (p .prepared .ensures) (r .rows .ensures) (i .scale .ensures) (o .scale2 .ensures) (n .run-node .ensures .0)
 
 pub run-one-spec : {M : Type 1} → statement M
 run-one-spec =
