@@ -16,7 +16,7 @@ use Rattle.running.proofs.run_one.Tie as tie
 
 as-node : (cs ps : List ℤ) (n : Node) (xs : List Float) {ys : List Float} {p : Prepared} {rows : List (List Float)} {i o : Float}
     → p ≡ preparedAs cs ps (n .at) (n .kind)
-    → rows ≡ rowsAs cs ps (n .at) (n .kind)
+    → rows ≡ rowsAs cs ps p
     → i ≡ scaleOf (n .input)
     → o ≡ scaleOf (n .output)
     → ys ≡ eachPixel (stepPixel p rows i o cs ps) xs
