@@ -1,11 +1,15 @@
 -- `pixel::range_line` meets its contract. Assumes nothing.
-use mathlib.Core.Path.{_≡_}
+use mathlib.Core.Path.{_≡_, ap}
+use lib.Ieee.{Float}
 use Rattle.pixel.specs.declared.CodeValue.{CodeValue}
 use Rattle.pixel.specs.RangeLaws.{line-bound}
 use Rattle.pixel.specs.Range.{rangeLine}
 use borrow.Author.Needs.{needs}
 use Rattle.pixel.proofs.range_line.Statement.{statement}
 use Rattle.pixel.proofs.range_line.Tie as tie
+
+abbrev code : Float → CodeValue
+code x = record { 0 = x }
 
 quick-hold-requires : tie.Need-quick-hold-requires
 quick-hold-requires c κs = search needs
@@ -14,8 +18,8 @@ returns : tie.Need-returns
 unfolding rangeLine
 returns c =
     let a = c .before .before .before .args in
-    let r : CodeValue = record { 0 = c .quick-hold .result } in
-    let e : r ≡ rangeLine (a .s) (a .shift) (a .min-out) (a .max-out) (a .clamp) (a .x) = simp (c .before .if1 .taken) (cc) in
+    let r = code (c .quick-hold .result) in
+    let e : r ≡ rangeLine (a .s) (a .shift) (a .min-out) (a .max-out) (a .clamp) (a .x) = rw (c .before .if1 .taken) (ap code (c .quick-hold .ensures)) in
     (e, line-bound (a .s) (a .shift) (a .min-out) (a .max-out) (a .clamp) (a .x) r e)
 
 returns-2 : tie.Need-returns-2
