@@ -3,6 +3,7 @@ pub mod Bounds
 pub mod Order
 pub mod Hold
 pub mod HoldLaws
+pub mod OrderedHold
 pub mod UnitHold
 pub mod Scale
 pub mod Range

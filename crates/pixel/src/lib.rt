@@ -1,10 +1,12 @@
 // What a pixel goes through in a Range, a Matrix and an ASC_CDL (document 01, 'What a pixel goes through').
 ghost use mathlib.Core.Path.{_≡_};
+ghost use mathlib.Core.Bool.{true};
 ghost use lib.Dec.{T};
-ghost use lib.Ieee.{le};
+ghost use lib.Ieee.{lt, le};
 ghost use Rattle.pixel.specs.Bounds as Bounds;
 ghost use Rattle.pixel.specs.F64 as F64;
 ghost use Rattle.pixel.specs.Hold as Hold;
+ghost use Rattle.pixel.specs.OrderedHold as OrderedHold;
 ghost use Rattle.pixel.specs.UnitHold as UnitHold;
 ghost use Rattle.pixel.specs.Scale as Scale;
 ghost use Rattle.pixel.specs.Range as Range;
@@ -42,6 +44,37 @@ pub fn hold(x: f64, lo: f64, hi: f64) -> f64
         return x;
     }
     lo
+}
+
+fn at_most(x: f64, hi: f64) -> f64
+    ensures { λ r. ⌜ r ≡ OrderedHold.atMost x hi ⌝ }
+{
+    if x > hi {
+        return hi;
+    }
+    x
+}
+
+// Hold between lo and hi: a minimum and a maximum, since lo is below hi.
+fn hold_ordered(x: f64, lo: f64, hi: f64) -> f64
+    requires { ⌜ lt lo hi ≡ true ⌝ }
+    ensures { λ r. ⌜ r ≡ Hold.hold x lo hi ⌝ }
+{
+    let z = at_most(x, hi);
+    if z > lo {
+        return z;
+    }
+    lo
+}
+
+// Hold between any lo and hi. Its first test is of the bounds alone, so that a loop over pixels can make it once.
+fn quick_hold(x: f64, lo: f64, hi: f64) -> f64
+    ensures { λ r. ⌜ r ≡ Hold.hold x lo hi ⌝ }
+{
+    if lo < hi {
+        return hold_ordered(x, lo, hi);
+    }
+    hold(x, lo, hi)
 }
 
 // A code value as a fraction and back, by the scale of its depth alone.
@@ -109,7 +142,7 @@ pub fn range_line(
 {
     let out = x.0 * s + shift;
     if clamp {
-        return CodeValue(hold(out, min_out, max_out));
+        return CodeValue(quick_hold(out, min_out, max_out));
     }
     CodeValue(out)
 }

@@ -1,14 +1,14 @@
 -- Mapping the pixels of a slice one after the other: what is done so far, with the rest mapped, is the whole mapped. The length stays. Assumes nothing.
 use mathlib.Core.Path.{_≡_, refl, sym, ap, _∙_, subst}
 use mathlib.Core.List.{List, [], _∷_, _++_, append-assoc}
-use Prim.Native.Nat.{ℕ, suc, _+_, _-_, _*_, _≤_, _<_}
+use Prim.Native.Nat.{ℕ, suc, _+_, _-_, _≤_, _<_}
 use native.Mathlib.Omega.{arith}
 use lib.ListN.{length, take, drop, getD, set, length-set, length-drop, take-append-drop}
 use lib.Seq.{drop-cons, take-suc-set, drop-set-lt}
 use lib.Ieee.{Float, nan}
 use Rattle.pixel.specs.declared.Pixel.{Pixel}
-use Rattle.pixel.specs.Bounds.{Between, Within}
-use Rattle.pixel_run.specs.Each.{eachPixel}
+use Rattle.pixel.specs.Bounds.{Within}
+use Rattle.pixel_run.specs.Each.{eachPixel, EachWithin}
 
 -- the first i components are mapped already
 abbrev pub Done : (Pixel → Pixel) → List Float → List Float → ℕ → Type 0
@@ -129,17 +129,10 @@ each-same f g h (a ∷ []) = refl
 each-same f g h (a ∷ b ∷ []) = refl
 each-same f g h (a ∷ b ∷ c ∷ l) = rw (h (record { r = a; g = b; b = c }), each-same f g h l)
 
--- every component of a list of values between lo and hi
-pub data AllBetween (lo hi : Float) : List Float → Type 0 where
-  none : AllBetween lo hi []
-  more : {x : Float} {xs : List Float} → Between lo hi x → AllBetween lo hi xs → AllBetween lo hi (x ∷ xs)
-
--- a step whose pixels all lie between lo and hi puts every component of a slice of whole pixels there
-pub each-between : (f : Pixel → Pixel) (lo hi : Float) → ((x : Pixel) → Within lo hi (f x)) → (n : ℕ) (xs : List Float) → length xs ≡ 3 * n → AllBetween lo hi (eachPixel f xs)
-unfolding eachPixel
-each-between f lo hi h n [] e = none
-each-between f lo hi h n (a ∷ []) e = absurd (omega arith)
-each-between f lo hi h n (a ∷ b ∷ []) e = absurd (omega arith)
-each-between f lo hi h n (a ∷ b ∷ c ∷ l) e =
-    let w = h (record { r = a; g = b; b = c }) in
-    more (w .red) (more (w .green) (more (w .blue) (each-between f lo hi h (n - 1) l (omega arith))))
+-- a step whose pixels all lie between lo and hi puts every pixel of a slice there
+pub each-within : (f : Pixel → Pixel) (lo hi : Float) → ((x : Pixel) → Within lo hi (f x)) → (xs : List Float) → EachWithin lo hi (eachPixel f xs)
+unfolding eachPixel EachWithin
+each-within f lo hi h [] = tt
+each-within f lo hi h (a ∷ []) = tt
+each-within f lo hi h (a ∷ b ∷ []) = tt
+each-within f lo hi h (a ∷ b ∷ c ∷ l) = (h (record { r = a; g = b; b = c }), each-within f lo hi h l)

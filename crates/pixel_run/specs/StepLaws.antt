@@ -1,5 +1,5 @@
 -- What a step can put out, whatever comes in: a Range with style Clamp stays between minOut and maxOut, an ASC_CDL of style Fwd with an out scale of 1 between 0 and 1,
--- and a LUT1D that the room holds between the bounds of its columns. Over a slice: `each-between` of EachLaws. Assumes nothing.
+-- and a LUT1D that the room holds between the bounds of its columns. Over a slice: `each-within` of EachLaws. Assumes nothing.
 use mathlib.Core.Path.{_≡_}
 use mathlib.Core.Bool.{true}
 use mathlib.Core.List.{List}

@@ -1,11 +1,10 @@
 // One prepared node over the pixels of a lent slice, and refusal 15 (document 01, 'What a pixel goes through').
 ghost use mathlib.Core.Path.{_≡_};
-ghost use mathlib.Core.Bool.{true};
 ghost use Prim.Native.Nat.{_+_, _<_};
+ghost use lib.Dec.{T};
 ghost use lib.ListN.{length};
-ghost use lib.Ieee.{lt};
+ghost use lib.Ieee.{le};
 ghost use lib.Ieee.Scale.{finite};
-ghost use Rattle.pixel.specs.Hold as Hold;
 ghost use Rattle.pixel.specs.Range as Range;
 ghost use Rattle.pixel.specs.Matrix as Matrix;
 ghost use Rattle.pixel.specs.Cdl as Cdl;
@@ -14,7 +13,6 @@ ghost use Rattle.pixel_run.specs.Step as Step;
 ghost use Rattle.pixel_run.specs.Prepare as Prepare;
 ghost use Rattle.pixel_run.specs.Each as Each;
 ghost use Rattle.pixel_run.specs.EachLaws as EachLaws;
-ghost use Rattle.pixel_run.specs.Clamped as Clamped;
 ghost use Rattle.pixel_run.specs.Finite as Finite;
 ghost use Rattle.pixel_run.specs.FiniteLaws as FiniteLaws;
 use pixel::Pixel;
@@ -108,8 +106,10 @@ fn store(pixels: &mut [f64], i: usize, y: Pixel)
 }
 
 // One loop for each kind of node, so that each has few tests inside.
+// Clamp's bound: whatever stood there, a NaN too, every pixel lies between min_out and max_out.
 fn run_range(pixels: &mut [f64], min_in: f64, max_in: f64, min_out: f64, max_out: f64, clamp: bool)
     ensures { λ _. ⌜ now (pixels .exit) ≡ Each.eachPixel (Range.rangePixel «min_in» «max_in» «min_out» «max_out» clamp) (now (pixels .entry)) ⌝ }
+    ensures { λ _. ⌜ (T clamp → T (le «min_out» «max_out») → Each.EachWithin «min_out» «max_out» (now (pixels .exit))) ⌝ }
 {
     let mut i = 0usize;
     while pixels.len() - i >= 3 {
@@ -118,69 +118,6 @@ fn run_range(pixels: &mut [f64], min_in: f64, max_in: f64, min_out: f64, max_out
         store(pixels, i, y);
         i += 3;
     }
-}
-
-fn at_most(x: f64, hi: f64) -> f64
-    ensures { λ r. ⌜ r ≡ Clamped.atMost x hi ⌝ }
-{
-    if x > hi {
-        return hi;
-    }
-    x
-}
-
-// Hold between lo and hi: a minimum and a maximum, since lo is below hi.
-fn hold_ordered(x: f64, lo: f64, hi: f64) -> f64
-    requires { ⌜ lt lo hi ≡ true ⌝ }
-    ensures { λ r. ⌜ r ≡ Hold.hold x lo hi ⌝ }
-{
-    let z = at_most(x, hi);
-    if z > lo {
-        return z;
-    }
-    lo
-}
-
-// A Range of style Clamp with its scale and its shift worked out.
-fn clamped_pixel(s: f64, shift: f64, lo: f64, hi: f64, x: Pixel) -> Pixel
-    requires { ⌜ lt lo hi ≡ true ⌝ }
-    ensures { λ r. ⌜ r ≡ Clamped.clampedPixel s shift lo hi x ⌝ }
-{
-    Pixel {
-        r: hold_ordered(x.r * s + shift, lo, hi),
-        g: hold_ordered(x.g * s + shift, lo, hi),
-        b: hold_ordered(x.b * s + shift, lo, hi),
-    }
-}
-
-fn run_clamped(pixels: &mut [f64], s: f64, shift: f64, lo: f64, hi: f64)
-    requires { ⌜ lt lo hi ≡ true ⌝ }
-    ensures { λ _. ⌜ now (pixels .exit) ≡ Each.eachPixel (Clamped.clampedPixel s shift lo hi) (now (pixels .entry)) ⌝ }
-{
-    let mut i = 0usize;
-    while pixels.len() - i >= 3 {
-        let x = load(pixels, i);
-        let y = clamped_pixel(s, shift, lo, hi, x);
-        store(pixels, i, y);
-        i += 3;
-    }
-}
-
-// A Range of either style: Clamp between a lower and a higher bound has a loop of its own.
-fn run_ranges(pixels: &mut [f64], min_in: f64, max_in: f64, min_out: f64, max_out: f64, clamp: bool)
-    ensures { λ _. ⌜ now (pixels .exit) ≡ Each.eachPixel (Range.rangePixel «min_in» «max_in» «min_out» «max_out» clamp) (now (pixels .entry)) ⌝ }
-{
-    if !clamp {
-        run_range(pixels, min_in, max_in, min_out, max_out, false);
-        return;
-    }
-    if min_out < max_out {
-        let s = pixel::range_scale(min_in, max_in, min_out, max_out);
-        let shift = pixel::range_shift(min_in, min_out, s);
-        run_clamped(pixels, s, shift, min_out, max_out);
-        return;
-    }
-    run_range(pixels, min_in, max_in, min_out, max_out, true);
 }
 
 fn run_matrix(pixels: &mut [f64], rows: [[f64; 4]; 3], wide: bool)
@@ -278,6 +215,7 @@ pub fn run_node(
     powers: &[i8],
 )
     ensures { λ _. ⌜ now (pixels .exit) ≡ Each.eachPixel (Step.stepPixel p rows «in_scale» «out_scale» (now (coefficients .entry)) (now (powers .entry))) (now (pixels .entry)) ⌝ }
+    ensures { λ _. ⌜ Step.ClampHolds p (now (pixels .exit)) ⌝ }
 {
     match p {
         Prepared::Range {
@@ -286,7 +224,7 @@ pub fn run_node(
             min_out,
             max_out,
             clamp,
-        } => run_ranges(pixels, min_in, max_in, min_out, max_out, clamp),
+        } => run_range(pixels, min_in, max_in, min_out, max_out, clamp),
         Prepared::Cdl {
             slope_r,
             slope_g,

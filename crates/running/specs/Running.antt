@@ -42,14 +42,14 @@ zeroRow = F64.zero ∷ F64.zero ∷ F64.zero ∷ F64.zero ∷ []
 abbrev pub noRows : List (List Float)
 noRows = zeroRow ∷ zeroRow ∷ zeroRow ∷ []
 
-unfoldable pub rowsAs : List ℤ → List ℤ → ℕ → Kind → List (List Float)
-rowsAs coefficients powers at (Matrix wide) = rowsAt coefficients powers at wide
-rowsAs coefficients powers at (Lut1d entries columns) = noRows
-rowsAs coefficients powers at (Range clamp) = noRows
-rowsAs coefficients powers at (Cdl clamp) = noRows
+unfoldable pub rowsAs : List ℤ → List ℤ → Prepared → List (List Float)
+rowsAs coefficients powers (prepared.Matrix at wide) = rowsAt coefficients powers at wide
+rowsAs coefficients powers (prepared.Lut1d at entries columns) = noRows
+rowsAs coefficients powers (prepared.Range minIn maxIn minOut maxOut clamp) = noRows
+rowsAs coefficients powers (prepared.Cdl slopeR slopeG slopeB offsetR offsetG offsetB powerR powerG powerB sat clamp) = noRows
 
 unfoldable pub rowsOf : List ℤ → List ℤ → Node → List (List Float)
-rowsOf coefficients powers n = rowsAs coefficients powers (n .at) (n .kind)
+rowsOf coefficients powers n = rowsAs coefficients powers (preparedOf coefficients powers n)
 
 -- every pixel of a slice through one node, with the scales of the node's depths
 unfoldable pub runNode : List ℤ → List ℤ → Node → List Float → List Float

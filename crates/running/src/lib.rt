@@ -29,11 +29,11 @@ fn prepared(kind: Kind, at: usize, coefficients: &[i64], powers: &[i8]) -> Prepa
     }
 }
 
-// The rows that are handed over beside a node: a Matrix's own, and zeros for the other kinds.
-fn rows(kind: Kind, at: usize, coefficients: &[i64], powers: &[i8]) -> [[f64; 4]; 3]
-    ensures { λ r. ⌜ r ≡ Spec.rowsAs (now (coefficients .entry)) (now (powers .entry)) at kind ⌝ }
+// The rows that are handed over beside a prepared node: a Matrix's, from where it says that they stand, and zeros for the other kinds.
+fn rows(step: Prepared, coefficients: &[i64], powers: &[i8]) -> [[f64; 4]; 3]
+    ensures { λ r. ⌜ r ≡ Spec.rowsAs (now (coefficients .entry)) (now (powers .entry)) step ⌝ }
 {
-    if let Kind::Matrix { wide } = kind {
+    if let Prepared::Matrix { at, wide } = step {
         return pixel_room::rows_from(coefficients, powers, at, wide);
     }
     [
@@ -52,7 +52,7 @@ fn run_one(node: Node, coefficients: &[i64], powers: &[i8], pixels: &mut [f64])
     let input = node.input;
     let output = node.output;
     let step = prepared(kind, at, coefficients, powers);
-    let handed = rows(kind, at, coefficients, powers);
+    let handed = rows(step, coefficients, powers);
     let in_scale = process_list::scale(input);
     let out_scale = process_list::scale(output);
     pixel_run::run_node(

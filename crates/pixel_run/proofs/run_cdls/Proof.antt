@@ -1,6 +1,6 @@
 -- `pixel_run::run_cdls` meets its contract. Assumes nothing.
 use denote.Ref.{now}
-use Rattle.pixel_run.specs.Clamped.{unit-run}
+use Rattle.pixel_run.proofs.UnitScales.{unit-run}
 use borrow.Author.Needs.{needs}
 use Rattle.pixel_run.proofs.run_cdls.Statement.{statement}
 use Rattle.pixel_run.proofs.run_cdls.Tie as tie

@@ -2,8 +2,10 @@
 use Prim.Native.Nat.{_-_}
 use native.Mathlib.Omega.{arith}
 use lib.ListN.{length}
+use denote.Ref.{now}
 use Rattle.pixel.specs.Range.{rangePixel}
 use Rattle.pixel_run.specs.EachLaws.{Passed, passed-start, passed-more, passed-end}
+use Rattle.pixel_run.proofs.ClampRuns.{range-ran}
 use borrow.Author.Needs.{needs}
 use Rattle.pixel_run.proofs.run_range.Statement.{statement}
 use Rattle.pixel_run.proofs.run_range.Tie as tie
@@ -46,7 +48,10 @@ same-length : tie.Need-same-length Inv-loop μ-loop
 same-length c = c .before .loop .inv .whole
 
 returns : tie.Need-returns Inv-loop μ-loop
-returns c = passed-end (omega arith) (c .before .loop .inv)
+returns c =
+    let l = c .before in
+    let a = l .before .before .args in
+    range-ran (a .min-in) (a .max-in) (a .min-out) (a .max-out) (a .clamp) (now (a .pixels)) _ (passed-end (omega arith) (l .loop .inv))
 
 pub run-range-spec : {M : Type 1} → statement M
 run-range-spec =

@@ -16,7 +16,7 @@ use Rattle.running.proofs.run_one.Tie as tie
 
 as-node : (cs ps : List ℤ) (n : Node) (xs : List Float) {ys : List Float} {p : Prepared} {rows : List (List Float)} {i o : Float}
     → p ≡ preparedAs cs ps (n .at) (n .kind)
-    → rows ≡ rowsAs cs ps (n .at) (n .kind)
+    → rows ≡ rowsAs cs ps p
     → i ≡ scaleOf (n .input)
     → o ≡ scaleOf (n .output)
     → ys ≡ eachPixel (stepPixel p rows i o cs ps) xs
@@ -50,7 +50,7 @@ returns c =
     let r = i .before in
     let p = r .before in
     let a = p .before .before .args in
-    as-node (now (a .coefficients)) (now (a .powers)) (a .node) (now (a .pixels)) (p .prepared .ensures) (r .rows .ensures) (i .scale .ensures) (o .scale2 .ensures) (n .run-node .ensures)
+    as-node (now (a .coefficients)) (now (a .powers)) (a .node) (now (a .pixels)) (p .prepared .ensures) (r .rows .ensures) (i .scale .ensures) (o .scale2 .ensures) (n .run-node .ensures .0)
 
 pub run-one-spec : {M : Type 1} → statement M
 run-one-spec =

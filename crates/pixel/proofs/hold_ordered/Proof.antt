@@ -1,8 +1,8 @@
--- `pixel_run::hold_ordered` meets its contract. Assumes nothing.
-use Rattle.pixel_run.specs.Clamped.{ordered-hold}
+-- `pixel::hold_ordered` meets its contract. Assumes nothing.
+use Rattle.pixel.proofs.OrderedHold.{ordered-hold}
 use borrow.Author.Needs.{needs}
-use Rattle.pixel_run.proofs.hold_ordered.Statement.{statement}
-use Rattle.pixel_run.proofs.hold_ordered.Tie as tie
+use Rattle.pixel.proofs.hold_ordered.Statement.{statement}
+use Rattle.pixel.proofs.hold_ordered.Tie as tie
 
 at-most-requires : tie.Need-at-most-requires
 at-most-requires c κs = search needs

@@ -1,7 +1,7 @@
--- `pixel_run::at_most` meets its contract. Assumes nothing.
-use Rattle.pixel_run.specs.Clamped.{atMost}
-use Rattle.pixel_run.proofs.at_most.Statement.{statement}
-use Rattle.pixel_run.proofs.at_most.Tie as tie
+-- `pixel::at_most` meets its contract. Assumes nothing.
+use Rattle.pixel.specs.OrderedHold.{atMost}
+use Rattle.pixel.proofs.at_most.Statement.{statement}
+use Rattle.pixel.proofs.at_most.Tie as tie
 
 returns : tie.Need-returns
 unfolding atMost

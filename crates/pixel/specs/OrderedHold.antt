@@ -1,0 +1,7 @@
+-- The first half of a hold.
+use mathlib.Core.Bool.{cond}
+use lib.Ieee.{Float, lt}
+
+-- 'hi if x > hi', and x otherwise
+unfoldable pub atMost : Float → Float → Float
+atMost x hi = cond (lt hi x) hi x

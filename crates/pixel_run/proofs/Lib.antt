@@ -1,0 +1,2 @@
+pub mod ClampRuns
+pub mod UnitScales
