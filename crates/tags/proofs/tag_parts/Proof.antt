@@ -5,8 +5,8 @@ use lib.ListN.{length}
 use Rattle.tags.specs.Rules.{rulesOf}
 use Rattle.tags.proofs.Ends.{TagInv, tag-start, tag-end, tag-space, tag-open, tag-empty, tag-other, tag-fault, tag-cut, tag-attribute}
 use borrow.Author.Needs.{needs}
-use Rattle.tags.proofs.start_tag.Statement.{statement}
-use Rattle.tags.proofs.start_tag.Tie as tie
+use Rattle.tags.proofs.tag_parts.Statement.{statement}
+use Rattle.tags.proofs.tag_parts.Tie as tie
 
 abbrev Inv-loop : tie.InvT-loop
 Inv-loop s at kind seen₀ spaced₀ i₀ seen spaced i = TagInv (rulesOf kind) s at seen spaced i
@@ -83,8 +83,8 @@ returns-5 c = tag-other (rulesOf (c .before .before .before .before .before .bef
 returns-6 : tie.Need-returns-6 Inv-loop μ-loop
 returns-6 c = tag-end (rulesOf (c .before .before .before .before .args .kind)) (c .before .before .before .before .args .s .now) (c .before .before .before .before .args .at) (c .before .loop .seen) (c .before .loop .spaced) (c .before .loop .i) (c .before .loop .inv) (c .loop-test .left)
 
-pub start-tag-spec : {M : Type 1} → statement M
-start-tag-spec =
+pub tag-parts-spec : {M : Type 1} → statement M
+tag-parts-spec =
     tie.close
     (tie.spec
     Inv-loop
