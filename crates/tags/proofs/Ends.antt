@@ -261,11 +261,12 @@ module _ (kind : TagKind) (s : List ℕ) (at : ℕ) (t : StartTag) (v : TagStops
   pub kept-empty : (e : ℕ) → t .end ≡ Empty e → TagRead kind s at (record { end = Empty e; seen = t .seen })
   kept-empty e q = (by-end (Empty e) q, rw q at (v .1), v .2 ∙ ap (seenOf s at) (by-end (Empty e) q))
 
-  pub none-fault : (k p : ℕ) → t .end ≡ Fault k p → TagRead kind s at (record { end = Fault k p; seen = noAttributes })
-  none-fault k p q = (by-end (Fault k p) q, rw q at (v .1), ap (seenOf s at) (by-end (Fault k p) q))
+  module _ (n : Seen) (z : n ≡ noAttributes) where
+    pub none-fault : (k p : ℕ) → t .end ≡ Fault k p → TagRead kind s at (record { end = Fault k p; seen = n })
+    none-fault k p q = (by-end (Fault k p) q, rw q at (v .1), z ∙ ap (seenOf s at) (by-end (Fault k p) q))
 
-  pub none-cut : t .end ≡ Cut → TagRead kind s at (record { end = t .end; seen = noAttributes })
-  none-cut q = (ap (endOut s noAttributes) q ∙ by-end Cut q, v .1, ap (seenOf s at) (by-end Cut q))
+    pub none-cut : t .end ≡ Cut → TagRead kind s at (record { end = t .end; seen = n })
+    none-cut q = (ap (endOut s n) q ∙ by-end Cut q, v .1, z ∙ ap (seenOf s at) (by-end Cut q))
 
 -- there is one answer
 pub tag-placed : (kind : TagKind) (s : List ℕ) (at : ℕ) (t : StartTag) → TagRead kind s at t

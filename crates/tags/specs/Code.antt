@@ -141,6 +141,7 @@ unfoldable pub firstNamed : List ℕ → List Attribute → ℕ
 firstNamed w [] = 0
 firstNamed w (a ∷ l) = cond (same w (a .name)) 0 (suc (firstNamed w l))
 
+-- where the text of the attribute of index i stands
 abbrev pub spanAt : Seen → ℕ → Span
 spanAt seen i = record { start = getD (seen .«text_start») i 0; end = getD (seen .«text_end») i 0 }
 
