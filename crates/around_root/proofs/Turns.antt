@@ -102,21 +102,31 @@ tail-past s i h = loop-last tailP tt (drop i s) tt [] (ap tailPart (drop-of-leng
 pub record TailInv (s : List ℕ) (at i : ℕ) : Type 0 where
   pub from : at ≤ i
   pub within : at ≤ length s → i ≤ length s
+  pub still : length s < at → i ≡ at
   pub run : tail (drop at s) ≡ loopP tailP tt (drop i s)
 
 pub tail-start : (s : List ℕ) (at : ℕ) → TailInv s at at
-tail-start s at = record { from = omega arith; within = λ h. h; run = tail-is (drop at s) }
+tail-start s at = record { from = omega arith; within = λ h. h; still = λ h. refl; run = tail-is (drop at s) }
 
 module _ (s : List ℕ) (at i : ℕ) (v : TailInv s at i) (g : i < length s) where
   tail-next : (e : ℕ) (p : Part (Unit {0})) → i < e → e ≤ length s → behind-root .run (drop i s) ≡ done p (drop e s) → TailInv s at e
-  tail-next e p h k q = record { from = omega (arith, v .from); within = λ x. k; run = v .run ∙ tail-on s i g e p h k q }
+  tail-next e p h k q = record {
+    from = omega (arith, v .from);
+    within = λ x. k;
+    still = λ x. absurd (omega (arith, v .from));
+    run = v .run ∙ tail-on s i g e p h k q;
+  }
 
   pub tail-gap : (e : ℕ) → LeadsTo s i (Leads.Gap e) → TailInv s at e
   tail-gap e l = tail-next e gap (omega (arith, l .inside .0)) (l .inside .1) (between-gap strayEnd (λ w. 5) (λ w. bad 5) s i e l)
 
   ended : (r : Scan) → Failed r → scanOut noValue s r ≡ loopP tailP tt (drop i s) → Inside 0 s i r → ReadsFrom 0 tail noValue s at r
-  ended (Fault k p) f q b = record { out = q ∙ sym (v .run); inside = λ x. (omega (arith, v .from, b .0), b .1) }
-  ended Cut f q b = record { out = q ∙ sym (v .run); inside = λ x. tt }
+  ended (Fault k p) f q b = record {
+    out = q ∙ sym (v .run);
+    inside = λ x. (omega (arith, v .from, b .0), b .1);
+    beyond = λ x. absurd (omega (arith, v .from));
+  }
+  ended Cut f q b = record { out = q ∙ sym (v .run); inside = λ x. tt; beyond = λ x. tt }
   ended (At e) f q b = absurd f
 
   pub tail-open : (e : ℕ) → LeadsTo s i (Leads.Open e) → ReadsFrom 0 tail noValue s at (Fault 5 i)
@@ -150,6 +160,7 @@ pub tail-end : (s : List ℕ) (at i : ℕ) → TailInv s at i → length s ≤ i
 tail-end s at i v h = record {
   out = ap (λ (l : List ℕ). done tt l) (drop-of-length-le s h) ∙ sym (v .run ∙ tail-past s i h);
   inside = λ x. (omega (arith, v .from), v .within x);
+  beyond = v .still;
 }
 
 -- ---- before the root

@@ -20,6 +20,7 @@ use Rattle.tags.specs.declared.StartTag.{StartTag}
 use Rattle.tags.specs.declared.Seen.{Seen}
 use Rattle.tags.specs.Rules.{rulesOf}
 use Rattle.tags.specs.Code.{attributesOf, endOut, EndInside}
+use Rattle.tags.specs.Places.{seenOf}
 use Rattle.around_root.specs.Code.{lead}
 use Rattle.clf.specs.Nodes.{NodeRead}
 use Rattle.clf.specs.List.{Child, listItem, nextFlags, noFlags, listRules, listContent, tail}
@@ -36,7 +37,10 @@ use Rattle.file_text.proofs.Text.{lead-fault, lead-cut, root-fault, roo
 module _ (wanted : ℕ) (s : List ℕ) (at : ℕ) (seen : Seen) (c₀ p₀ : List ℤ) where
   -- what the start tag answered
   abbrev Tagged : TagEnd → Type 0
-  Tagged t = (endOut s seen t ≡ (startTag (rulesOf Kinds.ProcessList)) .run (drop at s)) × EndInside s at t
+  Tagged t =
+      (endOut s seen t ≡ (startTag (rulesOf Kinds.ProcessList)) .run (drop at s))
+      × EndInside s at t
+      × (seen ≡ seenOf s at ((startTag (rulesOf Kinds.ProcessList)) .run (drop at s)))
 
   tagged : (o : Out Tag) → o ≡ (startTag (rulesOf Kinds.ProcessList)) .run (drop at s) → thenOut o (λ tag. (listContent tag) .run) ≡ rootP (drop at s)
   unfolding rulesOf

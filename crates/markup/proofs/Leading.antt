@@ -12,14 +12,14 @@ use Rattle.grammar.specs.Parse.{Out, done, fault, thenOut, retP, settleP}
 use Rattle.xml.specs.Bytes.{isSpace}
 use Rattle.xml.specs.Xml.{comment, entity, openName}
 use Rattle.xml.specs.Code.{part, Reads, noValue}
-use Rattle.xml.specs.CodeLaws.{look-at}
+use Rattle.xml.specs.CodeLaws.{look-at, place-left}
 use Rattle.xml.specs.declared.Scan.{Scan}
 use Rattle.xml.specs.declared.Scan.the-variants as Scans
 use Rattle.markup.specs.Settled.{settledScan}
-use Rattle.markup.specs.Leads.{Leading, passed, starts, ends, leadMarkup, leadTwo, leadByte, behindOne, leads, LeadsTo, LeadsBy, gapOf, openOf}
+use Rattle.markup.specs.Leads.{Leading, passed, starts, ends, leadMarkup, leadTwo, leadByte, behindOne, leads, leadOut, leadPlaced, LeadInside, LeadsTo, LeadsBy, gapOf, openOf}
 use Rattle.markup.proofs.Known.{reads-settle}
 use Rattle.markup.specs.declared.Lead.{Lead}
-use Rattle.markup.specs.declared.Lead.the-variants.{Gap, End, Fault, Cut}
+use Rattle.markup.specs.declared.Lead.the-variants.{Gap, Open, End, Fault, Cut}
 
 module _ (s : List ℕ) (at : ℕ) where
   -- ---- behind a `<`
@@ -117,3 +117,16 @@ module _ (s : List ℕ) (at : ℕ) where
 
         pub lead-bare : (first ≡ 38 → ⊥) → LeadsTo s at (Fault 5 at)
         lead-bare q = record { out = sym (one false false false ns (ne-eqb first 60 nl) (ne-eqb first 38 q)); inside = (omega arith, omega arith) }
+
+-- ---- there is one answer
+
+module _ (s : List ℕ) (at : ℕ) where
+  placed-lead : (r : Lead) → LeadInside s at r → r ≡ leadPlaced at (drop at s) (leadOut s at r)
+  placed-lead (Gap e) i = ap Gap (place-left s at e (omega (arith, i .0)) (i .1))
+  placed-lead (Open e) i = ap Open (place-left s at e (omega (arith, i .0)) (i .1))
+  placed-lead End i = refl
+  placed-lead (Fault k p) i = ap (Fault k) (place-left s at p (i .0) (i .1))
+  placed-lead Cut i = refl
+
+  pub leads-placed : (r : Lead) → LeadsTo s at r → r ≡ leadPlaced at (drop at s) (leads (drop at s))
+  leads-placed r v = placed-lead r (v .inside) ∙ ap (leadPlaced at (drop at s)) (v .out)

@@ -2,7 +2,7 @@
 use mathlib.Core.Path.{_≡_}
 use mathlib.Core.Bool.{cond}
 use mathlib.Core.List.{List, [], _∷_}
-use Prim.Native.Nat.{ℕ, _+_, _≤_}
+use Prim.Native.Nat.{ℕ, _+_, _-_, _≤_}
 use lib.ListN.{length, drop}
 use lib.Dec.{eqb}
 use Rattle.grammar.specs.Parse.{Out, done, fault, cut, Parser, thenOut, retP, lookP, settleP}
@@ -60,6 +60,15 @@ LeadInside s at Leads.End = at + 2 ≤ length s
 LeadInside s at (Leads.Fault k p) = (at ≤ p) × (p ≤ length s)
 LeadInside s at Leads.Cut = Unit
 
+-- the answer for what is found in the bytes u that stand at `at`: a place is as many bytes behind `at` as have been taken
+abbrev pub leadPlaced : ℕ → List ℕ → Out Leading → Lead
+leadPlaced at u (done passed r) = Leads.Gap (at + (length u - length r))
+leadPlaced at u (done (starts w) r) = Leads.Open (at + (length u - length r))
+leadPlaced at u (done ends r) = Leads.End
+leadPlaced at u (fault k r) = Leads.Fault k (at + (length u - length r))
+leadPlaced at u cut = Leads.Cut
+
+-- the answer r for what stands at `at`. There is one for every `at`: `leadPlaced at (drop at s) (leads (drop at s))` (`proofs/Leading`: `leads-placed`)
 pub record LeadsTo (s : List ℕ) (at : ℕ) (r : Lead) : Type 0 where
   pub out : leadOut s at r ≡ leads (drop at s)
   pub inside : LeadInside s at r

@@ -7,17 +7,17 @@ use native.Mathlib.Omega.{arith}
 use lib.ListN.{length, getD, drop}
 use lib.Dec.{leb}
 use borrow.Author.Tests.{leb-false}
-use Rattle.scanning.specs.Steps.{here, past}
+use Rattle.scanning.specs.Steps.{here, past, part-length}
 use Rattle.grammar.specs.Parse.{Out, done, fault, cut, Parser, thenOut, bindP, retP, verdict, judgeOut, judgeP, eatP}
 use Rattle.grammar.specs.Grammar.{seq}
 use Rattle.grammar.specs.Laws.{nope}
 use Rattle.xml.specs.Bytes.{isQuote, equals}
 use Rattle.xml.specs.Xml.{byte, spaces, name, textTo, Attribute, isNamed, Rules, nameFault, attribute}
 use Rattle.xml.specs.Code.{part, Reads, Failed}
-use Rattle.xml.specs.CodeLaws.{reads-ended, reads-then, reads-failed}
+use Rattle.xml.specs.CodeLaws.{reads-ended, reads-then, reads-failed, place-left}
 use Rattle.xml.specs.declared.Scan.{Scan}
 use Rattle.xml.specs.declared.Scan.the-variants as Scans
-use Rattle.tags.specs.Code.{partIn, byteBefore, quote, toQuote, behindQuote, named, attributeOut, AttributeInside, AttributeIs}
+use Rattle.tags.specs.Code.{partIn, byteBefore, quote, toQuote, BeginsText, behindQuote, named, attributeOut, attributePlaced, AttributeInside, AttributeIs}
 use Rattle.tags.specs.declared.AttributeRead.{AttributeRead}
 use Rattle.tags.specs.declared.AttributeRead.the-variants.{At, Fault, Cut}
 use Rattle.tags.proofs.Words.{part-in}
@@ -78,7 +78,7 @@ module _ (s : List ℕ) (at : ℕ) where
 
 -- ---- behind the first quote
 
-module _ (rules : Rules) (s : List ℕ) (at e q : ℕ) (h : (at < e) × (e < q) × (q ≤ length s)) where
+module _ (rules : Rules) (s : List ℕ) (at e q : ℕ) (h : (at < e) × (e < q) × (q ≤ length s) × BeginsText s e q) where
   abbrev texts : (Unit {0}) × List ℕ → ℕ
   texts x = rules .texts (part s at e) (x .1)
 
@@ -111,7 +111,7 @@ module _ (rules : Rules) (s : List ℕ) (at e q : ℕ) (h : (at < e) × (e < q) 
     text-cut z l = record { out = sym (text-good z ∙ ap (rest (tt, part s q t)) (past s t l)); inside = tt }
 
     pub text-done : k ≡ 0 → t < length s → AttributeIs s at (At e q t) answer
-    text-done z l = record { out = sym (text-good z ∙ ap (rest (tt, part s q t)) (here s t l)); inside = (h .0, h .1, omega (arith, v .inside), l) }
+    text-done z l = record { out = sym (text-good z ∙ ap (rest (tt, part s q t)) (here s t l)); inside = (h .0, h .1, omega (arith, v .inside), l, h .3) }
 
   pub text-fault : (k p : ℕ) → Reads 0 theText (λ x. (tt, part s q x)) s q (Scans.Fault k p) → AttributeIs s at (Fault k p) answer
   text-fault k p v = record {
@@ -228,3 +228,19 @@ module _ (rules : Rules) (seen : List Attribute) where
 
   pub attribute-few : (l : List ℕ) (a : Attribute) (u : List ℕ) → (attribute rules seen) .run l ≡ done a u → length seen < 16
   attribute-few l a u z = few-name (name .run l) l a u (sym (attribute-parts l) ∙ z)
+
+-- ---- there is one answer
+
+module _ (s : List ℕ) (at : ℕ) where
+  placed-attribute : (r : AttributeRead) → AttributeInside s at r → r ≡ attributePlaced at (drop at s) (attributeOut s at r)
+  placed-attribute (At e a t) i =
+      let last : ℕ = at + (length (drop at s) - length (drop (t + 1) s)) - 1 in
+      let x : e ≡ at + length (part s at e) = omega (arith, i, part-length s at e (omega (arith, i)) (omega (arith, i))) in
+      let z : t ≡ last = omega (arith, place-left s at (t + 1) (omega (arith, i)) (omega (arith, i))) in
+      let y : a ≡ last - length (part s a t) = omega (arith, i, z, part-length s a t (omega (arith, i)) (omega (arith, i))) in
+      cc (x, y, z)
+  placed-attribute (Fault k p) i = ap (Fault k) (place-left s at p (i .0) (i .1))
+  placed-attribute Cut i = refl
+
+  pub attribute-placed : (r : AttributeRead) (o : Out Attribute) → (attributeOut s at r ≡ o) × AttributeInside s at r → r ≡ attributePlaced at (drop at s) o
+  attribute-placed r o v = placed-attribute r (v .1) ∙ ap (attributePlaced at (drop at s)) (v .0)

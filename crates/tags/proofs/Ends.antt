@@ -1,7 +1,7 @@
 -- The end of a start tag, and its loop, as the code goes through them. Assumes nothing.
 use mathlib.Core.Path.{_≡_, refl, sym, ap, _∙_}
 use mathlib.Core.Bool.{Bool, true, false}
-use mathlib.Core.List.{List, [], _∷_, _++_}
+use mathlib.Core.List.{List, [], _∷_, _++_, append-assoc, append-nil}
 use Prim.Native.Nat.{ℕ, _+_, _≤_, _<_}
 use native.Mathlib.Omega.{arith}
 use lib.ListN.{length, getD, drop, length-drop}
@@ -15,17 +15,20 @@ use Rattle.xml.specs.Code.{part, ReadsFrom, noValue}
 use Rattle.xml.specs.CodeLaws.{look-at}
 use Rattle.xml.specs.declared.Scan.{Scan}
 use Rattle.xml.specs.declared.Scan.the-variants as Scans
-use Rattle.tags.specs.Code.{partIn, attributesOf, noAttributes, withAttribute, attributeOut, AttributeInside, EndInside, tagOut, openEnd, emptyEnd, EndIs}
+use Rattle.tags.specs.Code.{partIn, attributesOf, noAttributes, withAttribute, attributeOut, AttributeInside, EndInside, endOut, tagOut, openEnd, emptyEnd, EndIs}
 use Rattle.tags.specs.Rules.{rulesOf}
-use Rattle.tags.specs.Ended.{EndsAs, ends-as}
+use Rattle.tags.specs.Places.{seenFrom, seenOf}
+use Rattle.tags.specs.Ended.{EndsAs, TagRead, TagStops, endPlaced, ended, ends-as, ends-placed}
 use Rattle.tags.specs.declared.Seen.{Seen}
 use Rattle.tags.specs.declared.StartTag.{StartTag}
 use Rattle.tags.specs.declared.TagEnd.{TagEnd}
 use Rattle.tags.specs.declared.TagEnd.the-variants.{Open, Empty, Fault, Cut}
+use Rattle.tags.specs.declared.TagKind.{TagKind}
 use Rattle.tags.specs.declared.TagKind.the-variants as Kinds
 use Rattle.tags.specs.declared.AttributeRead.the-variants as Reads
 use Rattle.tags.proofs.Lists.{Sized, sized-none, sized-more, attributes-none, attributes-more, length-attributes}
 use Rattle.tags.proofs.Words.{part-in}
+use Rattle.tags.proofs.Standing.{seen-space, seen-attribute}
 use Rattle.tags.proofs.Attributes.{verdict-bad, attribute-few}
 
 -- ---- `>`
@@ -106,16 +109,14 @@ pub record TagInv (rules : Rules) (s : List ℕ) (at : ℕ) (seen : Seen) (space
   pub low : at ≤ i
   pub sized : Sized seen
   pub out : (startTag rules) .run (drop at s) ≡ from rules (state spaced (attributesOf s seen)) (drop i s)
-
--- what start_tag answers
-abbrev pub TagIs : Rules → List ℕ → ℕ → StartTag → Type 0
-TagIs rules s at r = (tagOut s r ≡ (startTag rules) .run (drop at s)) × EndInside s at (r .end)
+  pub places : (l : List Attribute) → seenFrom s at (attributesOf s seen ++ l) noAttributes ≡ seenFrom s i l seen
 
 pub tag-start : (rules : Rules) (s : List ℕ) (at : ℕ) → TagInv rules s at noAttributes false at
 tag-start rules s at = record {
   low = omega arith;
   sized = sized-none;
   out = start-from rules (drop at s) ∙ ap (λ (l : List Attribute). from rules (state false l) (drop at s)) (sym (attributes-none s));
+  places = λ l. ap (λ (x : List Attribute). seenFrom s at (x ++ l) noAttributes) (attributes-none s);
 }
 
 inside-from : (s : List ℕ) (at i : ℕ) (e : TagEnd) → at ≤ i → EndInside s i e → EndInside s at e
@@ -133,9 +134,13 @@ module _ (rules : Rules) (s : List ℕ) (at : ℕ) (seen : Seen) (spaced : Bool)
   abbrev st : TagState
   st = state spaced (attributesOf s seen)
 
+  stand : seen ≡ seenFrom s at (attributesOf s seen) noAttributes
+  unfolding seenFrom
+  stand = sym (ap (λ (l : List Attribute). seenFrom s at l noAttributes) (sym (append-nil (attributesOf s seen))) ∙ v .places [])
+
   -- the bytes have ended
-  pub tag-end : length s ≤ i → TagIs rules s at (record { end = Cut; seen = seen })
-  tag-end h = (sym (v .out ∙ loop-cut (turn rules) st (drop i s) (ap (turn rules st) (past s i h))), tt)
+  pub tag-end : length s ≤ i → TagStops rules s at (record { end = Cut; seen = seen })
+  tag-end h = (sym (v .out ∙ loop-cut (turn rules) st (drop i s) (ap (turn rules st) (past s i h))), tt, stand)
 
   module _ (h : i < length s) where
     abbrev b : ℕ
@@ -152,35 +157,37 @@ module _ (rules : Rules) (s : List ℕ) (at : ℕ) (seen : Seen) (spaced : Bool)
           low = omega (arith, v .low);
           sized = v .sized;
           out = v .out ∙ loop-again (turn rules) st (drop i s) (state true (attributesOf s seen)) (drop (i + 1) s) (here-turn ∙ e) (omega (arith, ap length (here s i h)));
+          places = λ l. v .places l ∙ seen-space s i h q l seen;
         }
 
     module _ (q : isSpace (getD s i 0) ≡ false) where
-      ended : (o : Out Tag) (e : TagEnd) → EndIs s seen i e o → turnOut (loopP (turn rules)) ((tagByte rules st b) .run (drop i s)) (drop i s) ≡ o
-          → TagIs rules s at (record { end = e; seen = seen })
-      ended o e x z = (
+      ended-tag : (o : Out Tag) (e : TagEnd) → EndIs s seen i e o → turnOut (loopP (turn rules)) ((tagByte rules st b) .run (drop i s)) (drop i s) ≡ o
+          → TagStops rules s at (record { end = e; seen = seen })
+      ended-tag o e x z = (
         x .out ∙ sym (v .out ∙ loop-step (turn rules) st (drop i s) ∙ ap (λ (w : Out (Turn TagState Tag)). turnOut (loopP (turn rules)) w (drop i s)) here-turn ∙ z),
         inside-from s at i e (v .low) (x .inside),
+        stand,
       )
 
       -- `>`
-      pub tag-open : getD s i 0 ≡ 62 → (e : TagEnd) → EndIs s seen i e ((openEnd rules (attributesOf s seen)) .run (drop i s)) → TagIs rules s at (record { end = e; seen = seen })
-      tag-open g e x = ended ((openEnd rules (attributesOf s seen)) .run (drop i s)) e x
+      pub tag-open : getD s i 0 ≡ 62 → (e : TagEnd) → EndIs s seen i e ((openEnd rules (attributesOf s seen)) .run (drop i s)) → TagStops rules s at (record { end = e; seen = seen })
+      tag-open g e x = ended-tag ((openEnd rules (attributesOf s seen)) .run (drop i s)) e x
           (rw (q, eq-eqb (getD s i 0) 62 g)
           (last-turn (loopP (turn rules)) (judgeOut (λ y. rules .opened (attributesOf s seen)) (eatP (drop i s)) (drop i s)) (record { attributes = attributesOf s seen; empty = false }) (drop i s)))
 
       module _ (g : getD s i 0 ≡ 62 → ⊥) where
         -- `/>`
-        pub tag-empty : getD s i 0 ≡ 47 → (e : TagEnd) → EndIs s seen i e ((emptyEnd rules (attributesOf s seen)) .run (drop i s)) → TagIs rules s at (record { end = e; seen = seen })
-        tag-empty d e x = ended ((emptyEnd rules (attributesOf s seen)) .run (drop i s)) e x
+        pub tag-empty : getD s i 0 ≡ 47 → (e : TagEnd) → EndIs s seen i e ((emptyEnd rules (attributesOf s seen)) .run (drop i s)) → TagStops rules s at (record { end = e; seen = seen })
+        tag-empty d e x = ended-tag ((emptyEnd rules (attributesOf s seen)) .run (drop i s)) e x
             (rw (q, ne-eqb (getD s i 0) 62 g, eq-eqb (getD s i 0) 47 d)
             (last-turn (loopP (turn rules)) (judgeOut (λ y. rules .emptied (attributesOf s seen)) ((word (bytes "/>") 2) .run (drop i s)) (drop i s)) (record { attributes = attributesOf s seen; empty = true }) (drop i s)))
 
         module _ (d : getD s i 0 ≡ 47 → ⊥) where
           -- any other byte where no white space stands before
-          pub tag-other : spaced ≡ false → TagIs rules s at (record { end = Fault 2 i; seen = seen })
+          pub tag-other : spaced ≡ false → TagStops rules s at (record { end = Fault 2 i; seen = seen })
           tag-other z =
               let e : (tagByte rules st b) .run (drop i s) ≡ fault 2 (drop i s) = rw (q, ne-eqb (getD s i 0) 62 g, ne-eqb (getD s i 0) 47 d, z) in
-              (sym (v .out ∙ loop-fault (turn rules) st (drop i s) 2 (drop i s) (here-turn ∙ e)), (v .low, omega arith))
+              (sym (v .out ∙ loop-fault (turn rules) st (drop i s) 2 (drop i s) (here-turn ∙ e)), (v .low, omega arith), stand)
 
           module _ (z : spaced ≡ true) where
             abbrev onward : Attribute → Parser (Turn TagState Tag)
@@ -190,12 +197,12 @@ module _ (rules : Rules) (s : List ℕ) (at : ℕ) (seen : Seen) (spaced : Bool)
             at-attribute = here-turn ∙ rw (q, ne-eqb (getD s i 0) 62 g, ne-eqb (getD s i 0) 47 d, z)
 
             pub tag-fault : (k p : ℕ) → fault k (drop p s) ≡ (attribute rules (attributesOf s seen)) .run (drop i s) → (i ≤ p) × (p ≤ length s)
-                → TagIs rules s at (record { end = Fault k p; seen = seen })
+                → TagStops rules s at (record { end = Fault k p; seen = seen })
             tag-fault k p x w =
-                (sym (v .out ∙ loop-fault (turn rules) st (drop i s) k (drop p s) (at-attribute ∙ ap (λ (o : Out Attribute). thenOut o onward) (sym x))), (omega (arith, v .low), w .1))
+                (sym (v .out ∙ loop-fault (turn rules) st (drop i s) k (drop p s) (at-attribute ∙ ap (λ (o : Out Attribute). thenOut o onward) (sym x))), (omega (arith, v .low), w .1), stand)
 
-            pub tag-cut : cut ≡ (attribute rules (attributesOf s seen)) .run (drop i s) → TagIs rules s at (record { end = Cut; seen = seen })
-            tag-cut x = (sym (v .out ∙ loop-cut (turn rules) st (drop i s) (at-attribute ∙ ap (λ (o : Out Attribute). thenOut o onward) (sym x))), tt)
+            pub tag-cut : cut ≡ (attribute rules (attributesOf s seen)) .run (drop i s) → TagStops rules s at (record { end = Cut; seen = seen })
+            tag-cut x = (sym (v .out ∙ loop-cut (turn rules) st (drop i s) (at-attribute ∙ ap (λ (o : Out Attribute). thenOut o onward) (sym x))), tt, stand)
 
             module _ (e a t : ℕ) (x : attributeOut s i (Reads.At e a t) ≡ (attribute rules (attributesOf s seen)) .run (drop i s)) (w : AttributeInside s i (Reads.At e a t)) where
               abbrev one : Attribute
@@ -217,6 +224,11 @@ module _ (rules : Rules) (s : List ℕ) (at : ℕ) (seen : Seen) (spaced : Bool)
                     ∙ loop-again (turn rules) st (drop i s) (state false (attributesOf s seen ++ one ∷ [])) (drop (t + 1) s)
                     (at-attribute ∙ ap (λ (o : Out Attribute). thenOut o onward) (sym x)) (simp length-drop (omega arith))
                     ∙ ap (λ (l : List Attribute). from rules (state false l) (drop (t + 1) s)) (sym more);
+                places = λ l.
+                    ap (λ (m : List Attribute). seenFrom s at (m ++ l) noAttributes) more
+                    ∙ ap (λ (m : List Attribute). seenFrom s at m noAttributes) (append-assoc (attributesOf s seen) (one ∷ []) l)
+                    ∙ v .places (one ∷ l)
+                    ∙ seen-attribute s i h q e a t w l seen;
               })
 
 -- a plain tag without attributes
@@ -224,10 +236,45 @@ pub open-at-once : (s : List ℕ) (at : ℕ) → at < length s → getD s at 0 �
 unfolding isSpace
 open-at-once s at h g =
     let p : isSpace (getD s at 0) ≡ false = rw g refl in
-    ends-as plain s at (record { end = Open (at + 1); seen = noAttributes })
-    (tag-open plain s at noAttributes false at (tag-start plain s at) h p g (Open (at + 1)) (open-done plain s noAttributes at h 0 refl refl))
+    let v : TagStops plain s at (record { end = Open (at + 1); seen = noAttributes }) =
+    tag-open plain s at noAttributes false at (tag-start plain s at) h p g (Open (at + 1)) (open-done plain s noAttributes at h 0 refl refl) in
+    ends-as plain s at (record { end = Open (at + 1); seen = noAttributes }) (v .0) (v .1)
 
 -- `plain` is what a plain tag asks
 pub plainly : (s : List ℕ) (at : ℕ) (e : TagEnd) → EndsAs (rulesOf Kinds.Plain) s at e → EndsAs plain s at e
 unfolding rulesOf
 plainly s at e v = v
+
+-- ---- the whole start tag: its attributes where it ends, and none where it does not
+
+module _ (kind : TagKind) (s : List ℕ) (at : ℕ) (t : StartTag) (v : TagStops (rulesOf kind) s at t) where
+  abbrev found : Out Tag
+  found = (startTag (rulesOf kind)) .run (drop at s)
+
+  -- the answer at an end
+  by-end : (end : TagEnd) → t .end ≡ end → endOut s (t .seen) end ≡ found
+  by-end end q = ap (endOut s (t .seen)) (sym q) ∙ v .0
+
+  pub kept-open : (e : ℕ) → t .end ≡ Open e → TagRead kind s at (record { end = Open e; seen = t .seen })
+  kept-open e q = (by-end (Open e) q, rw q at (v .1), v .2 ∙ ap (seenOf s at) (by-end (Open e) q))
+
+  pub kept-empty : (e : ℕ) → t .end ≡ Empty e → TagRead kind s at (record { end = Empty e; seen = t .seen })
+  kept-empty e q = (by-end (Empty e) q, rw q at (v .1), v .2 ∙ ap (seenOf s at) (by-end (Empty e) q))
+
+  module _ (n : Seen) (z : n ≡ noAttributes) where
+    pub none-fault : (k p : ℕ) → t .end ≡ Fault k p → TagRead kind s at (record { end = Fault k p; seen = n })
+    none-fault k p q = (by-end (Fault k p) q, rw q at (v .1), z ∙ ap (seenOf s at) (by-end (Fault k p) q))
+
+    pub none-cut : t .end ≡ Cut → TagRead kind s at (record { end = t .end; seen = n })
+    none-cut q = (ap (endOut s n) q ∙ by-end Cut q, v .1, z ∙ ap (seenOf s at) (by-end Cut q))
+
+-- there is one answer
+pub tag-placed : (kind : TagKind) (s : List ℕ) (at : ℕ) (t : StartTag) → TagRead kind s at t
+    → t ≡ record {
+      end = endPlaced at (drop at s) (ended ((startTag (rulesOf kind)) .run (drop at s)));
+      seen = seenOf s at ((startTag (rulesOf kind)) .run (drop at s));
+    }
+tag-placed kind s at t v =
+    let x = ends-placed (rulesOf kind) s at (t .end) (ends-as (rulesOf kind) s at t (v .0) (v .1)) in
+    ap (λ (e : TagEnd). record { end = e; seen = t .seen }) x
+    ∙ ap (λ (l : Seen). record { end = endPlaced at (drop at s) (ended ((startTag (rulesOf kind)) .run (drop at s))); seen = l }) (v .2)

@@ -8,12 +8,13 @@ use native.Mathlib.Numerals.{add-one}
 use lib.ListN.{length, set, length-append, length-set}
 use lib.Seq.{getD-set-same, getD-set-other}
 use lib.Dec.{ltb, leb}
-use borrow.Author.Tests.{ltb-true, ltb-false, lt-ltb, le-leb, lt-leb}
+use borrow.Author.Tests.{ltb-true, ltb-false, lt-ltb, le-ltb, le-leb, lt-leb}
 use Rattle.grammar.specs.Laws.{nope}
 use Rattle.xml.specs.Bytes.{same}
 use Rattle.xml.specs.Xml.{Attribute, isNamed, textOf}
-use Rattle.tags.specs.Code.{partIn, attributeAt, firstOnes, attributesOf, noAttributes, withAttribute, IndexOf}
+use Rattle.tags.specs.Code.{partIn, attributeAt, firstOnes, attributesOf, noAttributes, withAttribute, firstNamed, spanAt, textPlace, TextStands, IndexOf}
 use Rattle.tags.specs.declared.Seen.{Seen}
+use Rattle.tags.proofs.Words.{part-nothing}
 
 -- ---- the first ones of a sequence
 
@@ -84,6 +85,20 @@ text-none w (a ∷ l) h = go (text-none w l) (same w (a .name)) h
     go ih true e = nope cc
     go ih false e = ih e
 
+first-skip : (w : List ℕ) (l r : List Attribute) → isNamed w l ≡ false → firstNamed w (l ++ r) ≡ length l + firstNamed w r
+unfolding isNamed firstNamed
+first-skip w [] r h = omega arith
+first-skip w (a ∷ l) r h = go (first-skip w l r) (same w (a .name)) h
+  where
+    go : (isNamed w l ≡ false → firstNamed w (l ++ r) ≡ length l + firstNamed w r) → (v : Bool) → cond v true (isNamed w l) ≡ false
+        → cond v 0 (suc (firstNamed w (l ++ r))) ≡ suc (length l) + firstNamed w r
+    go ih true e = nope cc
+    go ih false e = omega (arith, ih e)
+
+first-here : (w : List ℕ) (a : Attribute) (r : List Attribute) → same w (a .name) ≡ true → firstNamed w (a ∷ r) ≡ 0
+unfolding firstNamed
+first-here w a r h = rw h
+
 -- ---- the search over the indices: none of the first i has the name
 
 abbrev pub NoneOf : List ℕ → Seen → List ℕ → ℕ → Type 0
@@ -104,6 +119,7 @@ index-found s seen w i h k k₂ q =
     let f : ℕ → Attribute = attributeAt s seen in
     let t = ones-split f i (min (seen .count) 16) (omega arith) in
     record {
+      first = λ z. sym (ap (firstNamed w) (t .1) ∙ first-skip w (firstOnes f i) (f i ∷ t .0) h ∙ omega (arith, length-ones f i, first-here w (f i) (t .0) q));
       named = ap (isNamed w) (t .1) ∙ named-skip w (firstOnes f i) (f i ∷ t .0) h ∙ named-first w (f i) (t .0) q ∙ sym (lt-ltb i 16 k₂);
       found = λ z. ap (textOf w) (t .1) ∙ text-skip w (firstOnes f i) (f i ∷ t .0) h ∙ text-first w (f i) (t .0) q;
       missing = λ z. absurd (omega arith);
@@ -115,7 +131,24 @@ unfolding attributesOf
 index-none s seen w i h e =
     let f : ℕ → Attribute = attributeAt s seen in
     let n : isNamed w (attributesOf s seen) ≡ false = ap (λ (m : ℕ). isNamed w (firstOnes f m)) (sym e) ∙ h in
-    record { named = n; found = λ z. absurd (omega arith); missing = λ z. text-none w (attributesOf s seen) n }
+    record { first = λ z. absurd (omega arith); named = n; found = λ z. absurd (omega arith); missing = λ z. text-none w (attributesOf s seen) n }
+
+-- where its text stands
+module _ (s : List ℕ) (seen : Seen) (w : List ℕ) (i : ℕ) (v : IndexOf s seen w i) where
+  pub text-found : i < 16 → TextStands s seen w (spanAt seen i)
+  unfolding textPlace
+  text-found h = record {
+    span = sym (ap (λ (t : Bool). cond t (spanAt seen (firstNamed w (attributesOf s seen))) (record { start = 0; end = 0 })) (v .named ∙ lt-ltb i 16 h)
+        ∙ ap (spanAt seen) (sym (v .first h)));
+    text = sym (v .found h);
+  }
+
+  pub text-missing : 16 ≤ i → TextStands s seen w (record { start = 0; end = 0 })
+  unfolding textPlace
+  text-missing h = record {
+    span = sym (ap (λ (t : Bool). cond t (spanAt seen (firstNamed w (attributesOf s seen))) (record { start = 0; end = 0 })) (v .named ∙ le-ltb i 16 h));
+    text = part-nothing s ∙ sym (v .missing h);
+  }
 
 pub length-attributes : (s : List ℕ) (seen : Seen) → length (attributesOf s seen) ≡ min (seen .count) 16
 unfolding attributesOf

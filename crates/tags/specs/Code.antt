@@ -10,7 +10,7 @@ use Rattle.process_list.specs.declared.Depth.{Depth}
 use Rattle.process_list.specs.declared.Kind as Kinds
 use Rattle.grammar.specs.Parse.{Out, done, fault, cut, thenOut, verdict}
 use Rattle.grammar.specs.Grammar.{G, ret, judge, eat, seq, _>>_}
-use Rattle.xml.specs.Bytes.{bytes, isQuote, equals}
+use Rattle.xml.specs.Bytes.{bytes, same, isQuote, equals}
 use Rattle.xml.specs.Xml.{byte, word, spaces, textTo, Attribute, isNamed, textOf, Rules, nameFault, Tag}
 use Rattle.xml.specs.Code.{part}
 use Rattle.clf.specs.Nodes.{wholeFrom, behindDigits}
@@ -56,17 +56,41 @@ abbrev pub shapeRead : ShapeRead → Option Kinds.Kind
 shapeRead (Shapes.Is n c) = some (Kinds.the-variants.Lut1d n c)
 shapeRead Shapes.Other = none
 
+-- the byte before a place
+abbrev pub byteBefore : List ℕ → ℕ → ℕ
+byteBefore s e = getD s (e - 1) 0
+
+-- white space and a quote
+abbrev pub quote : G ℕ
+quote = seq spaces (λ x. judge (λ b. cond (isQuote b) 0 2) eat)
+
+-- behind the name, up to the first quote
+abbrev pub toQuote : G ℕ
+toQuote = seq spaces (λ x. seq (byte equals 2) (λ y. quote))
+
+-- the text of the attribute whose name ends at e begins at q: behind its first quote
+abbrev pub BeginsText : List ℕ → ℕ → ℕ → Type 0
+BeginsText s e q = toQuote .run (drop e s) ≡ done (byteBefore s q) (drop q s)
+
 -- an attribute read from `at` on, as the grammar's answer
 abbrev pub attributeOut : List ℕ → ℕ → AttributeRead → Out Attribute
 attributeOut s at (Reads.At e a t) = done (record { name = part s at e; text = part s a t }) (drop (t + 1) s)
 attributeOut s at (Reads.Fault k p) = fault k (drop p s)
 attributeOut s at Reads.Cut = cut
 
--- its places are within the bytes, in order
+-- its places are within the bytes, in order, and are those of its name and its text. There is one answer for every `at`: `attributePlaced` (`proofs/Attributes`: `attribute-placed`)
 abbrev pub AttributeInside : List ℕ → ℕ → AttributeRead → Type 0
-AttributeInside s at (Reads.At e a t) = (at < e) × (e < a) × (a ≤ t) × (t < length s)
+AttributeInside s at (Reads.At e a t) = (at < e) × (e < a) × (a ≤ t) × (t < length s) × BeginsText s e a
 AttributeInside s at (Reads.Fault k p) = (at ≤ p) × (p ≤ length s)
 AttributeInside s at Reads.Cut = Unit
+
+-- the answer for what the grammar finds in the bytes u that stand at `at`: a name ends behind its bytes, a text at its closing quote, the last byte of the attribute
+abbrev pub attributePlaced : ℕ → List ℕ → Out Attribute → AttributeRead
+attributePlaced at u (done a r) =
+    let t : ℕ = at + (length u - length r) - 1 in
+    Reads.At (at + length (a .name)) (t - length (a .text)) t
+attributePlaced at u (fault k r) = Reads.Fault k (at + (length u - length r))
+attributePlaced at u cut = Reads.Cut
 
 -- a start tag, as the grammar's answer
 abbrev pub endOut : List ℕ → Seen → TagEnd → Out Tag
@@ -112,25 +136,34 @@ withAttribute seen a b c d =
     })
     seen
 
+-- the index of the first attribute of the name w, their number where there is none
+unfoldable pub firstNamed : List ℕ → List Attribute → ℕ
+firstNamed w [] = 0
+firstNamed w (a ∷ l) = cond (same w (a .name)) 0 (suc (firstNamed w l))
+
+-- where the text of the attribute of index i stands
+abbrev pub spanAt : Seen → ℕ → Span
+spanAt seen i = record { start = getD (seen .«text_start») i 0; end = getD (seen .«text_end») i 0 }
+
+-- where the text of the first attribute of the name w stands; 0, 0 where there is none
+unfoldable pub textPlace : List ℕ → Seen → List ℕ → Span
+textPlace s seen w =
+    let l : List Attribute = attributesOf s seen in
+    cond (isNamed w l) (spanAt seen (firstNamed w l)) (record { start = 0; end = 0 })
+
+-- the answer for it: its place, and that the text stands there
+pub record TextStands (s : List ℕ) (seen : Seen) (w : List ℕ) (r : Span) : Type 0 where
+  pub span : r ≡ textPlace s seen w
+  pub text : partIn s (r .start) (r .end) ≡ textOf w (attributesOf s seen)
+
 -- the index of the first attribute of the name w, 16 where there is none
 pub record IndexOf (s : List ℕ) (seen : Seen) (w : List ℕ) (r : ℕ) : Type 0 where
+  pub first : r < 16 → r ≡ firstNamed w (attributesOf s seen)
   pub named : isNamed w (attributesOf s seen) ≡ ltb r 16
   pub found : r < 16 → textOf w (attributesOf s seen) ≡ (attributeAt s seen r) .text
   pub missing : 16 ≤ r → textOf w (attributesOf s seen) ≡ []
 
--- the byte before a place
-abbrev pub byteBefore : List ℕ → ℕ → ℕ
-byteBefore s e = getD s (e - 1) 0
-
 -- ---- an attribute by its parts: `attribute` is its name, then these
-
--- white space and a quote
-abbrev pub quote : G ℕ
-quote = seq spaces (λ x. judge (λ b. cond (isQuote b) 0 2) eat)
-
--- behind the name, up to the first quote
-abbrev pub toQuote : G ℕ
-toQuote = seq spaces (λ x. seq (byte equals 2) (λ y. quote))
 
 -- behind the first quote, q, of the attribute of the name w
 abbrev pub behindQuote : Rules → List ℕ → ℕ → G Attribute

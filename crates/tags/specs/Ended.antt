@@ -2,16 +2,18 @@
 use mathlib.Core.Path.{_≡_, refl, sym, ap, _∙_}
 use mathlib.Core.Bool.{Bool, true, false}
 use mathlib.Core.List.{List, []}
-use Prim.Native.Nat.{ℕ}
+use Prim.Native.Nat.{ℕ, _+_, _-_}
 use native.Mathlib.Omega.{arith}
-use lib.ListN.{drop}
+use lib.ListN.{length, drop}
 use Rattle.grammar.specs.Parse.{Out, done, fault, cut}
 use Rattle.xml.specs.Xml.{Attribute, Tag, Rules, startTag}
 use Rattle.xml.specs.Code.{Reads}
+use Rattle.xml.specs.CodeLaws.{place-left}
 use Rattle.xml.specs.declared.Scan.{Scan}
 use Rattle.xml.specs.declared.Scan.the-variants.{At, Fault, Cut}
 use Rattle.tags.specs.Rules.{rulesOf}
-use Rattle.tags.specs.Code.{attributesOf, endOut, EndInside, tagOut}
+use Rattle.tags.specs.Code.{attributesOf, noAttributes, endOut, EndInside, tagOut}
+use Rattle.tags.specs.Places.{seenFrom, seenOf}
 use Rattle.tags.specs.declared.StartTag.{StartTag}
 use Rattle.tags.specs.declared.TagEnd.{TagEnd}
 use Rattle.tags.specs.declared.TagEnd.the-variants as Ends
@@ -24,9 +26,19 @@ behindTag (Ends.Empty e) = At e
 behindTag (Ends.Fault k p) = Fault k p
 behindTag Ends.Cut = Cut
 
--- what `start_tag` ensures of its answer
+-- what `start_tag` ensures of its answer: the tag, its end within the bytes, and its attributes with their places. There is one such answer (`proofs/Ends`: `tag-placed`)
 abbrev pub TagRead : TagKind → List ℕ → ℕ → StartTag → Type 0
-TagRead kind s at t = (tagOut s t ≡ (startTag (rulesOf kind)) .run (drop at s)) × EndInside s at (t .end)
+TagRead kind s at t =
+    (tagOut s t ≡ (startTag (rulesOf kind)) .run (drop at s))
+    × EndInside s at (t .end)
+    × (t .seen ≡ seenOf s at ((startTag (rulesOf kind)) .run (drop at s)))
+
+-- the same where the attributes up to a fault, or up to the end of the bytes, are kept
+abbrev pub TagStops : Rules → List ℕ → ℕ → StartTag → Type 0
+TagStops rules s at t =
+    (tagOut s t ≡ (startTag rules) .run (drop at s))
+    × EndInside s at (t .end)
+    × (t .seen ≡ seenFrom s at (attributesOf s (t .seen)) noAttributes)
 
 -- a tag of the attributes that were read
 abbrev pub tagWith : List ℕ → StartTag → Bool → Tag
@@ -56,7 +68,14 @@ endedOut s (Ends.Empty e) = done true (drop e s)
 endedOut s (Ends.Fault k p) = fault k (drop p s)
 endedOut s Ends.Cut = cut
 
--- the end r of the start tag of these rules behind `at`
+-- the end for what the grammar finds in the bytes u that stand at `at`
+abbrev pub endPlaced : ℕ → List ℕ → Out Bool → TagEnd
+endPlaced at u (done false r) = Ends.Open (at + (length u - length r))
+endPlaced at u (done true r) = Ends.Empty (at + (length u - length r))
+endPlaced at u (fault k r) = Ends.Fault k (at + (length u - length r))
+endPlaced at u cut = Ends.Cut
+
+-- the end r of the start tag of these rules behind `at`. There is one for every `at`: `endPlaced at (drop at s) (ended ((startTag rules) .run (drop at s)))` (`ends-placed`)
 pub record EndsAs (rules : Rules) (s : List ℕ) (at : ℕ) (r : TagEnd) : Type 0 where
   pub out : endedOut s r ≡ ended ((startTag rules) .run (drop at s))
   pub inside : EndInside s at r
@@ -78,8 +97,8 @@ whole (fault k r) = refl
 whole cut = refl
 
 -- what start_tag answers, without its attributes
-pub ends-as : (rules : Rules) (s : List ℕ) (at : ℕ) (t : StartTag) → (tagOut s t ≡ (startTag rules) .run (drop at s)) × EndInside s at (t .end) → EndsAs rules s at (t .end)
-ends-as rules s at t v = record { out = go (t .end) ∙ ap ended (v .0); inside = v .1 }
+pub ends-as : (rules : Rules) (s : List ℕ) (at : ℕ) (t : StartTag) → tagOut s t ≡ (startTag rules) .run (drop at s) → EndInside s at (t .end) → EndsAs rules s at (t .end)
+ends-as rules s at t v i = record { out = go (t .end) ∙ ap ended v; inside = i }
   where
     go : (end : TagEnd) → endedOut s end ≡ ended (endOut s (t .seen) end)
     go (Ends.Open e) = refl
@@ -87,7 +106,17 @@ ends-as rules s at t v = record { out = go (t .end) ∙ ap ended (v .0); inside 
     go (Ends.Fault k p) = refl
     go Ends.Cut = refl
 
+end-placed : (s : List ℕ) (at : ℕ) (r : TagEnd) → EndInside s at r → r ≡ endPlaced at (drop at s) (endedOut s r)
+end-placed s at (Ends.Open e) i = ap Ends.Open (place-left s at e (omega (arith, i .0)) (i .1))
+end-placed s at (Ends.Empty e) i = ap Ends.Empty (place-left s at e (omega (arith, i .0)) (i .1))
+end-placed s at (Ends.Fault k p) i = ap (Ends.Fault k) (place-left s at p (i .0) (i .1))
+end-placed s at Ends.Cut i = refl
+
 module _ (rules : Rules) (s : List ℕ) (at : ℕ) (r : TagEnd) (v : EndsAs rules s at r) where
+  -- there is one end
+  pub ends-placed : r ≡ endPlaced at (drop at s) (ended ((startTag rules) .run (drop at s)))
+  ends-placed = end-placed s at r (v .inside) ∙ ap (endPlaced at (drop at s)) (v .out)
+
   abbrev pub tagRead : Bool → Tag
   tagRead empty = record { attributes = attributesRead ((startTag rules) .run (drop at s)); empty = empty }
 

@@ -1,3 +1,4 @@
 pub mod Rules
 pub mod Code
+pub mod Places
 pub mod Ended

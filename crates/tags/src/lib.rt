@@ -10,7 +10,7 @@ ghost use Rattle.clf.specs.Nodes as Nodes;
 ghost use Rattle.clf.specs.List as List;
 ghost use Rattle.tags.specs.Rules.{rulesOf};
 ghost use Rattle.tags.specs.Code as Code;
-ghost use Rattle.tags.specs.Ended.{behindTag, EndsAs};
+ghost use Rattle.tags.specs.Ended.{behindTag, EndsAs, TagRead, TagStops};
 use process_list::Depth;
 use xml::Scan;
 
@@ -440,7 +440,7 @@ pub fn is_named(s: &[u8], seen: Seen, w: &[u8]) -> bool
 
 // Where the text of the first attribute of the name w stands.
 pub fn text_of(s: &[u8], seen: Seen, w: &[u8]) -> Span
-    ensures { λ r. ⌜ Code.partIn (now (s .entry)) (r .start) (r .end) ≡ Xml.textOf (now (w .entry)) (Code.attributesOf (now (s .entry)) seen) ⌝ }
+    ensures { λ r. ⌜ Code.TextStands (now (s .entry)) seen (now (w .entry)) r ⌝ }
 {
     let i = index_of(s, seen, w);
     if i < 16 {
@@ -500,7 +500,7 @@ fn to_quote(s: &[u8], at: usize) -> Scan
 
 // An attribute behind its first quote, which stands at `q - 1`; its name stands from `at` to e.
 fn attribute_text(s: &[u8], at: usize, e: usize, q: usize, kind: TagKind) -> AttributeRead
-    requires { ⌜ (at < e) × (e < q) × (q ≤ length (now s)) ⌝ }
+    requires { ⌜ (at < e) × (e < q) × (q ≤ length (now s)) × Code.BeginsText (now s) e q ⌝ }
     ensures { λ r. ⌜ Code.AttributeIs (now (s .entry)) at r ((Code.behindQuote (rulesOf kind) (part (now (s .entry)) at e) (Code.byteBefore (now (s .entry)) q)) .run (drop q (now (s .entry)))) ⌝ }
 {
     let r = xml::text_to(s, q, s[q - 1]);
@@ -651,9 +651,9 @@ fn empty_end(s: &[u8], at: usize, kind: TagKind, seen: Seen) -> TagEnd
     }
 }
 
-// A start tag behind its name.
-pub fn start_tag(s: &[u8], at: usize, kind: TagKind) -> StartTag
-    ensures { λ r. ⌜ (Code.tagOut (now (s .entry)) r ≡ (Xml.startTag (rulesOf kind)) .run (drop at (now (s .entry)))) × Code.EndInside (now (s .entry)) at (r .end) ⌝ }
+// A start tag behind its name, with the attributes up to where it stops.
+fn tag_parts(s: &[u8], at: usize, kind: TagKind) -> StartTag
+    ensures { λ r. ⌜ TagStops (rulesOf kind) (now (s .entry)) at r ⌝ }
 {
     let mut seen = no_attributes();
     let mut spaced = false;
@@ -704,6 +704,22 @@ pub fn start_tag(s: &[u8], at: usize, kind: TagKind) -> StartTag
     StartTag {
         end: TagEnd::Cut,
         seen,
+    }
+}
+
+// A start tag behind its name; at a fault, and where the bytes end, it has no attributes.
+pub fn start_tag(s: &[u8], at: usize, kind: TagKind) -> StartTag
+    ensures { λ r. ⌜ TagRead kind (now (s .entry)) at r ⌝ }
+{
+    let tag = tag_parts(s, at, kind);
+    let end = tag.end;
+    let seen = tag.seen;
+    let none = no_attributes();
+    match end {
+        TagEnd::Open(e) => StartTag { end, seen },
+        TagEnd::Empty(e) => StartTag { end, seen },
+        TagEnd::Fault(k, p) => StartTag { end, seen: none },
+        TagEnd::Cut => StartTag { end, seen: none },
     }
 }
 

@@ -49,16 +49,18 @@ pub record WordInv (s : List ℕ) (at : ℕ) (w : List ℕ) (k i j : ℕ) : Type
   pub low : at + j ≤ i
   pub left : j ≤ length w
   pub high : at ≤ length s → i ≤ length s
+  pub still : length s < at → i ≡ at
   pub out : (word w k) .run (drop at s) ≡ (word (drop j w) k) .run (drop i s)
 
 pub word-start : (s : List ℕ) (at : ℕ) (w : List ℕ) (k : ℕ) → WordInv s at w k at 0
-word-start s at w k = record { low = omega arith; left = omega arith; high = λ h. h; out = refl }
+word-start s at w k = record { low = omega arith; left = omega arith; high = λ h. h; still = λ h. refl; out = refl }
 
 module _ (s : List ℕ) (at : ℕ) (w : List ℕ) (k i j : ℕ) (v : WordInv s at w k i j) where
   pub word-done : length w ≤ j → ReadsFrom (length w) ((word w k) .run) noValue s at (At i)
   word-done h = record {
     out = sym (v .out ∙ ap (λ (l : List ℕ). (word l k) .run (drop i s)) (past w j h));
     inside = λ g. (omega (arith, v .low), v .high g);
+    beyond = v .still;
   }
 
   module _ (h : j < length w) where
@@ -73,10 +75,15 @@ module _ (s : List ℕ) (at : ℕ) (w : List ℕ) (k i j : ℕ) (v : WordInv s a
       low = omega (arith, v .low, r .inside);
       left = omega arith;
       high = λ g. r .inside .1;
+      still = λ g. absurd (omega (arith, v .low, r .inside));
       out = turn ∙ ap K (sym (r .out));
     }
 
     pub word-failed : (r : Scan) → Failed r → Reads 1 ((byte (getD w j 0) k) .run) (λ e. getD s i 0) s i r → ReadsFrom (length w) ((word w k) .run) noValue s at r
     word-failed (At e) h r = absurd h
-    word-failed (Fault n q) h r = record { out = ap K (r .out) ∙ sym turn; inside = λ g. (omega (arith, v .low, r .inside), r .inside .1) }
-    word-failed Cut h r = record { out = ap K (r .out) ∙ sym turn; inside = λ g. tt }
+    word-failed (Fault n q) h r = record {
+      out = ap K (r .out) ∙ sym turn;
+      inside = λ g. (omega (arith, v .low, r .inside), r .inside .1);
+      beyond = λ g. absurd (omega (arith, v .low, r .inside));
+    }
+    word-failed Cut h r = record { out = ap K (r .out) ∙ sym turn; inside = λ g. tt; beyond = λ g. tt }

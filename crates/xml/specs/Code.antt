@@ -1,7 +1,7 @@
 -- What the answers of the code mean. A place of the code is an index into the slice; it stands for the bytes from there on.
 use mathlib.Core.Path.{_≡_}
 use mathlib.Core.List.{List}
-use Prim.Native.Nat.{ℕ, _+_, _-_, _≤_}
+use Prim.Native.Nat.{ℕ, _+_, _-_, _≤_, _<_}
 use lib.ListN.{length, take, drop}
 use Rattle.grammar.specs.Parse.{Out, done, fault, cut, Parser}
 use Rattle.xml.specs.declared.Scan.{Scan}
@@ -23,15 +23,30 @@ Inside n s at (At e) = (at + n ≤ e) × (e ≤ length s)
 Inside n s at (Fault k p) = (at ≤ p) × (p ≤ length s)
 Inside n s at Cut = Unit
 
--- the answer r is p's at the place `at`; where p is done it has taken n bytes at least
+-- the answer r is p's at the place `at`; where p is done it has taken n bytes at least. `drop` alone does not tell a place from one further behind the end, the bounds do: there is one
+-- answer for every `at`, `placed at (drop at s) (p (drop at s))` (`CodeLaws`: `reads-placed`)
 pub record Reads {A : Type 0} (n : ℕ) (p : Parser A) (value : ℕ → A) (s : List ℕ) (at : ℕ) (r : Scan) : Type 0 where
   pub out : scanOut value s r ≡ p (drop at s)
   pub inside : Inside n s at r
 
--- the same of a grammar that may take no byte: the bounds are told where `at` is within the bytes
+-- the answer for what a grammar finds in the bytes u that stand at `at`: a place is as many bytes behind `at` as have been taken
+abbrev pub placed : {A : Type 0} → ℕ → List ℕ → Out A → Scan
+placed at u (done a r) = At (at + (length u - length r))
+placed at u (fault k r) = Fault k (at + (length u - length r))
+placed at u cut = Cut
+
+-- its place is `at`
+abbrev pub Stays : ℕ → Scan → Type 0
+Stays at (At e) = e ≡ at
+Stays at (Fault k p) = p ≡ at
+Stays at Cut = Unit
+
+-- the same of a grammar that may take no byte: the bounds are told where `at` is within the bytes, and where it is behind their end the place stays what it is. There is one answer for every
+-- `at` here too, the same as above (`CodeLaws`: `reads-from-placed`)
 pub record ReadsFrom {A : Type 0} (n : ℕ) (p : Parser A) (value : ℕ → A) (s : List ℕ) (at : ℕ) (r : Scan) : Type 0 where
   pub out : scanOut value s r ≡ p (drop at s)
   pub inside : at ≤ length s → Inside n s at r
+  pub beyond : length s < at → Stays at r
 
 -- the value of a grammar that has none
 abbrev pub noValue : ℕ → Unit {0}

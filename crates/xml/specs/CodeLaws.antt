@@ -7,10 +7,11 @@ use Prim.Native.Nat.{ℕ, zero, suc, _+_, _-_, _≤_, _<_}
 use native.Mathlib.Omega.{arith}
 use lib.ListN.{length, take, drop, getD, length-drop}
 use lib.Seq.{take-suc, getD-drop}
-use borrow.Author.Tests.{lt-ltb}
+use borrow.Author.Tests.{lt-ltb, leb-true, leb-false}
+use lib.Dec.{leb}
 use Rattle.scanning.specs.Steps.{here, past}
 use Rattle.grammar.specs.Parse.{Out, done, fault, cut, Parser, thenOut, bindP, retP, lookP, eatP, spanP, strictOut, strictP, lookTwoP, verdict, judgeOut, judgeP, blameOut, blameP}
-use Rattle.xml.specs.Code.{part, Inside, Reads, ReadsFrom, blamedScan, Failed}
+use Rattle.xml.specs.Code.{part, scanOut, placed, Inside, Stays, Reads, ReadsFrom, blamedScan, Failed}
 use Rattle.xml.specs.declared.Scan.{Scan}
 use Rattle.xml.specs.declared.Scan.the-variants.{At, Fault, Cut}
 
@@ -65,6 +66,40 @@ module _ {A : Type 0} (p : Parser A) (value : ℕ → A) (s : List ℕ) (at : �
   reads-blame n (At e) v = record { out = ap (λ (o : Out A). blameOut o (drop at s)) (v .out); inside = v .inside }
   reads-blame n (Fault k q) v = record { out = ap (λ (o : Out A). blameOut o (drop at s)) (v .out); inside = (omega arith, omega (arith, v .inside)) }
   reads-blame n Cut v = record { out = ap (λ (o : Out A). blameOut o (drop at s)) (v .out); inside = tt }
+
+-- ---- a place within the bytes is determined by the bytes that are left there: there is one answer
+
+-- a place behind `at`, by what is left at both
+pub place-left : (s : List ℕ) (at e : ℕ) → at ≤ e → e ≤ length s → e ≡ at + (length (drop at s) - length (drop e s))
+place-left s at e h k = simp length-drop (omega arith)
+
+-- behind the end nothing is left, and nothing is taken
+place-beyond : (s : List ℕ) (at : ℕ) → length s < at → at ≡ at + (length (drop at s) - length (drop at s))
+place-beyond s at h = omega arith
+
+module _ {A : Type 0} (value : ℕ → A) (s : List ℕ) (at : ℕ) where
+  placed-inside : (n : ℕ) (r : Scan) → Inside n s at r → r ≡ placed at (drop at s) (scanOut value s r)
+  placed-inside n (At e) i = ap At (place-left s at e (omega (arith, i .0)) (i .1))
+  placed-inside n (Fault k q) i = ap (Fault k) (place-left s at q (i .0) (i .1))
+  placed-inside n Cut i = refl
+
+  placed-beyond : (r : Scan) → length s < at → Stays at r → r ≡ placed at (drop at s) (scanOut value s r)
+  placed-beyond (At e) h q = rw q (ap At (place-beyond s at h))
+  placed-beyond (Fault k e) h q = rw q (ap (Fault k) (place-beyond s at h))
+  placed-beyond Cut h q = refl
+
+module _ {A : Type 0} (p : Parser A) (value : ℕ → A) (s : List ℕ) (at n : ℕ) (r : Scan) where
+  -- the answer of every function whose contract is `Reads`
+  pub reads-placed : Reads n p value s at r → r ≡ placed at (drop at s) (p (drop at s))
+  reads-placed v = placed-inside value s at n r (v .inside) ∙ ap (placed at (drop at s)) (v .out)
+
+  -- the same for `ReadsFrom`
+  pub reads-from-placed : ReadsFrom n p value s at r → r ≡ placed at (drop at s) (p (drop at s))
+  reads-from-placed v = go (leb at (length s)) refl ∙ ap (placed at (drop at s)) (v .out)
+    where
+      go : (t : Bool) → leb at (length s) ≡ t → r ≡ placed at (drop at s) (scanOut value s r)
+      go true q = placed-inside value s at n r (v .inside (leb-true at (length s) q))
+      go false q = placed-beyond value s at r (leb-false at (length s) q) (v .beyond (leb-false at (length s) q))
 
 -- ---- by the next byte
 

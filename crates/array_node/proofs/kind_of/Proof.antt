@@ -15,13 +15,13 @@ lut-kind-requires : tie.Need-lut-kind-requires
 lut-kind-requires c κs = search needs
 
 returns : tie.Need-returns
-returns c = rw (c .before .if1 .taken, ← c .before .before .before .text-of .ensures, ← c .before .before .part .ensures) (c .lut-kind .ensures)
+returns c = rw (c .before .if1 .taken, ← c .before .before .before .text-of .ensures .text, ← c .before .before .part .ensures) (c .lut-kind .ensures)
 
 matrix-kind-requires : tie.Need-matrix-kind-requires
 matrix-kind-requires c κs = search needs
 
 returns-2 : tie.Need-returns-2
-returns-2 c = rw (c .before .if1 .left, ← c .before .before .before .text-of .ensures, ← c .before .before .part .ensures) (c .matrix-kind .ensures)
+returns-2 c = rw (c .before .if1 .left, ← c .before .before .before .text-of .ensures .text, ← c .before .before .part .ensures) (c .matrix-kind .ensures)
 
 pub kind-of-spec : {M : Type 1} → statement M
 kind-of-spec =

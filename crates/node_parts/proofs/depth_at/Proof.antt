@@ -18,10 +18,10 @@ enum-told : tie.Need-enum-told
 enum-told c = search needs
 
 returns : tie.Need-returns
-returns c = rw (← c .before .before .before .before .before .text-of .ensures, ← c .before .before .before .before .part .ensures, ← c .before .before .before .depth-of .ensures, c .before .d .given .1)
+returns c = rw (← c .before .before .before .before .before .text-of .ensures .text, ← c .before .before .before .before .part .ensures, ← c .before .before .before .depth-of .ensures, c .before .d .given .1)
 
 returns-2 : tie.Need-returns-2
-returns-2 c = rw (← c .before .before .before .before .text-of .ensures, ← c .before .before .before .part .ensures, ← c .before .before .depth-of .ensures, c .enum-told .given .1)
+returns-2 c = rw (← c .before .before .before .before .text-of .ensures .text, ← c .before .before .before .part .ensures, ← c .before .before .depth-of .ensures, c .enum-told .given .1)
 
 pub depth-at-spec : {M : Type 1} → statement M
 depth-at-spec =

@@ -15,7 +15,7 @@ same-requires : tie.Need-same-requires
 same-requires c κs = search needs
 
 returns : tie.Need-returns
-returns c = rw (← c .before .before .text-of .ensures, ← c .before .part .ensures) (c .same .ensures)
+returns c = rw (← c .before .before .text-of .ensures .text, ← c .before .part .ensures) (c .same .ensures)
 
 pub style-is-spec : {M : Type 1} → statement M
 style-is-spec =

@@ -1,4 +1,5 @@
 use native.Mathlib.Omega.{arith}
+use mathlib.Core.Path.{sym}
 use Rattle.tags.specs.Rules.{rulesOf}
 use Rattle.tags.specs.Code.{attributesOf}
 use Rattle.tags.proofs.Attributes.{named-bad, named-quote, named-fault, named-cut}
@@ -22,7 +23,7 @@ enum-known-r : tie.Need-enum-known-r
 enum-known-r c = search needs
 
 attribute-text-requires : tie.Need-attribute-text-requires
-attribute-text-requires c κs = (c .before .before .before .before .before .before .before .before .pre .0, omega (arith, (rw (c .before .r .given .1) at (c .before .before .before .to-quote .ensures)) .inside), (rw (c .before .r .given .1) at (c .before .before .before .to-quote .ensures)) .inside .1)
+attribute-text-requires c κs = (c .before .before .before .before .before .before .before .before .pre .0, omega (arith, (rw (c .before .r .given .1) at (c .before .before .before .to-quote .ensures)) .inside), (rw (c .before .r .given .1) at (c .before .before .before .to-quote .ensures)) .inside .1, sym ((rw (c .before .r .given .1) at (c .before .before .before .to-quote .ensures)) .out))
 
 enum-known-r-2 : tie.Need-enum-known-r-2
 enum-known-r-2 c = search needs

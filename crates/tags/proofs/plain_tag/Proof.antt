@@ -19,7 +19,7 @@ start-tag-requires : tie.Need-start-tag-requires
 start-tag-requires c κs = search needs
 
 returns-2 : tie.Need-returns-2
-returns-2 c = plainly _ _ _ (ends-as (rulesOf Plain) _ _ (c .start-tag .result) (c .start-tag .ensures))
+returns-2 c = plainly _ _ _ (ends-as (rulesOf Plain) _ _ (c .start-tag .result) (c .start-tag .ensures .0) (c .start-tag .ensures .1))
 
 pub plain-tag-spec : {M : Type 1} → statement M
 plain-tag-spec =

@@ -1,5 +1,4 @@
-use mathlib.Core.Path.{sym, _∙_}
-use Rattle.tags.proofs.Words.{part-nothing}
+use Rattle.tags.proofs.Lists.{text-found, text-missing}
 use borrow.Author.Needs.{needs}
 use Rattle.tags.proofs.text_of.Statement.{statement}
 use Rattle.tags.proofs.text_of.Tie as tie
@@ -20,10 +19,10 @@ element-copy-out-t15 : tie.Need-element-copy-out-t15
 element-copy-out-t15 c = search needs
 
 returns : tie.Need-returns
-returns c = sym (c .before .before .before .index-of .ensures .found (c .before .before .if1 .taken))
+returns c = text-found _ _ _ _ (c .before .before .before .index-of .ensures) (c .before .before .if1 .taken)
 
 returns-2 : tie.Need-returns-2
-returns-2 c = part-nothing _ ∙ sym (c .before .index-of .ensures .missing (c .if1 .left))
+returns-2 c = text-missing _ _ _ _ (c .before .index-of .ensures) (c .if1 .left)
 
 pub text-of-spec : {M : Type 1} → statement M
 text-of-spec =
