@@ -1,18 +1,18 @@
 // The commands of the line protocol.
-ghost use Prim.Native.Nat.{_≤_};
-use crate::hex::Decoded;
-use crate::hex::last_field;
 use crate::out::flush;
-use crate::out::put;
+use crate::out::put_answer;
 use crate::out::put_byte;
 use crate::out::put_hex;
-use crate::out::put_number;
 use crate::pixels;
 use crate::show::put_state;
 use crate::writes;
 use fields::Parsed;
 use libc::STDOUT_FILENO;
 use process_list::ProcessList;
+use shell_text::Decoded;
+use shell_text::hex::last_field;
+use shell_text::lines::is_run;
+use shell_text::lines::least;
 use tags::part;
 
 // What the commands work on beside the table room's memory: the list, and the length of the room.
@@ -21,44 +21,19 @@ pub struct State {
     pub room: usize,
 }
 
-// No nodes and no room.
-pub fn fresh() -> State {
-    State {
-        list: process_list::empty(),
-        room: 0,
-    }
-}
-
 // Answers a line that is no command.
 pub fn unknown() {
     io::write_all(STDOUT_FILENO, b"?\n");
-}
-
-pub fn least(a: usize, b: usize) -> usize
-    ensures { λ r. ⌜ (r ≤ a) × (r ≤ b) ⌝ }
-{
-    if a < b {
-        return a;
-    }
-    b
-}
-
-// The refusal number and its place.
-pub fn put_answer(buffer: &mut [u8], number: u8, place: usize) -> usize {
-    let a = put_number(buffer, 0, number as u64);
-    let b = put_byte(buffer, a, b' ');
-    put_number(buffer, b, place as u64)
 }
 
 // Answers with a number, a place and the state.
 fn print_state(number: u8, place: usize, state: State, coefficients: &[i64], powers: &[i8]) {
     let mut buffer = io::buffer();
     let list = state.list;
-    let a = put_answer(&mut buffer, number, place);
-    let b = put_byte(&mut buffer, a, b' ');
-    let c = put_state(&mut buffer, b, list, state.room, coefficients, powers);
-    let d = put_byte(&mut buffer, c, b'\n');
-    flush(&buffer, d);
+    let a = put_answer(&mut buffer, 0, number, place);
+    let b = put_state(&mut buffer, a, list, state.room, coefficients, powers);
+    let c = put_byte(&mut buffer, b, b'\n');
+    flush(&buffer, c);
 }
 
 // Reads the file into room for so many numbers.
@@ -168,7 +143,7 @@ fn check(line: &mut [u8]) {
         Decoded::Bytes(start, end) => {
             let c = reading::check(part(line, start, end));
             let mut buffer = [0u8; 64];
-            let a = put_answer(&mut buffer, c.number, c.place);
+            let a = put_answer(&mut buffer, 0, c.number, c.place);
             let b = put_byte(&mut buffer, a, b'\n');
             flush(&buffer, b);
         }
@@ -179,7 +154,7 @@ fn check(line: &mut [u8]) {
 fn print_description(file: &[u8], k: usize) {
     let mut buffer = io::buffer();
     let c = reading::description_number(file, k);
-    let a = put_answer(&mut buffer, c.number, c.place);
+    let a = put_answer(&mut buffer, 0, c.number, c.place);
     let b = put_byte(&mut buffer, a, b' ');
     let d = put_hex(&mut buffer, b, reading::description(file, k));
     let e = put_byte(&mut buffer, d, b'\n');
@@ -242,20 +217,6 @@ fn answer_alone(line: &mut [u8], command: u8) {
         b'K' => check_line(line),
         _ => unknown(),
     }
-}
-
-// Whether a line is the command X, alone or with words.
-fn is_run(line: &[u8]) -> bool {
-    if line.len() == 0 {
-        return false;
-    }
-    if line[0] != b'X' {
-        return false;
-    }
-    if line.len() == 1 {
-        return true;
-    }
-    line[1] == b' '
 }
 
 // Answers a command line.

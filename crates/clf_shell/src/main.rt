@@ -3,7 +3,6 @@
 ghost use Prim.Native.Nat.{_<_};
 
 mod commands;
-mod hex;
 mod out;
 mod pixels;
 mod show;
@@ -163,10 +162,14 @@ fn last_line(buffer: &mut [u8], input: Input, coefficients: &mut [i64], powers: 
 
 // A proved loop has to end, and nothing says that the input does. So the loop counts its turns down, from a number that no run uses up.
 fn serve(buffer: &mut [u8], coefficients: &mut [i64], powers: &mut [i8]) {
+    let state = State {
+        list: process_list::empty(),
+        room: 0,
+    };
     let mut input = Input {
         held: 0,
         dropped: false,
-        state: commands::fresh(),
+        state,
     };
     let mut turns = u64::MAX;
     while 0 < turns {
