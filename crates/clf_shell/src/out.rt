@@ -44,7 +44,8 @@ pub fn put_hex(buffer: &mut [u8], at: usize, bytes: &[u8]) -> usize {
     let mut held = at;
     let mut i = 0;
     while i < bytes.len() {
-        let pair = hex_pair(bytes[i]);
+        let b = bytes[i];
+        let pair = hex_pair(b);
         held = put(buffer, held, &pair);
         i += 1;
     }

@@ -1,3 +1,4 @@
+-- `decoded_part` meets its contract. Assumes nothing.
 use Rattle.shell_text.proofs.Laws.{bytes-half, part-beyond, part-empty, part-none, part-bytes, part-malformed}
 use Rattle.shell_text.specs.Hex.{wordAt}
 use Rattle.scanning.specs.Steps.{part-length}
@@ -7,74 +8,54 @@ use denote.Ref.{now}
 use borrow.Author.Needs.{needs}
 use Rattle.shell_text.proofs.hex.decoded_part.Statement.{statement}
 use Rattle.shell_text.proofs.hex.decoded_part.Tie as tie
-use Rattle.shell_text.proofs.hex.decoded_part.Reads as reads
-use Rattle.shell_text.proofs.hex.decoded_part.Lts as lts
-use Rattle.shell_text.proofs.hex.decode.Reads as decode-reads
-use Rattle.shell_text.proofs.hex.is_none.Reads as is-none-reads
 
--- src/hex.rt:98:9
 returns : tie.Need-returns
 returns c = part-beyond _ _ _ (c .if1 .taken)
 
--- src/hex.rt:101:9
 returns-2 : tie.Need-returns-2
 returns-2 c = part-empty _ _ _ (c .before .if1 .left) (c .if2 .taken)
 
--- src/hex.rt:103:8
 is-none-requires : tie.Need-is-none-requires
 is-none-requires c κs = search needs
 
--- src/hex.rt:104:9
 same-length : tie.Need-same-length
 same-length c = search needs
 
--- src/hex.rt:104:9
 returns-3 : tie.Need-returns-3
 returns-3 c = part-none _ _ _ (c .before .before .before .before .if1 .left) (c .before .before .before .if2 .left) (sym (c .before .is-none .ensures) ∙ c .if3 .taken)
 
--- src/hex.rt:106:20
 sub-decode : tie.Need-sub-decode
 sub-decode c = search needs
 
--- src/hex.rt:106:20
 part-decode-start : tie.Need-part-decode-start
 part-decode-start c = search needs
 
--- src/hex.rt:106:20
 part-decode-end : tie.Need-part-decode-end
 part-decode-end c = search needs
 
--- src/hex.rt:106:9
 decode-requires : tie.Need-decode-requires
 decode-requires c κs = search needs
 
--- src/hex.rt:107:8
 mul-if4 : tie.Need-mul-if4
 mul-if4 c =
     let a = c .before .before .before .before .before .before .before .before .before .before .args in
     omega (arith, c .before .before .decode .ensures .count, bytes-half (wordAt (now (a .line)) (a .start) (a .end)), part-length (now (a .line)) (a .start) (a .end) (omega arith) (omega arith))
 
--- src/hex.rt:107:17
 sub-if4 : tie.Need-sub-if4
 sub-if4 c = search needs
 
--- src/hex.rt:108:38
 add-t14 : tie.Need-add-t14
 add-t14 c = search needs
 
--- src/hex.rt:108:9
 same-length-2 : tie.Need-same-length-2
 same-length-2 c = search needs
 
--- src/hex.rt:108:9
 returns-4 : tie.Need-returns-4
 returns-4 c = part-bytes _ _ _ (c .before .before .before .before .before .before .before .before .before .if1 .left) (c .before .before .before .before .before .before .before .before .if2 .left) (sym (c .before .before .before .before .before .before .is-none .ensures) ∙ c .before .before .before .before .before .if3 .left) _ _ (c .before .before .before .decode .result) (c .before .before .before .decode .ensures) refl (c .if4 .taken)
 
--- src/hex.rt:94:1
 same-length-3 : tie.Need-same-length-3
 same-length-3 c = search needs
 
--- src/hex.rt:94:1
 returns-5 : tie.Need-returns-5
 returns-5 c = part-malformed _ _ _ (c .before .before .before .before .before .before .before .before .before .if1 .left) (c .before .before .before .before .before .before .before .before .if2 .left) (sym (c .before .before .before .before .before .before .is-none .ensures) ∙ c .before .before .before .before .before .if3 .left) _ _ (c .before .before .before .decode .result) (c .before .before .before .decode .ensures) refl (c .if4 .left)
 

@@ -1,30 +1,24 @@
+-- `glyph` meets its contract. Assumes nothing.
 use Rattle.shell_text.specs.Hex.{glyphOf}
 use borrow.Author.Tests.{lt-ltb, le-ltb}
 use borrow.Author.Needs.{needs}
 use Rattle.shell_text.proofs.hex.glyph.Statement.{statement}
 use Rattle.shell_text.proofs.hex.glyph.Tie as tie
-use Rattle.shell_text.proofs.hex.glyph.Reads as reads
-use Rattle.shell_text.proofs.hex.glyph.Lts as lts
 
--- src/hex.rt:30:16
 add-result : tie.Need-add-result
 add-result c = search needs
 
--- src/hex.rt:30:9
 returns : tie.Need-returns
 unfolding glyphOf
 returns c = rw (lt-ltb (c .before .args .d) 10 (c .if1 .taken))
 
--- src/hex.rt:33:16
 add-result-2 : tie.Need-add-result-2
 add-result-2 c = search needs
 
--- src/hex.rt:33:9
 returns-2 : tie.Need-returns-2
 unfolding glyphOf
 returns-2 c = rw (le-ltb (c .before .before .args .d) 10 (c .before .if1 .left), lt-ltb (c .before .before .args .d) 16 (c .if2 .taken))
 
--- src/hex.rt:26:1
 returns-3 : tie.Need-returns-3
 unfolding glyphOf
 returns-3 c = rw (le-ltb (c .before .before .args .d) 10 (c .before .if1 .left), le-ltb (c .before .before .args .d) 16 (c .if2 .left))

@@ -1,31 +1,24 @@
+-- `is_none` meets its contract. Assumes nothing.
 use Rattle.shell_text.proofs.Laws.{none-empty, none-longer, none-outside, none-byte}
 use borrow.Author.Needs.{needs}
 use Rattle.shell_text.proofs.hex.is_none.Statement.{statement}
 use Rattle.shell_text.proofs.hex.is_none.Tie as tie
-use Rattle.shell_text.proofs.hex.is_none.Reads as reads
-use Rattle.shell_text.proofs.hex.is_none.Lts as lts
 
--- src/hex.rt:82:9
 returns : tie.Need-returns
 returns c = none-empty _ _ _ (c .if1 .taken)
 
--- src/hex.rt:84:8
 sub-if2 : tie.Need-sub-if2
 sub-if2 c = search needs
 
--- src/hex.rt:85:9
 returns-2 : tie.Need-returns-2
 returns-2 c = none-longer _ _ _ (c .if2 .taken)
 
--- src/hex.rt:88:9
 returns-3 : tie.Need-returns-3
 returns-3 c = none-outside _ _ _ (c .if3 .taken) (c .before .if2 .left)
 
--- src/hex.rt:90:5
 shared-slice-read-result : tie.Need-shared-slice-read-result
 shared-slice-read-result c = search needs
 
--- src/hex.rt:78:1
 returns-4 : tie.Need-returns-4
 returns-4 c = none-byte _ (c .before .before .before .before .args .start) (c .before .before .before .before .args .end) (c .before .before .if2 .left)
 

@@ -1,47 +1,36 @@
+-- `joined` meets its contract. Assumes nothing.
 use Rattle.shell_text.specs.Hex.{joinedOf}
 use borrow.Author.Tests.{le-leb, lt-leb}
 use borrow.Author.Needs.{needs}
 use Rattle.shell_text.proofs.hex.joined.Statement.{statement}
 use Rattle.shell_text.proofs.hex.joined.Tie as tie
-use Rattle.shell_text.proofs.hex.joined.Reads as reads
-use Rattle.shell_text.proofs.hex.joined.Lts as lts
-use Rattle.shell_text.proofs.hex.digit.Reads as digit-reads
 
--- src/hex.rt:49:9
 digit-requires : tie.Need-digit-requires
 digit-requires c κs = search needs
 
--- src/hex.rt:50:9
 digit-requires-2 : tie.Need-digit-requires-2
 digit-requires-2 c κs = search needs
 
--- src/hex.rt:52:9
 returns : tie.Need-returns
 unfolding joinedOf
 returns c = rw (← c .before .before .digit .ensures, le-leb 16 (c .before .before .digit .result) (c .if1 .taken))
 
--- src/hex.rt:55:9
 returns-2 : tie.Need-returns-2
 unfolding joinedOf
 returns-2 c = rw (← c .before .before .before .digit .ensures, ← c .before .before .digit2 .ensures, lt-leb 16 (c .before .before .before .digit .result) (c .before .if1 .left), le-leb 16 (c .before .before .digit2 .result) (c .if2 .taken))
 
--- src/hex.rt:57:6
 cast-result : tie.Need-cast-result
 cast-result c = search needs
 
--- src/hex.rt:57:5
 mul-result : tie.Need-mul-result
 mul-result c = search needs
 
--- src/hex.rt:57:24
 cast-result-2 : tie.Need-cast-result-2
 cast-result-2 c = search needs
 
--- src/hex.rt:57:5
 add-result : tie.Need-add-result
 add-result c = search needs
 
--- src/hex.rt:46:1
 returns-3 : tie.Need-returns-3
 unfolding joinedOf
 returns-3 c = rw (← c .before .before .before .digit .ensures, ← c .before .before .digit2 .ensures, lt-leb 16 (c .before .before .before .digit .result) (c .before .if1 .left), lt-leb 16 (c .before .before .digit2 .result) (c .if2 .left))

@@ -1,31 +1,24 @@
+-- `is_run` meets its contract. Assumes nothing.
 use Rattle.shell_text.proofs.Laws.{run-none, run-other, run-alone, run-words}
 use borrow.Author.Needs.{needs}
 use Rattle.shell_text.proofs.lines.is_run.Statement.{statement}
 use Rattle.shell_text.proofs.lines.is_run.Tie as tie
-use Rattle.shell_text.proofs.lines.is_run.Reads as reads
-use Rattle.shell_text.proofs.lines.is_run.Lts as lts
 
--- src/lines.rt:21:9
 returns : tie.Need-returns
 returns c = run-none _ (c .if1 .taken)
 
--- src/lines.rt:23:8
 shared-slice-read-if2 : tie.Need-shared-slice-read-if2
 shared-slice-read-if2 c = search needs
 
--- src/lines.rt:24:9
 returns-2 : tie.Need-returns-2
 returns-2 c = run-other _ (c .before .before .if1 .left) (c .if2 .taken)
 
--- src/lines.rt:27:9
 returns-3 : tie.Need-returns-3
 returns-3 c = run-alone _ (c .before .if2 .left) (c .if3 .taken)
 
--- src/lines.rt:29:5
 shared-slice-read-result : tie.Need-shared-slice-read-result
 shared-slice-read-result c = search needs
 
--- src/lines.rt:17:1
 returns-4 : tie.Need-returns-4
 returns-4 c = run-words _ (c .before .before .before .before .if1 .left) (c .before .before .if2 .left) (c .before .if3 .left)
 

@@ -1,16 +1,13 @@
+-- `is_too_long` meets its contract. Assumes nothing.
 use Rattle.shell_text.specs.Lines.{isTooLong}
 use borrow.Author.Tests.{eq-eqb, ne-eqb}
 use Rattle.shell_text.proofs.lines.is_too_long.Statement.{statement}
 use Rattle.shell_text.proofs.lines.is_too_long.Tie as tie
-use Rattle.shell_text.proofs.lines.is_too_long.Reads as reads
-use Rattle.shell_text.proofs.lines.is_too_long.Lts as lts
 
--- src/lines.rt:37:9
 returns : tie.Need-returns
 unfolding isTooLong
 returns c = rw (eq-eqb (c .before .args .number) 17 (c .if1 .taken))
 
--- src/lines.rt:33:1
 returns-2 : tie.Need-returns-2
 unfolding isTooLong
 returns-2 c = rw (ne-eqb (c .before .args .number) 17 (c .if1 .left))

@@ -1,3 +1,4 @@
+-- `put_decimal` meets its contract. Assumes nothing.
 use mir.ValLaws.{toZ-ofZ}
 use mir.Val.{SFits}
 use mir.Syntax.{w8, w64}
@@ -11,37 +12,25 @@ use mathlib.Core.Path.{sym}
 use borrow.Author.Needs.{needs}
 use Rattle.shell_text.proofs.show.put_decimal.Statement.{statement}
 use Rattle.shell_text.proofs.show.put_decimal.Tie as tie
-use Rattle.shell_text.proofs.show.put_decimal.Reads as reads
-use Rattle.shell_text.proofs.show.put_decimal.Lts as lts
-use Rattle.shell_text.proofs.show.put_whole.Reads as put-whole-reads
-use Rattle.shell_text.proofs.show.wide.Reads as wide-reads
-use Rattle.text_out.proofs.put.Reads as put-reads
 
--- src/show.rt:123:9
 put-whole-requires : tie.Need-put-whole-requires
 put-whole-requires c κs = search needs
 
--- src/show.rt:124:25
 slice-aggregate-put : tie.Need-slice-aggregate-put
 slice-aggregate-put c = search needs
 
--- src/show.rt:124:9
 put-requires : tie.Need-put-requires
 put-requires c κs = search needs
 
--- src/show.rt:125:23
 wide-requires : tie.Need-wide-requires
 wide-requires c κs = search needs
 
--- src/show.rt:125:5
 put-whole-requires-2 : tie.Need-put-whole-requires-2
 put-whole-requires-2 c κs = search needs
 
--- src/show.rt:120:1
 same-length : tie.Need-same-length
 same-length c = search needs
 
--- src/show.rt:120:1
 returns : tie.Need-returns
 unfolding decimalText
 returns c =

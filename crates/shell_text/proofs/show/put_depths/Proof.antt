@@ -1,50 +1,37 @@
+-- `put_depths` meets its contract. Assumes nothing.
 use Rattle.shell_text.specs.Show.{depthsText}
 use Rattle.text_out.proofs.Laws.{puts-then}
 use borrow.Author.Needs.{needs}
 use Rattle.shell_text.proofs.show.put_depths.Statement.{statement}
 use Rattle.shell_text.proofs.show.put_depths.Tie as tie
-use Rattle.shell_text.proofs.show.put_depths.Reads as reads
-use Rattle.shell_text.proofs.show.put_depths.Lts as lts
-use Rattle.shell_text.proofs.show.put_depth.Reads as put-depth-reads
-use Rattle.text_out.proofs.put.Reads as put-reads
 
--- src/show.rt:39:26
 slice-aggregate-put : tie.Need-slice-aggregate-put
 slice-aggregate-put c = search needs
 
--- src/show.rt:39:9
 put-requires : tie.Need-put-requires
 put-requires c κs = search needs
 
--- src/show.rt:40:9
 put-depth-requires : tie.Need-put-depth-requires
 put-depth-requires c κs = search needs
 
--- src/show.rt:41:25
 slice-aggregate-put-2 : tie.Need-slice-aggregate-put-2
 slice-aggregate-put-2 c = search needs
 
--- src/show.rt:41:9
 put-requires-2 : tie.Need-put-requires-2
 put-requires-2 c κs = search needs
 
--- src/show.rt:42:9
 put-depth-requires-2 : tie.Need-put-depth-requires-2
 put-depth-requires-2 c κs = search needs
 
--- src/show.rt:43:17
 slice-aggregate-put-3 : tie.Need-slice-aggregate-put-3
 slice-aggregate-put-3 c = search needs
 
--- src/show.rt:43:5
 put-requires-3 : tie.Need-put-requires-3
 put-requires-3 c κs = search needs
 
--- src/show.rt:36:1
 same-length : tie.Need-same-length
 same-length c = search needs
 
--- src/show.rt:36:1
 returns : tie.Need-returns
 unfolding depthsText
 returns c = puts-then (c .before .before .before .before .before .before .before .before .before .before .before .before .before .before .before .before .before .before .before .before .put .ensures) (puts-then (c .before .before .before .before .before .before .before .before .before .before .before .before .before .before .before .before .put-depth .ensures) (puts-then (c .before .before .before .before .before .before .before .before .before .before .before .put2 .ensures) (puts-then (c .before .before .before .before .before .before .before .put-depth2 .ensures) (c .before .before .put3 .ensures))))

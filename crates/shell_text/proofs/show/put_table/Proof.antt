@@ -1,42 +1,31 @@
+-- `put_table` meets its contract. Assumes nothing.
 use Rattle.shell_text.specs.Show.{tableText}
 use Rattle.text_out.proofs.Laws.{puts-then}
 use borrow.Author.Needs.{needs}
 use Rattle.shell_text.proofs.show.put_table.Statement.{statement}
 use Rattle.shell_text.proofs.show.put_table.Tie as tie
-use Rattle.shell_text.proofs.show.put_table.Reads as reads
-use Rattle.shell_text.proofs.show.put_table.Lts as lts
-use Rattle.text_out.proofs.put.Reads as put-reads
-use Rattle.text_out.proofs.put_digits.Reads as put-digits-reads
 
--- src/show.rt:64:26
 slice-aggregate-put : tie.Need-slice-aggregate-put
 slice-aggregate-put c = search needs
 
--- src/show.rt:64:9
 put-requires : tie.Need-put-requires
 put-requires c κs = search needs
 
--- src/show.rt:65:9
 put-digits-requires : tie.Need-put-digits-requires
 put-digits-requires c κs = search needs
 
--- src/show.rt:66:25
 slice-aggregate-put-2 : tie.Need-slice-aggregate-put-2
 slice-aggregate-put-2 c = search needs
 
--- src/show.rt:66:9
 put-requires-2 : tie.Need-put-requires-2
 put-requires-2 c κs = search needs
 
--- src/show.rt:67:5
 put-digits-requires-2 : tie.Need-put-digits-requires-2
 put-digits-requires-2 c κs = search needs
 
--- src/show.rt:61:1
 same-length : tie.Need-same-length
 same-length c = search needs
 
--- src/show.rt:61:1
 returns : tie.Need-returns
 unfolding tableText
 returns c = puts-then (c .before .before .before .before .before .before .before .before .before .before .before .before .before .before .before .put .ensures) (puts-then (c .before .before .before .before .before .before .before .before .before .before .before .put-digits .ensures) (puts-then (c .before .before .before .before .before .before .put2 .ensures) (c .before .before .put-digits2 .ensures)))

@@ -1,3 +1,4 @@
+-- `put_whole` meets its contract. Assumes nothing.
 use Rattle.shell_text.proofs.Laws.{puts-negative, puts-other}
 use Rattle.decimal_write.proofs.Machine.{is-negative, is-other, size-kept, whole-negative, whole-other}
 use mir.Val.{SFits}
@@ -5,52 +6,37 @@ use mir.Syntax.{w64}
 use borrow.Author.Needs.{needs}
 use Rattle.shell_text.proofs.show.put_whole.Statement.{statement}
 use Rattle.shell_text.proofs.show.put_whole.Tie as tie
-use Rattle.shell_text.proofs.show.put_whole.Reads as reads
-use Rattle.shell_text.proofs.show.put_whole.Lts as lts
-use Rattle.decimal_write.proofs.size.Reads as size-reads
-use Rattle.text_out.proofs.put.Reads as put-reads
-use Rattle.text_out.proofs.put_digits.Reads as put-digits-reads
 
--- src/show.rt:112:33
 slice-aggregate-put : tie.Need-slice-aggregate-put
 slice-aggregate-put c = search needs
 
--- src/show.rt:112:13
 put-requires : tie.Need-put-requires
 put-requires c κs = search needs
 
--- src/show.rt:113:38
 size-requires : tie.Need-size-requires
 size-requires c κs = search needs
 
--- src/show.rt:113:9
 put-digits-requires : tie.Need-put-digits-requires
 put-digits-requires c κs = search needs
 
--- src/show.rt:113:9
 same-length : tie.Need-same-length
 same-length c = search needs
 
--- src/show.rt:113:9
 returns : tie.Need-returns
 returns c =
     let z = c .before .before .before .before .before .before .before .before .before .before .before .before .args .z in
     let f : SFits w64 z = search needs in
     puts-negative z (c .before .before .before .size .result) (whole-negative z (is-negative z f (c .before .before .before .before .before .before .before .before .before .before .if1 .taken))) (size-kept z f (c .before .before .before .size .ensures)) (c .before .before .before .before .before .before .before .put .ensures) (c .before .before .put-digits .ensures)
 
--- src/show.rt:115:25
 size-requires-2 : tie.Need-size-requires-2
 size-requires-2 c κs = search needs
 
--- src/show.rt:115:5
 put-digits-requires-2 : tie.Need-put-digits-requires-2
 put-digits-requires-2 c κs = search needs
 
--- src/show.rt:108:1
 same-length-2 : tie.Need-same-length-2
 same-length-2 c = search needs
 
--- src/show.rt:108:1
 returns-2 : tie.Need-returns-2
 returns-2 c =
     let z = c .before .before .before .before .before .before .before .args .z in

@@ -1,3 +1,4 @@
+-- `bits` meets its contract. Assumes nothing.
 use borrow.Author.Needs.{needs}
 use Rattle.shell_text.proofs.Laws.{bits-short, bits-whole, bits-bad, bits-more, bits-end}
 use Rattle.shell_text.specs.Words.{bitsOf, bitsFrom}
@@ -8,9 +9,6 @@ use mathlib.Core.Path.{_≡_, sym, _∙_}
 use lib.ListN.{length, drop}
 use Rattle.shell_text.proofs.words.bits.Statement.{statement}
 use Rattle.shell_text.proofs.words.bits.Tie as tie
-use Rattle.shell_text.proofs.words.bits.Reads as reads
-use Rattle.shell_text.proofs.words.bits.Lts as lts
-use Rattle.shell_text.proofs.hex.digit.Reads as digit-reads
 
 abbrev Inv-loop : tie.InvT-loop
 Inv-loop word n₀ i₀ n i = bitsOf word ≡ bitsFrom n (drop i word)
@@ -18,51 +16,39 @@ Inv-loop word n₀ i₀ n i = bitsOf word ≡ bitsFrom n (drop i word)
 abbrev μ-loop : tie.MeasureT-loop
 μ-loop word n₀ i₀ n i = length word - i
 
--- src/words.rt:17:9
 returns : tie.Need-returns Inv-loop μ-loop
 returns c = bits-short _ (c .if1 .taken)
 
--- src/words.rt:21:5
 loop-holds : tie.Need-loop-holds Inv-loop μ-loop
 loop-holds c = bits-whole _ (c .if1 .left)
 
--- src/words.rt:22:23
 shared-slice-read-digit : tie.Need-shared-slice-read-digit Inv-loop μ-loop
 shared-slice-read-digit c = search needs
 
--- src/words.rt:22:13
 digit-requires : tie.Need-digit-requires Inv-loop μ-loop
 digit-requires c κs = search needs
 
--- src/words.rt:24:13
 returns-2 : tie.Need-returns-2 Inv-loop μ-loop
 returns-2 c = sym (c .before .before .before .before .loop .inv ∙ bits-bad _ (c .before .before .before .before .loop .n) (c .before .before .before .before .loop .i) (c .before .digit .result) (omega arith) (c .before .digit .ensures) (c .if2 .taken))
 
--- src/words.rt:26:13
 mul-n : tie.Need-mul-n Inv-loop μ-loop
 mul-n c = search needs
 
--- src/words.rt:26:44
 cast-n : tie.Need-cast-n Inv-loop μ-loop
 cast-n c = search needs
 
--- src/words.rt:26:13
 add-n : tie.Need-add-n Inv-loop μ-loop
 add-n c = search needs
 
--- src/words.rt:27:9
 add-i : tie.Need-add-i Inv-loop μ-loop
 add-i c = search needs
 
--- src/words.rt:21:5
 loop-less : tie.Need-loop-less Inv-loop μ-loop
 loop-less c = search needs
 
--- src/words.rt:21:5
 loop-again : tie.Need-loop-again Inv-loop μ-loop
 loop-again c = c .before .before .before .before .loop .inv ∙ bits-more _ (c .before .before .before .before .loop .n) (c .before .before .before .before .loop .i) (c .before .digit .result) (omega arith) (c .before .digit .ensures) (c .if2 .left)
 
--- src/words.rt:13:1
 returns-3 : tie.Need-returns-3 Inv-loop μ-loop
 returns-3 c = sym (c .before .loop .inv ∙ bits-end _ (c .before .loop .n) (c .before .loop .i) (past _ (c .before .loop .i) (omega arith)))
 

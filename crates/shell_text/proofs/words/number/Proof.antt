@@ -1,29 +1,23 @@
+-- `number` meets its contract. Assumes nothing.
 use Rattle.shell_text.proofs.Laws.{zero-by-zero}
 use mathlib.Core.Path.{sym, _∙_}
 use Rattle.shell_text.proofs.Laws.{by-field, by-digits, nan-of}
 use borrow.Author.Needs.{needs}
 use Rattle.shell_text.proofs.words.number.Statement.{statement}
 use Rattle.shell_text.proofs.words.number.Tie as tie
-use Rattle.shell_text.proofs.words.number.Reads as reads
-use Rattle.shell_text.proofs.words.number.Lts as lts
 
--- src/words.rt:38:16
 float-from-bits-result : tie.Need-float-from-bits-result
 float-from-bits-result c = by-field _ (c .if1 .taken)
 
--- src/words.rt:38:9
 returns : tie.Need-returns
 returns c = search needs
 
--- src/words.rt:41:9
 returns-2 : tie.Need-returns-2
 returns-2 c = zero-by-zero ∙ sym (nan-of _ (c .before .if1 .left) (c .if2 .taken))
 
--- src/words.rt:43:5
 float-from-bits-result-2 : tie.Need-float-from-bits-result-2
 float-from-bits-result-2 c = by-digits _ (c .if2 .left)
 
--- src/words.rt:33:1
 returns-3 : tie.Need-returns-3
 returns-3 c = search needs
 

@@ -1,3 +1,4 @@
+-- `put_word` meets its contract. Assumes nothing.
 use Rattle.shell_text.proofs.Laws.{puts-by, by-itself, not-itself}
 use Rattle.shell_text.specs.Words.{bitsText, wordText}
 use Rattle.text_out.proofs.Laws.{puts-then}
@@ -6,45 +7,32 @@ use mathlib.Core.Path.{sym}
 use borrow.Author.Needs.{needs}
 use Rattle.shell_text.proofs.words.put_word.Statement.{statement}
 use Rattle.shell_text.proofs.words.put_word.Tie as tie
-use Rattle.shell_text.proofs.words.put_word.Reads as reads
-use Rattle.shell_text.proofs.words.put_word.Lts as lts
-use Rattle.shell_text.proofs.words.put_bits.Reads as put-bits-reads
-use Rattle.text_out.proofs.put.Reads as put-reads
 
--- src/words.rt:66:26
 slice-aggregate-put : tie.Need-slice-aggregate-put
 slice-aggregate-put c = search needs
 
--- src/words.rt:66:9
 put-requires : tie.Need-put-requires
 put-requires c κs = search needs
 
--- src/words.rt:68:9
 put-bits-requires : tie.Need-put-bits-requires
 put-bits-requires c κs = search needs
 
--- src/words.rt:68:9
 same-length : tie.Need-same-length
 same-length c = search needs
 
--- src/words.rt:68:9
 returns : tie.Need-returns
 unfolding wordText
 returns c = puts-then (c .before .before .before .before .before .before .before .put .ensures) (puts-by (λ n t. bitsText n ++ t) (sym (not-itself _ (c .before .before .before .before .if1 .taken))) (c .before .before .put-bits .ensures))
 
--- src/words.rt:70:22
 float-to-bits-put-bits : tie.Need-float-to-bits-put-bits
 float-to-bits-put-bits c = by-itself _ (c .before .if1 .left)
 
--- src/words.rt:70:5
 put-bits-requires-2 : tie.Need-put-bits-requires-2
 put-bits-requires-2 c κs = search needs
 
--- src/words.rt:63:1
 same-length-2 : tie.Need-same-length-2
 same-length-2 c = search needs
 
--- src/words.rt:63:1
 returns-2 : tie.Need-returns-2
 unfolding wordText
 returns-2 c = puts-then (c .before .before .before .before .before .before .before .put .ensures) (c .before .before .put-bits2 .ensures)
