@@ -1,5 +1,6 @@
 // What the console's lines say and how its answers are written (tests/PROTOCOL.md), without input and output: words of a line to bytes and
 // numbers, and the pieces of an answer as text.
+pub mod commands;
 pub mod hex;
 pub mod lines;
 pub mod show;
@@ -15,4 +16,12 @@ pub enum Decoded {
 pub enum Word {
     Bits(u64),
     Malformed,
+}
+
+// A command: its letter (`?` for none), its number (0 where it has none), and its bytes, which stand in the line from `start` up to `end`.
+pub struct Command {
+    pub letter: u8,
+    pub number: usize,
+    pub start: usize,
+    pub end: usize,
 }
