@@ -1,17 +1,12 @@
 // The command W: the list written out.
-use crate::commands::unknown;
 use crate::out::flush;
 use crate::out::put_answer;
 use crate::out::put_byte;
 use crate::out::put_count;
 use crate::out::put_hex;
-use fields::Parsed;
 use libc::STDOUT_FILENO;
 use process_list::ProcessList;
-use shell_text::Decoded;
-use shell_text::hex::decoded_part;
 use shell_text::lines::is_too_long;
-use shell_text::lines::last_number;
 use shell_text::lines::least;
 use tags::part;
 
@@ -45,39 +40,8 @@ fn write_in(
     print_text(w.number, part(output, 0, w.length));
 }
 
-// Writes the list under the id into an output of so many bytes.
-fn print_written(id: &[u8], length: usize, list: ProcessList, coefficients: &[i64], powers: &[i8]) {
+// `W IDHEX OUTLEN`: writes the list under the id into an output of so many bytes.
+pub fn write(id: &[u8], length: usize, list: ProcessList, coefficients: &[i64], powers: &[i8]) {
     let mut output = [0u8; 2097152];
     write_in(&mut output, id, length, list, coefficients, powers);
-}
-
-// `W IDHEX OUTLEN`, whose IDHEX stands from `start` up to `end`.
-fn write_under(
-    line: &mut [u8],
-    start: usize,
-    end: usize,
-    length: usize,
-    list: ProcessList,
-    coefficients: &[i64],
-    powers: &[i8],
-) {
-    let d = decoded_part(line, start, end);
-    match d {
-        Decoded::Bytes(a, e) => print_written(part(line, a, e), length, list, coefficients, powers),
-        Decoded::Malformed => unknown(),
-    }
-}
-
-// `W IDHEX OUTLEN`: writes the list under the id into OUTLEN bytes.
-pub fn write(line: &mut [u8], list: ProcessList, coefficients: &[i64], powers: &[i8]) {
-    let field = fields::next_field(line, 2);
-    let start = field.start;
-    let end = field.end;
-    let parsed = last_number(line, end);
-    match parsed {
-        Parsed::Number(length) => {
-            write_under(line, start, end, length, list, coefficients, powers)
-        }
-        Parsed::Malformed => unknown(),
-    }
 }

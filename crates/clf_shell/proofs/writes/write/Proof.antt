@@ -2,8 +2,8 @@
 use mathlib.Core.Path.{sym}
 use lib.ListN.{length-replicate}
 use Prim.Native.Nat.{ℕ}
-use Rattle.clf_shell.proofs.writes.print_written.Statement.{statement}
-use Rattle.clf_shell.proofs.writes.print_written.Tie as tie
+use Rattle.clf_shell.proofs.writes.write.Statement.{statement}
+use Rattle.clf_shell.proofs.writes.write.Tie as tie
 
 slice-aggregate-write-in : tie.Need-slice-aggregate-write-in
 slice-aggregate-write-in c = sym (length-replicate {0} {A = ℕ} 2097152 0)
@@ -14,5 +14,5 @@ write-in-requires c κs = tt
 returns : tie.Need-returns
 returns c = tt
 
-pub print-written-spec : {M : Type 1} → statement M
-print-written-spec = tie.close (tie.spec slice-aggregate-write-in write-in-requires returns)
+pub write-spec : {M : Type 1} → statement M
+write-spec = tie.close (tie.spec slice-aggregate-write-in write-in-requires returns)
