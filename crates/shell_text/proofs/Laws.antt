@@ -27,7 +27,7 @@ use Rattle.shell_text.specs.declared.Decoded.the-variants as Hexes
 use Rattle.shell_text.specs.declared.Word.{Word}
 use Rattle.shell_text.specs.declared.Word.the-variants.{Bits, Malformed}
 use Rattle.shell_text.specs.Hex.{digitOf, glyphOf, joinedOf, bytesOf, Decodes, wordAt, isNone, partOf, partLeft, DecodesPart, isLast, lastOf, lastLeft, DecodesLast}
-use Rattle.shell_text.specs.Lines.{isRun, lastNumber}
+use Rattle.shell_text.specs.Lines.{isRun, lastNumber, lineEnd}
 use Rattle.shell_text.specs.Words.{withDigit, bitsFrom, bitsOf, topDigits, bitsText}
 
 -- the text of a case that a match found
@@ -345,3 +345,14 @@ module _ (s : List ℕ) (at : ℕ) (f g : Field) (ef : f ≡ fieldFrom s at) (eg
       let q : DecodesPart s (fieldFrom s at .start) (fieldFrom s at .end) s' r =
       subst (λ (k : ℕ). DecodesPart s (fieldFrom s at .start) k s' r) (end-is s at f g ef eg) (subst (λ (k : ℕ). DecodesPart s k (f .end) s' r) (start-is s at f g ef eg) p) in
       record { says = q .says ∙ (rw (is-last s at f g ef eg h)); line = q .line ∙ (rw (is-last s at f g ef eg h)) }
+
+-- ---- a line's end
+pub lineEnd·nil : (at : ℕ) → lineEnd at [] ≡ at
+unfolding lineEnd
+lineEnd·nil at = refl
+
+pub lineEnd·cons : (at b : ℕ) (l : List ℕ) → lineEnd at (b ∷ l) ≡ cond (eqb b 10) at (lineEnd (at + 1) l)
+unfolding lineEnd
+lineEnd·cons at b l = refl
+
+pub ruleset lineEnd·laws = (lineEnd·nil, lineEnd·cons)

@@ -1,6 +1,7 @@
 // What a command line is.
 ghost use mathlib.Core.Path.{_≡_};
 ghost use Prim.Native.Nat.{min};
+ghost use lib.ListN.{drop};
 ghost use Rattle.shell_text.specs.Lines as Lines;
 use fields::Parsed;
 
@@ -51,4 +52,18 @@ pub fn last_number(line: &[u8], at: usize) -> Parsed
         return Parsed::Malformed;
     }
     fields::number(tags::part(line, start, end))
+}
+
+// The first line feed from `from` on, or the end of the bytes.
+pub fn line_end(bytes: &[u8], from: usize) -> usize
+    ensures { λ r. ⌜ r ≡ Lines.lineEnd from (drop from (now (bytes .entry))) ⌝ }
+{
+    let mut i = from;
+    while i < bytes.len() {
+        if bytes[i] == b'\n' {
+            return i;
+        }
+        i += 1;
+    }
+    i
 }
