@@ -33,10 +33,11 @@ struct clf_check clf_check_file(const uint8_t *file, size_t length);
 struct clf_read clf_read_file(const uint8_t *file, size_t length, int64_t *coefficients, size_t coefficient_count, int8_t *powers,
                               size_t power_count);
 
-/* Reads a file into the table room as clf_read_file does, and runs its list over the pixels: three components a pixel, code values.
-   Answers the reading's number and place where it is refused. Else 14 means that `pixel_count` is no multiple of three, 15 a
-   component that is a NaN or infinite (its place is the component's index), and 0 that all pixels are overwritten. Refused, no pixel
-   changes. The arrays may not overlap each other or the file. */
+/* Runs a file's list over the pixels: three components a pixel, code values. Judged in this order: `pixel_count` is no multiple of three
+   (14, place 0); a component is a NaN or infinite (15, its place is the lowest such component's index); then the file, which is read into
+   the table room as clf_read_file does. Refused with 14 or 15, neither the room nor a pixel changes and the file is not read. Refused by
+   the reading, with its number and place, the room is zeroed and no pixel changes. 0 means that all pixels are overwritten and that the
+   room holds the list's numbers. The arrays may not overlap each other or the file. */
 struct clf_check clf_apply(const uint8_t *file, size_t length, int64_t *coefficients, size_t coefficient_count, int8_t *powers,
                            size_t power_count, double *pixels, size_t pixel_count);
 

@@ -45,6 +45,13 @@ static int all_zero(const int64_t *coefficients, const int8_t *powers, size_t fr
     return 1;
 }
 
+static int all_same(const int64_t *coefficients, const int8_t *powers, size_t count, int64_t coefficient, int8_t power)
+{
+    for (size_t i = 0; i < count; ++i)
+        if (coefficients[i] != coefficient || powers[i] != power) return 0;
+    return 1;
+}
+
 static void reads(void)
 {
     int64_t coefficients[16];
@@ -122,15 +129,24 @@ static void applies(void)
 
     c = clf_apply(file, length, coefficients, 8, powers, 8, pixels, 0);
     expect("no pixels", c.number == 0 && c.place == 0);
+    for (size_t i = 0; i < 8; ++i) coefficients[i] = 77, powers[i] = 7;
     c = clf_apply(file, length, coefficients, 8, powers, 8, pixels, 7);
     expect("seven components are 14", c.number == 14 && c.place == 0 && pixels[1] == 0.125);
+    expect("and the room stays as it was", all_same(coefficients, powers, 8, 77, 7));
     pixels[4] = 1e308 * 10.0;
     c = clf_apply(file, length, coefficients, 8, powers, 8, pixels, 6);
     expect("an infinite component is 15 at its index", c.number == 15 && c.place == 4);
     expect("and no pixel changes", pixels[1] == 0.125 && pixels[3] == 0.5);
+    expect("nor the room", all_same(coefficients, powers, 8, 77, 7));
+    c = clf_apply(file, length, coefficients, 8, powers, 8, pixels, 7);
+    expect("14 comes before 15", c.number == 14 && c.place == 0);
+    c = clf_apply(file, length - 20, coefficients, 8, powers, 8, pixels, 6);
+    expect("15 comes before the file's refusal", c.number == 15 && c.place == 4 && all_same(coefficients, powers, 8, 77, 7));
     pixels[4] = 0.5;
     c = clf_apply(file, length - 20, coefficients, 8, powers, 8, pixels, 7);
-    expect("a file cut short is 1 before 14", c.number == 1 && c.place == length - 20);
+    expect("14 comes before the file's refusal", c.number == 14 && c.place == 0 && all_same(coefficients, powers, 8, 77, 7));
+    c = clf_apply(file, length - 20, coefficients, 8, powers, 8, pixels, 6);
+    expect("a file cut short is 1", c.number == 1 && c.place == length - 20);
     expect("and no pixel changes then", pixels[1] == 0.125 && pixels[4] == 0.5);
     expect("and its room is zeroed", all_zero(coefficients, powers, 0, 8));
     c = clf_apply(file, length, coefficients, 3, powers, 8, pixels, 6);

@@ -1,5 +1,5 @@
 -- Which numbers a reading answers, and where. Assumes nothing.
-use mathlib.Core.Path.{_≡_, refl, sym, _∙_, subst}
+use mathlib.Core.Path.{_≡_, refl, sym, ap, _∙_, subst}
 use mathlib.Core.Bool.{Bool, true, false, cond, _&&_}
 use mathlib.Core.List.{List, [], _∷_}
 use mathlib.Core.Logic.{_⊎_, inl, inr}
@@ -19,8 +19,8 @@ use Rattle.xml.specs.Xml.{isNamed, Tag, strayEnd}
 use Rattle.xml.specs.Elements.{Part, between, info}
 use Rattle.clf.specs.Nodes.{NodeRead, NodeName, nodeName, nodeFault, nodeBody}
 use Rattle.clf.specs.List.{declaration, node, description, inputDescriptor, outputDescriptor, infoChild, Flags, noFlags, childFault, childBody, listItem, nextFlags, listRules, rootFault, toRoot, prologue, head, Document, listContent, document, onward, tailPart, tail}
-use Rattle.clf.specs.Reading.{nodesOf, elementsOf, placeIn, byVerdict, listReading, tailReading, textReading, readText}
-use Rattle.claims.specs.Refusals.{isTextFault, Answered, whole, short, text, list}
+use Rattle.clf.specs.Reading.{Reading, accepted, faulty, mostBytes, numberOf, nodesOf, elementsOf, placeIn, byVerdict, listReading, tailReading, textReading, readText, read}
+use Rattle.claims.specs.Refusals.{isTextFault, isListFault, Answered, whole, short, text, list}
 use Rattle.look.specs.Replacing.{start, element}
 use Rattle.claims.proofs.Faults.{fair-zero, fair-by, fair-cond, blames-ret, blames-bad, blames-cond, blames-strict, blames-blame, blames-kept, blames-word, blames-seq, blames-loop}
 use Rattle.claims.proofs.Blamed.{Textual, Well, Right, three, five, RightRules, startTag-well, endTag-well, strayEnd-well, between-well, textElement-well, info-well}
@@ -148,3 +148,19 @@ element-faults e k r q = go (start .run e) refl q
     go (done n u) f z = by n u (nodeFault n) refl z
     go (fault j u) f z = inr (let y : j ≡ k = cc in sym y ∙ start-blames .number e j u f)
     go cut f z = nope cc
+
+-- ---- the number is 0 for an accepted file alone
+
+by-number : (n : ℕ) (x : Reading) → Answered n x → numberOf x ≡ 0 → (l : List NodeRead) × (x ≡ accepted l)
+by-number n x (whole l) z = (l, refl)
+by-number n x short z = absurd (omega arith)
+by-number n x (text k p t i) z = let f : false ≡ true = sym (ap isTextFault z) ∙ t in nope cc
+by-number n x (list k p t) z = let f : false ≡ true = sym (ap isListFault z) ∙ t in nope cc
+
+pub number-accepted : (room : ℕ) (s : List ℕ) → numberOf (read room s) ≡ 0 → (l : List NodeRead) × (read room s ≡ accepted l)
+unfolding read
+number-accepted room s = go (ltb mostBytes (length s))
+  where
+    go : (b : Bool) → numberOf (cond b (faulty 4 0) (readText room s)) ≡ 0 → (l : List NodeRead) × (cond b (faulty 4 0) (readText room s) ≡ accepted l)
+    go true z = absurd (omega arith)
+    go false z = by-number (length s) (readText room s) (answered room s) z

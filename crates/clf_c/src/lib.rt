@@ -4,7 +4,8 @@ ghost use Rattle.room.specs.Room.{roomLength};
 ghost use Rattle.clf.specs.Reading as Reading;
 ghost use Rattle.reading.specs.Code.{coefficientsAfter, powersAfter};
 ghost use Rattle.clf_c.specs.Answers.{fileCheckOf, fileReadOf};
-ghost use Rattle.clf_c.specs.Applying.{coefficientsRead, powersRead, applyOf, appliedTo};
+ghost use mathlib.Core.Bool.{false};
+ghost use Rattle.clf_c.specs.Applying.{sliceRefused, Applies};
 
 // What the file check answers: the refusal number, 0 for accepted, and its place.
 #[repr(C)]
@@ -53,7 +54,8 @@ pub extern "C" fn clf_read_file(
     }
 }
 
-// Reads a file into the table room and runs its list over the pixels, three components a pixel; refused, no pixel changes.
+// Runs a file over the pixels, three components a pixel: the tests of the slice come first, then the file is read into the table room, and
+// its list runs. Refused by the slice, nothing changes; a refused reading zeroes the room and leaves the pixels.
 #[no_mangle]
 pub extern "C" fn clf_apply(
     file: &[u8],
@@ -61,7 +63,33 @@ pub extern "C" fn clf_apply(
     powers: &mut [i8],
     pixels: &mut [f64],
 ) -> FileCheck
-    ensures { λ r. ⌜ (r ≡ applyOf (now (file .entry)) (now (coefficients .entry)) (now (powers .entry)) (now (pixels .entry))) × (now (coefficients .exit) ≡ coefficientsRead (now (file .entry)) (now (coefficients .entry)) (now (powers .entry))) × (now (powers .exit) ≡ powersRead (now (file .entry)) (now (coefficients .entry)) (now (powers .entry))) × (now (pixels .exit) ≡ appliedTo (now (file .entry)) (now (coefficients .entry)) (now (powers .entry)) (now (pixels .entry))) ⌝ }
+    ensures { λ r. ⌜ Applies (now (file .entry)) (now (coefficients .entry)) (now (powers .entry)) (now (pixels .entry)) r (now (coefficients .exit)) (now (powers .exit)) (now (pixels .exit)) ⌝ }
+{
+    if pixels.len() % 3 != 0 {
+        return FileCheck {
+            number: 14,
+            place: 0,
+        };
+    }
+    let first = pixel_run::first_not_finite(pixels);
+    if first < pixels.len() {
+        return FileCheck {
+            number: 15,
+            place: first as u64,
+        };
+    }
+    read_and_run(file, coefficients, powers, pixels)
+}
+
+// Reads a file into the table room and runs its list over pixels that are not refused.
+fn read_and_run(
+    file: &[u8],
+    coefficients: &mut [i64],
+    powers: &mut [i8],
+    pixels: &mut [f64],
+) -> FileCheck
+    requires { ⌜ sliceRefused (now pixels) ≡ false ⌝ }
+    ensures { λ r. ⌜ Applies (now (file .entry)) (now (coefficients .entry)) (now (powers .entry)) (now (pixels .entry)) r (now (coefficients .exit)) (now (powers .exit)) (now (pixels .exit)) ⌝ }
 {
     let answer = reading::read(file, coefficients, powers);
     if answer.number != 0 {

@@ -1,9 +1,7 @@
 // The line protocol: each line of standard input is a command, answered by one line on standard output (tests/PROTOCOL.md). A line
 // that is longer than the buffer is answered `too long`.
-ghost use Prim.Native.Nat.{_<_};
 
 mod commands;
-mod hex;
 mod out;
 mod pixels;
 mod show;
@@ -12,27 +10,25 @@ mod writes;
 use commands::State;
 use libc::STDIN_FILENO;
 use libc::STDOUT_FILENO;
+use shell_text::lines::least;
+use shell_text::lines::line_end;
+use tags::part;
 
-// The input so far: how many bytes of an unfinished line stand at the start of the buffer, whether that line is too long and its
-// bytes are dropped, and what the commands work on.
-struct Input {
+// A line of the input: it stands in the buffer from `start` up to `stop`, or is dropped since it was too long; `some` is false where there is
+// none, at the end of the input. The next line starts at `next`, and the buffer holds the bytes before `end`.
+struct Line {
+    start: usize,
+    stop: usize,
+    next: usize,
+    end: usize,
+    dropped: bool,
+    some: bool,
+}
+
+// The beginning of a line: how many bytes of it stand at the start of the buffer, and whether it is too long and its bytes are dropped.
+struct Kept {
     held: usize,
     dropped: bool,
-    state: State,
-}
-
-// The bytes passed so far of what the buffer holds: where the unfinished line starts, whether it is dropped, and the state.
-struct Progress {
-    start: usize,
-    dropped: bool,
-    state: State,
-}
-
-fn byte_at(buffer: &[u8], i: usize) -> u8 {
-    if i < buffer.len() {
-        return buffer[i];
-    }
-    0
 }
 
 // One read behind the bytes that are held: how many bytes the buffer holds then.
@@ -44,28 +40,6 @@ fn read_more(buffer: &mut [u8], held: usize) -> usize {
         return held + n;
     }
     held
-}
-
-// Answers a line that has come whole, which stands from `start` up to `end`.
-fn finished(
-    buffer: &mut [u8],
-    start: usize,
-    end: usize,
-    dropped: bool,
-    state: State,
-    coefficients: &mut [i64],
-    powers: &mut [i8],
-) -> State {
-    if dropped {
-        io::write_all(STDOUT_FILENO, b"too long\n");
-        return state;
-    }
-    if start <= end {
-        if end <= buffer.len() {
-            return commands::answer(&mut buffer[start..end], state, coefficients, powers);
-        }
-    }
-    state
 }
 
 // Moves the bytes from `start` up to `end` to the start of the buffer, and answers how many they are.
@@ -86,97 +60,110 @@ fn keep(buffer: &mut [u8], start: usize, end: usize) -> usize {
     kept
 }
 
-// What is left of the input behind the last whole line: a line that fills the buffer is too long, and so are its later bytes.
-fn left(buffer: &mut [u8], end: usize, progress: Progress) -> Input {
-    let start = progress.start;
-    let dropped = progress.dropped;
-    let state = progress.state;
-    let held = keep(buffer, start, end);
-    if dropped || buffer.len() <= held {
-        return Input {
+// Keeps the beginning of a line, which stands from `start` up to `end`: a line that fills the buffer is too long, and so are its later bytes.
+fn unfinished(buffer: &mut [u8], start: usize, end: usize, dropped: bool) -> Kept {
+    if dropped {
+        return Kept {
             held: 0,
             dropped: true,
-            state,
         };
     }
-    Input {
+    let held = keep(buffer, start, end);
+    if buffer.len() <= held {
+        return Kept {
+            held: 0,
+            dropped: true,
+        };
+    }
+    Kept {
         held,
         dropped: false,
-        state,
     }
 }
 
-// Behind the byte of index i: a line feed ends a line.
-fn passed(
-    buffer: &mut [u8],
-    i: usize,
-    progress: Progress,
-    coefficients: &mut [i64],
-    powers: &mut [i8],
-) -> Progress
-    requires { ⌜ i < 18446744073709551615 ⌝ }
-{
-    if byte_at(buffer, i) == b'\n' {
-        let start = progress.start;
-        let dropped = progress.dropped;
-        let before = progress.state;
-        let state = finished(buffer, start, i, dropped, before, coefficients, powers);
-        return Progress {
-            start: i + 1,
-            dropped: false,
-            state,
-        };
-    }
-    progress
-}
-
-// Answers each line that has come whole among the bytes before `end`; no line ends before `input.held`.
-fn whole_lines(
-    buffer: &mut [u8],
-    end: usize,
-    input: Input,
-    coefficients: &mut [i64],
-    powers: &mut [i8],
-) -> Input {
-    let state = input.state;
-    let mut progress = Progress {
+// A line that is not ended by a line feed, at the end of the input.
+fn last_line(held: usize, dropped: bool) -> Line {
+    Line {
         start: 0,
-        dropped: input.dropped,
-        state,
-    };
-    let mut i = input.held;
-    while i < end {
-        progress = passed(buffer, i, progress, coefficients, powers);
-        i += 1;
-    }
-    left(buffer, end, progress)
-}
-
-// The last line, if it is not ended by a line feed.
-fn last_line(buffer: &mut [u8], input: Input, coefficients: &mut [i64], powers: &mut [i8]) {
-    let held = input.held;
-    let dropped = input.dropped;
-    if dropped || 0 < held {
-        finished(buffer, 0, held, dropped, input.state, coefficients, powers);
+        stop: held,
+        next: held,
+        end: held,
+        dropped,
+        some: dropped || 0 < held,
     }
 }
 
-// A proved loop has to end, and nothing says that the input does. So the loop counts its turns down, from a number that no run uses up.
-fn serve(buffer: &mut [u8], coefficients: &mut [i64], powers: &mut [i8]) {
-    let mut input = Input {
-        held: 0,
-        dropped: false,
-        state: commands::fresh(),
-    };
+// The line behind this one, read as far as its line feed. A proved loop has to end, and nothing says that the input does. So this loop and
+// that of `serve` count their turns down, from a number that no run uses up.
+fn next_line(buffer: &mut [u8], line: Line) -> Line {
+    let mut start = line.next;
+    let mut seen = line.next;
+    let mut end = line.end;
+    let mut dropped = false;
     let mut turns = u64::MAX;
     while 0 < turns {
-        let held = input.held;
-        let end = read_more(buffer, held);
+        let limit = least(end, buffer.len());
+        let stop = line_end(part(buffer, 0, limit), seen);
+        if stop < limit {
+            return Line {
+                start,
+                stop,
+                next: stop + 1,
+                end,
+                dropped,
+                some: true,
+            };
+        }
+        let kept = unfinished(buffer, start, end, dropped);
+        let held = kept.held;
+        dropped = kept.dropped;
+        start = 0;
+        seen = held;
+        end = read_more(buffer, held);
         if end <= held {
-            last_line(buffer, input, coefficients, powers);
+            return last_line(held, dropped);
+        }
+        turns -= 1;
+    }
+    last_line(0, false)
+}
+
+// Answers a line.
+fn answered(
+    buffer: &mut [u8],
+    line: Line,
+    state: State,
+    coefficients: &mut [i64],
+    powers: &mut [i8],
+) -> State {
+    if line.dropped {
+        io::write_all(STDOUT_FILENO, b"too long\n");
+        return state;
+    }
+    let start = line.start;
+    let stop = line.stop;
+    if stop < start {
+        return state;
+    }
+    if buffer.len() < stop {
+        return state;
+    }
+    commands::answer(&mut buffer[start..stop], state, coefficients, powers)
+}
+
+fn serve(buffer: &mut [u8], coefficients: &mut [i64], powers: &mut [i8]) {
+    let mut state = State {
+        list: process_list::empty(),
+        room: 0,
+    };
+    let mut line = last_line(0, false);
+    let mut turns = u64::MAX;
+    while 0 < turns {
+        line = next_line(buffer, line);
+        if !line.some {
             return;
         }
-        input = whole_lines(buffer, end, input, coefficients, powers);
+        state = answered(buffer, line, state, coefficients, powers);
         turns -= 1;
     }
 }

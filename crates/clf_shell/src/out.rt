@@ -1,11 +1,11 @@
 // Output through a buffer: `at` is how many bytes it holds. Each function answers how many it holds then; a full buffer is written out.
 use libc::STDOUT_FILENO;
+use shell_text::hex::hex_pair;
+use tags::part;
 
 // Writes out what the buffer holds.
 pub fn flush(buffer: &[u8], at: usize) {
-    if at <= buffer.len() {
-        io::write_all(STDOUT_FILENO, &buffer[0..at]);
-    }
+    io::write_all(STDOUT_FILENO, part(buffer, 0, at));
 }
 
 pub fn put_byte(buffer: &mut [u8], at: usize, b: u8) -> usize {
@@ -31,29 +31,9 @@ pub fn put(buffer: &mut [u8], at: usize, text: &[u8]) -> usize {
     held
 }
 
-pub fn put_number(buffer: &mut [u8], at: usize, n: u64) -> usize {
-    let mut digits = [0u8; 20];
-    let k = io::decimal(n, &mut digits);
-    put(buffer, at, &digits[..k])
-}
-
-pub fn put_signed(buffer: &mut [u8], at: usize, z: i64) -> usize {
-    if z < 0 {
-        let held = put_byte(buffer, at, b'-');
-        return put_number(buffer, held, decimal_write::size(z));
-    }
-    put_number(buffer, at, decimal_write::size(z))
-}
-
-// The hex digit of a value.
-pub fn glyph(d: u8) -> u8 {
-    if d < 10 {
-        return 48 + d;
-    }
-    if d < 16 {
-        return 87 + d;
-    }
-    b'?'
+// The first n bytes of a piece.
+pub fn put_piece(buffer: &mut [u8], at: usize, piece: &[u8], n: usize) -> usize {
+    put(buffer, at, part(piece, 0, n))
 }
 
 // Bytes in hex, `-` for none.
@@ -65,9 +45,24 @@ pub fn put_hex(buffer: &mut [u8], at: usize, bytes: &[u8]) -> usize {
     let mut i = 0;
     while i < bytes.len() {
         let b = bytes[i];
-        held = put_byte(buffer, held, glyph(b / 16));
-        held = put_byte(buffer, held, glyph(b % 16));
+        let pair = hex_pair(b);
+        held = put(buffer, held, &pair);
         i += 1;
     }
     held
+}
+
+// The refusal number and its place.
+pub fn put_answer(buffer: &mut [u8], at: usize, number: u8, place: usize) -> usize {
+    let mut piece = [0u8; 32];
+    let n = shell_text::show::put_answer(&mut piece, 0, number, place);
+    put_piece(buffer, at, &piece, n)
+}
+
+// A byte, then the digits of n.
+pub fn put_count(buffer: &mut [u8], at: usize, before: u8, n: usize) -> usize {
+    let mut piece = [0u8; 32];
+    let k = text_out::put_digits(&mut piece, 0, n);
+    let held = put_byte(buffer, at, before);
+    put_piece(buffer, held, &piece, k)
 }

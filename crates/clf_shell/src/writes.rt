@@ -1,28 +1,24 @@
 // The command W: the list written out.
-use crate::commands::least;
-use crate::commands::put_answer;
-use crate::commands::unknown;
-use crate::hex::Decoded;
-use crate::hex::decoded_part;
 use crate::out::flush;
+use crate::out::put_answer;
 use crate::out::put_byte;
+use crate::out::put_count;
 use crate::out::put_hex;
-use crate::out::put_number;
-use fields::Parsed;
 use libc::STDOUT_FILENO;
 use process_list::ProcessList;
+use shell_text::lines::is_too_long;
+use shell_text::lines::least;
 use tags::part;
 
 // Answers with the number, its place, the length and the bytes of a text.
 fn print_text(number: u8, text: &[u8]) {
     let mut buffer = io::buffer();
-    let a = put_answer(&mut buffer, number, 0);
-    let b = put_byte(&mut buffer, a, b' ');
-    let c = put_number(&mut buffer, b, text.len() as u64);
-    let d = put_byte(&mut buffer, c, b' ');
-    let e = put_hex(&mut buffer, d, text);
-    let f = put_byte(&mut buffer, e, b'\n');
-    flush(&buffer, f);
+    let a = put_answer(&mut buffer, 0, number, 0);
+    let b = put_count(&mut buffer, a, b' ', text.len());
+    let c = put_byte(&mut buffer, b, b' ');
+    let d = put_hex(&mut buffer, c, text);
+    let e = put_byte(&mut buffer, d, b'\n');
+    flush(&buffer, e);
 }
 
 // Writes the list under the id into so many bytes of the output, or into all of it where it has fewer: a text that those would hold and
@@ -44,59 +40,8 @@ fn write_in(
     print_text(w.number, part(output, 0, w.length));
 }
 
-// Whether a text was refused for an output of so many bytes, and a longer one was asked for.
-fn is_too_long(number: u8, room: usize, length: usize) -> bool {
-    if number == 17 {
-        return room < length;
-    }
-    false
-}
-
-// Writes the list under the id into an output of so many bytes.
-fn print_written(id: &[u8], length: usize, list: ProcessList, coefficients: &[i64], powers: &[i8]) {
+// `W IDHEX OUTLEN`: writes the list under the id into an output of so many bytes.
+pub fn write(id: &[u8], length: usize, list: ProcessList, coefficients: &[i64], powers: &[i8]) {
     let mut output = [0u8; 2097152];
     write_in(&mut output, id, length, list, coefficients, powers);
-}
-
-// `W IDHEX OUTLEN`, whose IDHEX stands from `start` up to `end`.
-fn write_under(
-    line: &mut [u8],
-    start: usize,
-    end: usize,
-    length: usize,
-    list: ProcessList,
-    coefficients: &[i64],
-    powers: &[i8],
-) {
-    let d = decoded_part(line, start, end);
-    match d {
-        Decoded::Bytes(a, e) => print_written(part(line, a, e), length, list, coefficients, powers),
-        Decoded::Malformed => unknown(),
-    }
-}
-
-// The number in the last field of a line, from `at` on.
-fn last_number(line: &[u8], at: usize) -> Parsed {
-    let field = fields::next_field(line, at);
-    let start = field.start;
-    let end = field.end;
-    let more = fields::next_field(line, end);
-    if more.start < more.end {
-        return Parsed::Malformed;
-    }
-    fields::number(part(line, start, end))
-}
-
-// `W IDHEX OUTLEN`: writes the list under the id into OUTLEN bytes.
-pub fn write(line: &mut [u8], list: ProcessList, coefficients: &[i64], powers: &[i8]) {
-    let field = fields::next_field(line, 2);
-    let start = field.start;
-    let end = field.end;
-    let parsed = last_number(line, end);
-    match parsed {
-        Parsed::Number(length) => {
-            write_under(line, start, end, length, list, coefficients, powers)
-        }
-        Parsed::Malformed => unknown(),
-    }
 }

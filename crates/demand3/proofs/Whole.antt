@@ -1,19 +1,14 @@
 -- DEMAND 3 of the code, from the contracts of reading and replacing and the theorem on their definitions. Assumes nothing.
-use mathlib.Core.Path.{_≡_, refl, sym, ap, _∙_, subst}
-use mathlib.Core.Bool.{Bool, true, false, cond}
+use mathlib.Core.Path.{_≡_, refl, sym, ap, _∙_}
 use mathlib.Core.List.{List, [], _∷_, _++_, map}
 use Prim.Native.Nat.{ℕ}
-use native.Mathlib.Omega.{arith}
-use lib.Dec.{ltb}
 use lib.IntN.{ℤ, pos}
-use lib.ListN.{length}
-use Rattle.grammar.specs.Laws.{nope}
 use Rattle.decimal.specs.declared.Decimal.{Decimal}
 use Rattle.process_list.specs.declared.ProcessList.{ProcessList}
 use Rattle.process_list.specs.List.{allNumbers, coefficientsOf, powersOf}
 use Rattle.room.specs.Room.{roomLength, filled}
 use Rattle.clf.specs.Nodes.{NodeRead}
-use Rattle.clf.specs.Reading.{Reading, accepted, faulty, mostBytes, numberOf, elementsOf, nodesIn, numbersIn, readText, read}
+use Rattle.clf.specs.Reading.{Reading, accepted, elementsOf, nodesIn, numbersIn, read}
 use Rattle.reading.specs.declared.Answer.{Answer}
 use Rattle.reading.specs.declared.Checked.{Checked}
 use Rattle.reading.specs.Code.{coefficientsAfter, powersAfter, ReadsInto}
@@ -24,8 +19,7 @@ use Rattle.replacing.specs.Code.{Leaves, lookOf}
 use Rattle.replacing.specs.Code as Replaces
 use Rattle.claims.specs.TriedFile.{fileRun, Small}
 use Rattle.claims.specs.LookRuns.{readInto, lookRun, SameLook}
-use Rattle.claims.specs.Refusals.{isTextFault, isListFault, Answered, whole, short, text, list}
-use Rattle.claims.proofs.Refusals as Refusals
+use Rattle.claims.proofs.Refusals.{number-accepted}
 use Rattle.claims.proofs.Look.{demand3-look}
 use Rattle.demand3.specs.Runs.{said, answered, Calls, none, call, Demand3}
 
@@ -92,22 +86,6 @@ module _ (l : ProcessList) (c₀ p₀ : List ℤ) (s : List ℕ) where
       powers = ap (λ (z : Look). z .powers) q ∙ sym (after-powers (read room s));
     },
   )
-
--- ---- reading: its number is 0 for an accepted file alone
-
-by-number : (n : ℕ) (x : Reading) → Answered n x → numberOf x ≡ 0 → (l : List NodeRead) × (x ≡ accepted l)
-by-number n x (whole l) z = (l, refl)
-by-number n x short z = absurd (omega arith)
-by-number n x (text k p t i) z = let f : false ≡ true = sym (ap isTextFault z) ∙ t in nope cc
-by-number n x (list k p t) z = let f : false ≡ true = sym (ap isListFault z) ∙ t in nope cc
-
-number-accepted : (room : ℕ) (s : List ℕ) → numberOf (read room s) ≡ 0 → (l : List NodeRead) × (read room s ≡ accepted l)
-unfolding read
-number-accepted room s = go (ltb mostBytes (length s))
-  where
-    go : (b : Bool) → numberOf (cond b (faulty 4 0) (readText room s)) ≡ 0 → (l : List NodeRead) × (cond b (faulty 4 0) (readText room s) ≡ accepted l)
-    go true z = absurd (omega arith)
-    go false z = by-number (length s) (readText room s) (Refusals.answered room s) z
 
 -- DEMAND 3
 module _ (s : List ℕ) (c₀ p₀ : List ℤ) (r : Answer) (c p : List ℤ) (h : ReadsInto (read (roomLength c₀ p₀) s) r c₀ p₀ c p) (z : r .number ≡ 0) where

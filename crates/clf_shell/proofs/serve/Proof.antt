@@ -1,27 +1,29 @@
+-- Each turn answers a line. Assumes nothing.
 use mathlib.Core.Path.{_≡_}
-use Prim.Native.Nat.{_+_, _-_, _≤_}
 use lib.ListN.{length}
 use borrow.Author.Needs.{needs}
 use Rattle.clf_shell.proofs.serve.Statement.{statement}
 use Rattle.clf_shell.proofs.serve.Tie as tie
 
 abbrev Inv-loop : tie.InvT-loop
-Inv-loop buffer₀ coefficients₀ powers₀ input₀ turns₀ buffer coefficients powers input turns = (length buffer ≡ length buffer₀) × (length coefficients ≡ length coefficients₀) × (length powers ≡ length powers₀)
+Inv-loop buffer₀ coefficients₀ powers₀ state₀ line₀ turns₀ buffer coefficients powers state line turns =
+    (length buffer ≡ length buffer₀) × (length coefficients ≡ length coefficients₀) × (length powers ≡ length powers₀)
 
 abbrev μ-loop : tie.MeasureT-loop
-μ-loop buffer₀ coefficients₀ powers₀ input₀ turns₀ buffer coefficients powers input turns = turns
+μ-loop buffer₀ coefficients₀ powers₀ state₀ line₀ turns₀ buffer coefficients powers state line turns =
+    turns
 
-fresh-requires : tie.Need-fresh-requires Inv-loop μ-loop
-fresh-requires c κs = search needs
+empty-requires : tie.Need-empty-requires Inv-loop μ-loop
+empty-requires c κs = search needs
+
+last-line-requires : tie.Need-last-line-requires Inv-loop μ-loop
+last-line-requires c κs = search needs
 
 loop-holds : tie.Need-loop-holds Inv-loop μ-loop
 loop-holds c = search needs
 
-read-more-requires : tie.Need-read-more-requires Inv-loop μ-loop
-read-more-requires c κs = search needs
-
-last-line-requires : tie.Need-last-line-requires Inv-loop μ-loop
-last-line-requires c κs = search needs
+next-line-requires : tie.Need-next-line-requires Inv-loop μ-loop
+next-line-requires c κs = search needs
 
 same-length : tie.Need-same-length Inv-loop μ-loop
 same-length c = search needs
@@ -35,8 +37,8 @@ same-length-3 c = search needs
 returns : tie.Need-returns Inv-loop μ-loop
 returns c = search needs
 
-whole-lines-requires : tie.Need-whole-lines-requires Inv-loop μ-loop
-whole-lines-requires c κs = search needs
+answered-requires : tie.Need-answered-requires Inv-loop μ-loop
+answered-requires c κs = search needs
 
 sub-turns : tie.Need-sub-turns Inv-loop μ-loop
 sub-turns c = search needs
@@ -65,15 +67,15 @@ serve-spec =
     (tie.spec
     Inv-loop
     μ-loop
-    fresh-requires
-    loop-holds
-    read-more-requires
+    empty-requires
     last-line-requires
+    loop-holds
+    next-line-requires
     same-length
     same-length-2
     same-length-3
     returns
-    whole-lines-requires
+    answered-requires
     sub-turns
     loop-less
     loop-again

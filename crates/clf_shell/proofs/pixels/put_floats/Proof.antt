@@ -15,9 +15,6 @@ abbrev μ-loop : tie.MeasureT-loop
 loop-holds : tie.Need-loop-holds Inv-loop μ-loop
 loop-holds c = search needs
 
-put-byte-requires : tie.Need-put-byte-requires Inv-loop μ-loop
-put-byte-requires c κs = search needs
-
 mul-put-float : tie.Need-mul-put-float Inv-loop μ-loop
 mul-put-float c = search needs
 
@@ -49,7 +46,6 @@ put-floats-spec =
     Inv-loop
     μ-loop
     loop-holds
-    put-byte-requires
     mul-put-float
     shared-slice-read-put-float
     put-float-requires

@@ -11,9 +11,6 @@ Inv-loop buffer₀ at list count held₀ k₀ buffer held k = length buffer ≡ 
 abbrev μ-loop : tie.MeasureT-loop
 μ-loop buffer₀ at list count held₀ k₀ buffer held k = count - k
 
-put-number-requires : tie.Need-put-number-requires Inv-loop μ-loop
-put-number-requires c κs = search needs
-
 loop-holds : tie.Need-loop-holds Inv-loop μ-loop
 loop-holds c = search needs
 
@@ -44,7 +41,6 @@ put-nodes-spec =
     (tie.spec
     Inv-loop
     μ-loop
-    put-number-requires
     loop-holds
     get-requires
     put-node-requires

@@ -1,0 +1,54 @@
+-- `put_decimal` meets its contract. Assumes nothing.
+use mir.ValLaws.{toZ-ofZ}
+use mir.Val.{SFits}
+use mir.Syntax.{w8, w64}
+use mathlib.Core.Path.{_∙_}
+use Rattle.shell_text.proofs.Laws.{puts-by}
+use Rattle.shell_text.specs.Show.{decimalText}
+use Rattle.decimal_write.specs.Written.{whole}
+use Rattle.text_out.proofs.Laws.{puts-then}
+use mathlib.Core.List.{_++_}
+use mathlib.Core.Path.{sym}
+use borrow.Author.Needs.{needs}
+use Rattle.shell_text.proofs.show.put_decimal.Statement.{statement}
+use Rattle.shell_text.proofs.show.put_decimal.Tie as tie
+
+put-whole-requires : tie.Need-put-whole-requires
+put-whole-requires c κs = search needs
+
+slice-aggregate-put : tie.Need-slice-aggregate-put
+slice-aggregate-put c = search needs
+
+put-requires : tie.Need-put-requires
+put-requires c κs = search needs
+
+wide-requires : tie.Need-wide-requires
+wide-requires c κs = search needs
+
+put-whole-requires-2 : tie.Need-put-whole-requires-2
+put-whole-requires-2 c κs = search needs
+
+same-length : tie.Need-same-length
+same-length c = search needs
+
+returns : tie.Need-returns
+unfolding decimalText
+returns c =
+    let z = c .before .before .before .before .before .before .before .before .before .before .before .before .before .before .before .args .coefficient in
+    let f : SFits w64 z = search needs in
+    let h : SFits w8 (c .before .before .before .before .before .before .before .before .before .before .before .before .before .before .before .args .power) = search needs in
+    let g : SFits w64 (c .before .before .before .wide .result) = search needs in
+    let p8 = toZ-ofZ w64 (c .before .before .before .wide .result) g ∙ c .before .before .before .wide .ensures ∙ toZ-ofZ w8 (c .before .before .before .before .before .before .before .before .before .before .before .before .before .before .before .args .power) h in
+    puts-then (puts-by (λ z t. whole z ++ t) (sym (toZ-ofZ w64 z f)) (c .before .before .before .before .before .before .before .before .before .before .before .before .put-whole .ensures)) (puts-then (c .before .before .before .before .before .before .before .put .ensures) (puts-by (λ z t. whole z ++ t) (sym p8) (c .before .before .put-whole2 .ensures)))
+
+pub put-decimal-spec : {M : Type 1} → statement M
+put-decimal-spec =
+    tie.close
+    (tie.spec
+    put-whole-requires
+    slice-aggregate-put
+    put-requires
+    wide-requires
+    put-whole-requires-2
+    same-length
+    returns)

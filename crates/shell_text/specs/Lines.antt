@@ -1,0 +1,29 @@
+-- What a command line is (tests/PROTOCOL.md). Definitions only.
+use mathlib.Core.Bool.{Bool, true, false, cond, _&&_, _||_}
+use mathlib.Core.List.{List, [], _∷_}
+use Prim.Native.Nat.{ℕ, _+_}
+use lib.Dec.{eqb, ltb}
+use Rattle.fields.specs.declared.Parsed.{Parsed}
+use Rattle.fields.specs.declared.Parsed.the-variants.{Malformed}
+use Rattle.fields.specs.Fields.{fieldFrom, numberOf}
+use Rattle.tags.specs.Code.{partIn}
+use Rattle.shell_text.specs.Hex.{isLast}
+
+-- the command X (88), alone or with a space (32) behind it
+unfoldable pub isRun : List ℕ → Bool
+isRun [] = false
+isRun (x ∷ []) = eqb x 88
+isRun (x ∷ (b ∷ l)) = eqb x 88 && eqb b 32
+
+-- 'so is a `W` whose text .. is no longer than its OUTLEN may be': refused with 17 for less room than was asked for
+unfoldable pub isTooLong : ℕ → ℕ → ℕ → Bool
+isTooLong number room length = eqb number 17 && ltb room length
+
+-- the number in the last field from `at` on
+unfoldable pub lastNumber : List ℕ → ℕ → Parsed
+lastNumber s at = cond (isLast s at) (numberOf (partIn s (fieldFrom s at .start) (fieldFrom s at .end))) Malformed
+
+-- the place of the first line feed (10) of l, which stands from `at` on, or its end
+unfoldable pub lineEnd : ℕ → List ℕ → ℕ
+lineEnd at [] = at
+lineEnd at (b ∷ l) = cond (eqb b 10) at (lineEnd (at + 1) l)

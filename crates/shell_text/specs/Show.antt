@@ -1,0 +1,43 @@
+-- The pieces of an answer (tests/PROTOCOL.md): `NUM PLACE`; of STATE a node, `;KIND,IN,OUT,STYLE,SHAPE,AT`, and a number, `coefficient:power`. Definitions only.
+-- Each text is written in front of what follows it: `nodeText n t` is the text of the node n, then t.
+use mathlib.Core.Bool.{Bool, cond}
+use mathlib.Core.List.{List, _++_}
+use Prim.Native.Nat.{ℕ}
+use lib.IntN.{ℤ}
+use Rattle.decimal_write.specs.Written.{digits, whole}
+use Rattle.process_list.specs.declared.Depth.{Depth}
+use Rattle.process_list.specs.declared.Kind.{Kind}
+use Rattle.process_list.specs.declared.Kind.the-variants.{Matrix, Lut1d, Range, Cdl}
+use Rattle.process_list.specs.declared.Node.{Node}
+use Rattle.xml.specs.Bytes.{bytes}
+use Rattle.written_form.specs.Written.{depthText, nameText}
+
+-- `NUM PLACE`
+unfoldable pub answerText : ℕ → ℕ → List ℕ → List ℕ
+answerText number place t = digits number ++ (bytes " " ++ (digits place ++ t))
+
+-- `,IN,OUT,`
+unfoldable pub depthsText : Depth → Depth → List ℕ → List ℕ
+depthsText input output t = bytes "," ++ (depthText input ++ (bytes "," ++ (depthText output ++ (bytes "," ++ t))))
+
+unfoldable pub oneOf : Bool → List ℕ → List ℕ → List ℕ
+oneOf first this other = cond first this other
+
+-- `STYLE,SHAPE` of a table of so many entries and columns: 'style `-` for Matrix and LUT1D', shape as `65x3`
+unfoldable pub tableText : ℕ → ℕ → List ℕ → List ℕ
+tableText entries columns t = bytes "-," ++ (digits entries ++ (bytes "x" ++ (digits columns ++ t)))
+
+-- `STYLE,SHAPE`: 'shape `3x3`, `3x4`, `65x3`, and `-` for Range and ASC_CDL'
+unfoldable pub formText : Kind → List ℕ → List ℕ
+formText (Matrix wide) t = oneOf wide (bytes "-,3x4") (bytes "-,3x3") ++ t
+formText (Lut1d entries columns) t = tableText entries columns t
+formText (Range clamp) t = oneOf clamp (bytes "Clamp,-") (bytes "noClamp,-") ++ t
+formText (Cdl clamp) t = oneOf clamp (bytes "Fwd,-") (bytes "FwdNoClamp,-") ++ t
+
+-- `;KIND,IN,OUT,STYLE,SHAPE,AT`: 'AT the index of its first number'
+unfoldable pub nodeText : Node → List ℕ → List ℕ
+nodeText n t = bytes ";" ++ (nameText (n .kind) ++ depthsText (n .input) (n .output) (formText (n .kind) (bytes "," ++ (digits (n .at) ++ t))))
+
+-- `coefficient:power`
+unfoldable pub decimalText : ℤ → ℤ → List ℕ → List ℕ
+decimalText coefficient power t = whole coefficient ++ (bytes ":" ++ (whole power ++ t))
