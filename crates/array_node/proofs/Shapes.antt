@@ -15,6 +15,8 @@ use Rattle.process_list.specs.declared.Kind.the-variants.{Matrix, Lut1d}
 use Rattle.process_list.specs.List.{numbersOf, capped}
 use Rattle.clf.specs.Nodes.{matrixShape, lutShape, lutColumns, beginsWithZero, wholeFrom, behindDigits}
 use Rattle.array_node.specs.Code.{shapeOf}
+use Rattle.array_node.specs.declared.TableKind.{TableKind}
+use Rattle.array_node.specs.declared.TableKind.the-variants as Tables
 
 few : (k : Kind) → numbersOf k ≤ 262144 → capped (numbersOf k) ≡ numbersOf k
 unfolding capped
@@ -68,6 +70,6 @@ lut1d t k q = go (beginsWithZero t) (leb 2 n) (leb n 65536) (ltb 0 c) refl q
     go false true true true e q = let z : k ≡ Lut1d n c = cc in rw z (table n c (leb-true n 65536 e) (columns (behindDigits t)))
 
 -- as many numbers as the code counts
-pub kind-numbers : (lut : Bool) (t : List ℕ) (k : Kind) → some k ≡ shapeOf lut t → capped (numbersOf k) ≡ numbersOf k
-kind-numbers true t k q = few k (lut1d t k q)
-kind-numbers false t k q = few k (matrix t k q)
+pub kind-numbers : (table : TableKind) (t : List ℕ) (k : Kind) → some k ≡ shapeOf table t → capped (numbersOf k) ≡ numbersOf k
+kind-numbers Tables.Lut1d t k q = few k (lut1d t k q)
+kind-numbers Tables.Matrix t k q = few k (matrix t k q)

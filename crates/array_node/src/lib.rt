@@ -2,8 +2,6 @@
 ghost use mathlib.Core.Path.{_≡_};
 ghost use mathlib.Core.Bool.{cond};
 ghost use Prim.Native.Nat.{_+_, _≤_};
-ghost use lib.IntN.{ℤ};
-ghost use mathlib.Core.List.{List};
 ghost use lib.ListN.{length};
 ghost use Rattle.xml.specs.Bytes.{bytes};
 ghost use Rattle.xml.specs.Xml.{textOf, endTag};
@@ -12,11 +10,11 @@ ghost use Rattle.xml.specs.Code.{Reads, noValue};
 ghost use Rattle.clf.specs.Nodes as Nodes;
 ghost use Rattle.tags.specs.Rules.{rulesOf};
 ghost use Rattle.tags.specs.Code.{attributesOf};
-ghost use Rattle.node_parts.specs.Code.{NodeReads, LaidSome};
+ghost use Rattle.room.specs.Room.{Room, lent};
+ghost use Rattle.node_parts.specs.Code.{NodeReads};
 ghost use Rattle.node_parts.specs.Held.{Goes, ReadsTo};
 ghost use Rattle.array_node.specs.Code as Code;
 use markup::Lead;
-use node_parts::About;
 use node_parts::NodeStep;
 use process_list::Kind;
 use tags::Seen;
@@ -25,10 +23,15 @@ use tags::TagKind;
 use values::Rule;
 use xml::Scan;
 
-// The content of a Matrix or LUT1D so far: its Description, and its Array's shape, if the Array was there.
+// The two nodes that hold an Array.
+pub enum TableKind {
+    Matrix,
+    Lut1d,
+}
+
+// The content of a Matrix or LUT1D so far: its Array's shape, if the Array was there.
 pub struct ArrayStep {
     pub scan: Scan,
-    pub about: About,
     pub found: bool,
     pub kind: Kind,
 }
@@ -67,26 +70,26 @@ fn lut_kind(text: &[u8]) -> KindRead
 }
 
 // The shape that an Array's tag says.
-fn kind_of(s: &[u8], seen: Seen, lut: bool) -> KindRead
-    ensures { λ r. ⌜ Code.kindRead r ≡ Code.shapeOf lut (textOf (bytes "dim") (attributesOf (now (s .entry)) seen)) ⌝ }
+fn kind_of(s: &[u8], seen: Seen, table: TableKind) -> KindRead
+    ensures { λ r. ⌜ Code.kindRead r ≡ Code.shapeOf table (textOf (bytes "dim") (attributesOf (now (s .entry)) seen)) ⌝ }
 {
     let span = tags::text_of(s, seen, b"dim");
     let a = span.start;
     let e = span.end;
     let text = tags::part(s, a, e);
-    if lut {
-        return lut_kind(text);
+    match table {
+        TableKind::Matrix => matrix_kind(text),
+        TableKind::Lut1d => lut_kind(text),
     }
-    matrix_kind(text)
 }
 
-fn array_tag(lut: bool) -> TagKind
-    ensures { λ r. ⌜ rulesOf r ≡ Nodes.arrayRules (Code.shapeOf lut) ⌝ }
+fn array_tag(table: TableKind) -> TagKind
+    ensures { λ r. ⌜ rulesOf r ≡ Nodes.arrayRules (Code.shapeOf table) ⌝ }
 {
-    if lut {
-        return TagKind::Lut1dArray;
+    match table {
+        TableKind::Matrix => TagKind::MatrixArray,
+        TableKind::Lut1d => TagKind::Lut1dArray,
     }
-    TagKind::MatrixArray
 }
 
 fn no_table(scan: Scan) -> TableStep
@@ -102,21 +105,21 @@ fn no_table(scan: Scan) -> TableStep
 fn array(
     s: &[u8],
     at: usize,
-    lut: bool,
+    table: TableKind,
     coefficients: &mut [i64],
     powers: &mut [i8],
     base: usize,
 ) -> TableStep
-    ensures { λ r. ⌜ ReadsTo ((Nodes.array (Code.shapeOf lut)) .run) (now (s .entry)) at (r .scan) (Code.TableIn base (now (coefficients .entry)) (now (powers .entry)) (now (coefficients .exit)) (now (powers .exit)) (r .kind)) (LaidSome base (now (coefficients .entry)) (now (powers .entry)) (now (coefficients .exit)) (now (powers .exit))) ⌝ }
+    ensures { λ r. ⌜ ReadsTo ((Nodes.array (Code.shapeOf table)) .run) (now (s .entry)) at (r .scan) (Code.TableIn base (lent (now (coefficients .entry)) (now (powers .entry))) (lent (now (coefficients .exit)) (now (powers .exit))) (r .kind)) (Code.SameCleared base (lent (now (coefficients .entry)) (now (powers .entry))) (lent (now (coefficients .exit)) (now (powers .exit)))) ⌝ }
 {
-    let tag = tags::start_tag(s, at, array_tag(lut));
+    let tag = tags::start_tag(s, at, array_tag(table));
     let end = tag.end;
     let seen = tag.seen;
     let r = tags::behind(end);
     let Scan::At(q) = r else {
         return no_table(r);
     };
-    let k = kind_of(s, seen, lut);
+    let k = kind_of(s, seen, table);
     match k {
         KindRead::Is(kind) => {
             let n = process_list::numbers_of(kind);
@@ -128,17 +131,25 @@ fn array(
 }
 
 // The state with an Array.
-fn with_table(about: About, table: TableStep) -> ArrayStep
-    ensures { λ r. ⌜ r ≡ Code.withTable about table ⌝ }
+fn with_table(table: TableStep) -> ArrayStep
+    ensures { λ r. ⌜ r ≡ Code.withTable table ⌝ }
 {
     let scan = table.scan;
     let kind = table.kind;
     ArrayStep {
         scan,
-        about,
         found: true,
         kind,
     }
+}
+
+// The state with another answer.
+fn array_with(state: ArrayStep, scan: Scan) -> ArrayStep
+    ensures { λ r. ⌜ r ≡ Code.withScan state scan ⌝ }
+{
+    let found = state.found;
+    let kind = state.kind;
+    ArrayStep { scan, found, kind }
 }
 
 // A child of a Matrix or LUT1D: its `<` stands at `at`, and its name ends at e.
@@ -146,48 +157,27 @@ fn array_child(
     s: &[u8],
     at: usize,
     e: usize,
-    lut: bool,
+    table: TableKind,
     state: ArrayStep,
     coefficients: &mut [i64],
     powers: &mut [i8],
     base: usize,
 ) -> ArrayStep
     requires { ⌜ (at + 2 ≤ e) × (e ≤ length (now s)) ⌝ }
-    ensures { λ r. ⌜ ((c₀ p₀ : List ℤ) (st : Nodes.ArrayState) → Code.ArrayStands (now (s .entry)) base c₀ p₀ (now (coefficients .entry)) (now (powers .entry)) state st → Goes (Code.holderOf lut) st (now (s .entry)) at e (r .scan) (Code.ArrayStands (now (s .entry)) base c₀ p₀ (now (coefficients .exit)) (now (powers .exit)) r) (LaidSome base c₀ p₀ (now (coefficients .exit)) (now (powers .exit)))) ⌝ }
+    ensures { λ r. ⌜ ((m₀ : Room) (st : Nodes.ArrayState) → Code.ArrayStands base m₀ (lent (now (coefficients .entry)) (now (powers .entry))) state st → Goes (Code.holderOf table) st (now (s .entry)) at e (r .scan) (Code.ArrayStands base m₀ (lent (now (coefficients .exit)) (now (powers .exit))) r) (Code.SameCleared base m₀ (lent (now (coefficients .exit)) (now (powers .exit))))) ⌝ }
 {
-    let about = state.about;
-    let kind = state.kind;
     let found = state.found;
     let w = tags::part(s, at + 1, e);
     if found {
-        return ArrayStep {
-            scan: Scan::Fault(5, at),
-            about,
-            found,
-            kind,
-        };
+        return array_with(state, Scan::Fault(5, at));
     }
     if xml::same(w, b"Array") {
-        let t = array(s, e, lut, coefficients, powers, base);
-        return with_table(about, t);
+        return with_table(array(s, e, table, coefficients, powers, base));
     }
     if xml::same(w, b"Description") {
-        let t = info::text_element(s, e, w);
-        let more = node_parts::with_about(about, t.start, t.end);
-        let scan = t.scan;
-        return ArrayStep {
-            scan,
-            about: more,
-            found,
-            kind,
-        };
+        return array_with(state, info::text_element(s, e, w));
     }
-    ArrayStep {
-        scan: Scan::Fault(5, at),
-        about,
-        found,
-        kind,
-    }
+    array_with(state, Scan::Fault(5, at))
 }
 
 fn array_missing(found: bool) -> u8
@@ -200,26 +190,12 @@ fn array_missing(found: bool) -> u8
 }
 
 // The end tag of a Matrix or LUT1D.
-fn node_end(s: &[u8], at: usize, lut: bool, missing: u8) -> Scan
-    ensures { λ r. ⌜ Reads 1 ((endTag (Code.nameOf lut) missing) .run) noValue (now (s .entry)) at r ⌝ }
+fn node_end(s: &[u8], at: usize, table: TableKind, missing: u8) -> Scan
+    ensures { λ r. ⌜ Reads 1 ((endTag (Code.nameOf table) missing) .run) noValue (now (s .entry)) at r ⌝ }
 {
-    if lut {
-        return markup::end_tag(s, at, b"LUT1D", missing);
-    }
-    markup::end_tag(s, at, b"Matrix", missing)
-}
-
-// The state with another answer.
-fn array_with(state: ArrayStep, scan: Scan) -> ArrayStep
-    ensures { λ r. ⌜ r ≡ Code.withScan state scan ⌝ }
-{
-    let about = state.about;
-    let kind = state.kind;
-    ArrayStep {
-        scan,
-        about,
-        found: state.found,
-        kind,
+    match table {
+        TableKind::Matrix => markup::end_tag(s, at, b"Matrix", missing),
+        TableKind::Lut1d => markup::end_tag(s, at, b"LUT1D", missing),
     }
 }
 
@@ -228,7 +204,6 @@ fn no_array(at: usize) -> ArrayStep
 {
     ArrayStep {
         scan: Scan::At(at),
-        about: node_parts::no_about(),
         found: false,
         kind: Kind::Matrix { wide: false },
     }
@@ -238,12 +213,12 @@ fn no_array(at: usize) -> ArrayStep
 fn array_content(
     s: &[u8],
     at: usize,
-    lut: bool,
+    table: TableKind,
     coefficients: &mut [i64],
     powers: &mut [i8],
     base: usize,
 ) -> ArrayStep
-    ensures { λ r. ⌜ ReadsTo ((held (Code.holderOf lut) Nodes.noArray) .run) (now (s .entry)) at (r .scan) (Code.ArrayWhole (now (s .entry)) base (now (coefficients .entry)) (now (powers .entry)) (now (coefficients .exit)) (now (powers .exit)) r) (LaidSome base (now (coefficients .entry)) (now (powers .entry)) (now (coefficients .exit)) (now (powers .exit))) ⌝ }
+    ensures { λ r. ⌜ ReadsTo ((held (Code.holderOf table) Nodes.noArray) .run) (now (s .entry)) at (r .scan) (Code.ArrayWhole base (lent (now (coefficients .entry)) (now (powers .entry))) (lent (now (coefficients .exit)) (now (powers .exit))) r) (Code.SameCleared base (lent (now (coefficients .entry)) (now (powers .entry))) (lent (now (coefficients .exit)) (now (powers .exit)))) ⌝ }
 {
     let mut state = no_array(at);
     let mut i = at;
@@ -254,7 +229,7 @@ fn array_content(
                 i = e;
             }
             Lead::Open(e) => {
-                state = array_child(s, i, e, lut, state, coefficients, powers, base);
+                state = array_child(s, i, e, table, state, coefficients, powers, base);
                 let r = state.scan;
                 let Scan::At(q) = r else {
                     return state;
@@ -262,7 +237,7 @@ fn array_content(
                 i = q;
             }
             Lead::End => {
-                let r = node_end(s, i, lut, array_missing(state.found));
+                let r = node_end(s, i, table, array_missing(state.found));
                 return array_with(state, r);
             }
             Lead::Fault(k, p) => {
@@ -276,36 +251,38 @@ fn array_content(
     array_with(state, Scan::Cut)
 }
 
-fn node_tag(lut: bool) -> TagKind
-    ensures { λ r. ⌜ rulesOf r ≡ Nodes.nodeRules (Code.namesOf lut) (Code.textsOf lut) ⌝ }
+fn node_tag(table: TableKind) -> TagKind
+    ensures { λ r. ⌜ rulesOf r ≡ Nodes.nodeRules (Code.namesOf table) (Code.textsOf table) ⌝ }
 {
-    if lut {
-        return TagKind::Lut1d;
+    match table {
+        TableKind::Matrix => TagKind::Matrix,
+        TableKind::Lut1d => TagKind::Lut1d,
     }
-    TagKind::Matrix
 }
 
-// A LUT1D or a Matrix, behind its name.
+// A Matrix or a LUT1D, behind its name.
 pub fn table_node(
     s: &[u8],
     at: usize,
-    lut: bool,
+    table: TableKind,
     coefficients: &mut [i64],
     powers: &mut [i8],
     base: usize,
 ) -> NodeStep
-    ensures { λ r. ⌜ NodeReads ((cond lut Nodes.lut1d Nodes.matrix) .run) (now (s .entry)) at base r (now (coefficients .entry)) (now (powers .entry)) (now (coefficients .exit)) (now (powers .exit)) ⌝ }
+    ensures { λ r. ⌜ NodeReads ((Code.nodeFor table) .run) (now (s .entry)) at base r (lent (now (coefficients .entry)) (now (powers .entry))) (lent (now (coefficients .exit)) (now (powers .exit))) ⌝ }
 {
-    let tag = tags::start_tag(s, at, node_tag(lut));
+    let tag = tags::start_tag(s, at, node_tag(table));
     let end = tag.end;
     let seen = tag.seen;
     let r = tags::behind(end);
     let Scan::At(q) = r else {
-        return node_parts::no_node(r);
+        return node_parts::failed(r, coefficients, powers, base);
     };
-    let c = array_content(s, q, lut, coefficients, powers, base);
+    let c = array_content(s, q, table, coefficients, powers, base);
     let scan = c.scan;
+    let Scan::At(e) = scan else {
+        return node_parts::failed(scan, coefficients, powers, base);
+    };
     let kind = c.kind;
-    let about = c.about;
-    node_parts::finished(s, seen, scan, kind, about)
+    node_parts::finished(s, seen, scan, kind)
 }

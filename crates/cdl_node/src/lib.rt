@@ -4,20 +4,20 @@ ghost use mathlib.Core.Bool.{cond, _||_};
 ghost use mathlib.Core.List.{List, []};
 ghost use Prim.Native.Nat.{_+_, _≤_};
 ghost use lib.Dec.{ltb};
-ghost use lib.IntN.{ℤ};
 ghost use lib.ListN.{length};
 ghost use Rattle.decimal.specs.declared.Decimal as Decimals;
 ghost use Rattle.xml.specs.Bytes.{same};
 ghost use Rattle.xml.specs.Xml.{endTag};
 ghost use Rattle.xml.specs.Elements.{held};
 ghost use Rattle.xml.specs.Code.{Reads, noValue};
+ghost use Rattle.room.specs.Room as Room;
+ghost use Rattle.room.specs.Room.{lent};
 ghost use Rattle.values.specs.Code.{ruleOf};
 ghost use Rattle.clf.specs.Nodes as Nodes;
-ghost use Rattle.node_parts.specs.Code.{NodeReads, NumbersIn};
+ghost use Rattle.node_parts.specs.Code.{NodeReads, NumbersIn, smallNumbers};
 ghost use Rattle.node_parts.specs.Held.{Goes, ReadsTo};
 ghost use Rattle.cdl_node.specs.Code as Code;
 use markup::Lead;
-use node_parts::About;
 use node_parts::NodeStep;
 use process_list::Kind;
 use tags::TagEnd;
@@ -25,10 +25,15 @@ use tags::TagKind;
 use values::Rule;
 use xml::Scan;
 
-// The content of an ASC_CDL so far: its Description, and whether its SOPNode and SatNode were there.
+// The part of an ASC_CDL that is read: its SOPNode or its SatNode.
+enum CdlPart {
+    Sop,
+    Sat,
+}
+
+// The content of an ASC_CDL so far: whether its SOPNode and SatNode were there.
 pub struct CdlStep {
     pub scan: Scan,
-    pub about: About,
     pub sop: bool,
     pub sat: bool,
 }
@@ -49,125 +54,131 @@ fn is_next_sop(w: &[u8], count: usize) -> bool
     w.len() == 0
 }
 
-// What is wrong with the name of an element in a SatNode or a SOPNode, after `count` numbers.
-fn inner_fault(w: &[u8], sat: bool, count: usize) -> u8
-    ensures { λ r. ⌜ r ≡ Code.faultOf sat count (now (w .entry)) ⌝ }
+// What is wrong with the name of an element in a part, after `count` numbers.
+fn inner_fault(w: &[u8], part: CdlPart, count: usize) -> u8
+    ensures { λ r. ⌜ r ≡ Code.faultOf part count (now (w .entry)) ⌝ }
 {
-    if sat {
-        if 1 <= count {
-            return 5;
+    match part {
+        CdlPart::Sop => {
+            if is_next_sop(w, count) {
+                return 0;
+            }
+            5
         }
-        if xml::same(w, b"Saturation") {
-            return 0;
+        CdlPart::Sat => {
+            if 1 <= count {
+                return 5;
+            }
+            if xml::same(w, b"Saturation") {
+                return 0;
+            }
+            5
         }
-        return 5;
     }
-    if is_next_sop(w, count) {
-        return 0;
-    }
-    5
 }
 
 // The rule on the numbers of that element.
-fn inner_rule(sat: bool, count: usize) -> Rule
-    ensures { λ r. ⌜ ruleOf r ≡ Code.rulesIn sat count ⌝ }
+fn inner_rule(part: CdlPart, count: usize) -> Rule
+    ensures { λ r. ⌜ ruleOf r ≡ Code.rulesIn part count ⌝ }
 {
-    if sat {
-        return Rule::NotNegative;
+    match part {
+        CdlPart::Sop => {
+            if count == 0 {
+                return Rule::NotNegative;
+            }
+            if count == 3 {
+                return Rule::Any;
+            }
+            Rule::One
+        }
+        CdlPart::Sat => Rule::NotNegative,
     }
-    if count == 0 {
-        return Rule::NotNegative;
-    }
-    if count == 3 {
-        return Rule::Any;
-    }
-    Rule::One
 }
 
 // How many numbers that element has.
-fn inner_width(sat: bool) -> usize
-    ensures { λ r. ⌜ r ≡ Code.widthOf sat ⌝ }
+fn inner_width(part: CdlPart) -> usize
+    ensures { λ r. ⌜ r ≡ Code.widthOf part ⌝ }
 {
-    if sat {
-        return 1;
+    match part {
+        CdlPart::Sop => 3,
+        CdlPart::Sat => 1,
     }
-    3
 }
 
-// How many numbers a SatNode or a SOPNode has.
-fn inner_top(sat: bool) -> usize
-    ensures { λ r. ⌜ r ≡ Code.topOf sat ⌝ }
+// How many numbers the part has.
+fn inner_top(part: CdlPart) -> usize
+    ensures { λ r. ⌜ r ≡ Code.topOf part ⌝ }
 {
-    if sat {
-        return 1;
+    match part {
+        CdlPart::Sop => 9,
+        CdlPart::Sat => 1,
     }
-    9
 }
 
 // Where the first of them stands in a small room.
-fn inner_base(sat: bool) -> usize
-    ensures { λ r. ⌜ r ≡ Code.baseOf sat ⌝ }
+fn inner_base(part: CdlPart) -> usize
+    ensures { λ r. ⌜ r ≡ Code.baseOf part ⌝ }
 {
-    if sat {
-        return 9;
+    match part {
+        CdlPart::Sop => 0,
+        CdlPart::Sat => 9,
     }
-    0
 }
 
-fn inner_missing(sat: bool, count: usize) -> u8
-    ensures { λ r. ⌜ r ≡ cond (ltb count (Code.topOf sat)) 5 0 ⌝ }
+fn inner_missing(part: CdlPart, count: usize) -> u8
+    ensures { λ r. ⌜ r ≡ cond (ltb count (Code.topOf part)) 5 0 ⌝ }
 {
-    if count < inner_top(sat) {
+    if count < inner_top(part) {
         return 5;
     }
     0
 }
 
-// An element in a SatNode or a SOPNode after `count` numbers: its `<` stands at `at`, and its name ends at e.
+// An element in a part after `count` numbers: its `<` stands at `at`, and its name ends at e.
 fn inner_child(
     s: &[u8],
     at: usize,
     e: usize,
-    sat: bool,
+    part: CdlPart,
     count: usize,
     coefficients: &mut [i64],
     powers: &mut [i8],
 ) -> Scan
     requires { ⌜ (at + 2 ≤ e) × (e ≤ length (now s)) × (count ≤ 9) ⌝ }
-    ensures { λ r. ⌜ ((c₀ p₀ : List ℤ) (l : List Decimals.Decimal) → Code.InnerStands sat c₀ p₀ (now (coefficients .entry)) (now (powers .entry)) count l → Goes (Code.innerHolder sat) l (now (s .entry)) at e r (Code.InnerStands sat c₀ p₀ (now (coefficients .exit)) (now (powers .exit)) (count + Code.widthOf sat)) (Unit {0})) ⌝ }
+    ensures { λ r. ⌜ ((m₀ : Room.Room) (l : List Decimals.Decimal) → Code.InnerStands part m₀ (lent (now (coefficients .entry)) (now (powers .entry))) count l → Goes (Code.innerHolder part) l (now (s .entry)) at e r (Code.InnerStands part m₀ (lent (now (coefficients .exit)) (now (powers .exit))) (count + Code.widthOf part)) (Unit {0})) ⌝ }
 {
     let w = tags::part(s, at + 1, e);
-    let k = inner_fault(w, sat, count);
+    let k = inner_fault(w, part, count);
     if k != 0 {
         return Scan::Fault(k, at);
     }
-    let n = inner_width(sat);
-    let rule = inner_rule(sat, count);
-    let base = inner_base(sat) + count;
+    let n = inner_width(part);
+    let rule = inner_rule(part, count);
+    let base = inner_base(part) + count;
     values::value_element(s, e, w, n, rule, coefficients, powers, base)
 }
 
-// The end tag of a SatNode or a SOPNode.
-fn inner_end(s: &[u8], at: usize, sat: bool, missing: u8) -> Scan
-    ensures { λ r. ⌜ Reads 1 ((endTag (Code.nameOf sat) missing) .run) noValue (now (s .entry)) at r ⌝ }
+// The end tag of a part.
+fn inner_end(s: &[u8], at: usize, part: CdlPart, missing: u8) -> Scan
+    ensures { λ r. ⌜ Reads 1 ((endTag (Code.nameOf part) missing) .run) noValue (now (s .entry)) at r ⌝ }
 {
-    if sat {
-        return markup::end_tag(s, at, b"SatNode", missing);
+    match part {
+        CdlPart::Sop => markup::end_tag(s, at, b"SOPNode", missing),
+        CdlPart::Sat => markup::end_tag(s, at, b"SatNode", missing),
     }
-    markup::end_tag(s, at, b"SOPNode", missing)
 }
 
-// The content of a SatNode or a SOPNode, and its end tag. Its numbers go into a small room.
+// The content of a part, and its end tag. Its numbers go into a small room.
 fn inner_content(
     s: &[u8],
     at: usize,
-    sat: bool,
+    part: CdlPart,
     coefficients: &mut [i64],
     powers: &mut [i8],
 ) -> Scan
-    ensures { λ r. ⌜ ReadsTo ((held (Code.innerHolder sat) []) .run) (now (s .entry)) at r (NumbersIn (Code.topOf sat) (Code.baseOf sat) (now (coefficients .entry)) (now (powers .entry)) (now (coefficients .exit)) (now (powers .exit))) (Unit {0}) ⌝ }
+    ensures { λ r. ⌜ ReadsTo ((held (Code.innerHolder part) []) .run) (now (s .entry)) at r (NumbersIn (Code.topOf part) (Code.baseOf part) (lent (now (coefficients .entry)) (now (powers .entry))) (lent (now (coefficients .exit)) (now (powers .exit)))) (Unit {0}) ⌝ }
 {
-    let width = inner_width(sat);
+    let width = inner_width(part);
     let mut count: usize = 0;
     let mut i = at;
     while i < s.len() {
@@ -177,7 +188,7 @@ fn inner_content(
                 i = e;
             }
             Lead::Open(e) => {
-                let r = inner_child(s, i, e, sat, count, coefficients, powers);
+                let r = inner_child(s, i, e, part, count, coefficients, powers);
                 let Scan::At(q) = r else {
                     return r;
                 };
@@ -185,7 +196,7 @@ fn inner_content(
                 i = q;
             }
             Lead::End => {
-                return inner_end(s, i, sat, inner_missing(sat, count));
+                return inner_end(s, i, part, inner_missing(part, count));
             }
             Lead::Fault(k, p) => {
                 return Scan::Fault(k, p);
@@ -198,9 +209,15 @@ fn inner_content(
     Scan::Cut
 }
 
-// A SatNode or a SOPNode, behind its name.
-fn inner_node(s: &[u8], at: usize, sat: bool, coefficients: &mut [i64], powers: &mut [i8]) -> Scan
-    ensures { λ r. ⌜ ReadsTo ((Code.innerNode sat) .run) (now (s .entry)) at r (NumbersIn (Code.topOf sat) (Code.baseOf sat) (now (coefficients .entry)) (now (powers .entry)) (now (coefficients .exit)) (now (powers .exit))) (Unit {0}) ⌝ }
+// A part, behind its name.
+fn inner_node(
+    s: &[u8],
+    at: usize,
+    part: CdlPart,
+    coefficients: &mut [i64],
+    powers: &mut [i8],
+) -> Scan
+    ensures { λ r. ⌜ ReadsTo ((Code.innerNode part) .run) (now (s .entry)) at r (NumbersIn (Code.topOf part) (Code.baseOf part) (lent (now (coefficients .entry)) (now (powers .entry))) (lent (now (coefficients .exit)) (now (powers .exit)))) (Unit {0}) ⌝ }
 {
     let tag = tags::start_tag(s, at, TagKind::Holder);
     let end = tag.end;
@@ -208,7 +225,7 @@ fn inner_node(s: &[u8], at: usize, sat: bool, coefficients: &mut [i64], powers: 
     let Scan::At(q) = r else {
         return r;
     };
-    inner_content(s, q, sat, coefficients, powers)
+    inner_content(s, q, part, coefficients, powers)
 }
 
 // The fault of what must stand before a SOPNode and a SatNode.
@@ -247,10 +264,8 @@ fn cdl_fault(w: &[u8], sop: bool, sat: bool) -> u8
 fn cdl_with(state: CdlStep, scan: Scan) -> CdlStep
     ensures { λ r. ⌜ r ≡ Code.withScan state scan ⌝ }
 {
-    let about = state.about;
     CdlStep {
         scan,
-        about,
         sop: state.sop,
         sat: state.sat,
     }
@@ -265,38 +280,27 @@ fn cdl_body(
     coefficients: &mut [i64],
     powers: &mut [i8],
 ) -> CdlStep
-    ensures { λ r. ⌜ ((st : Nodes.CdlState) → Code.CdlStands (now (s .entry)) (now (coefficients .entry)) (now (powers .entry)) state st → ReadsTo ((Nodes.cdlBody st (now (w .entry))) .run) (now (s .entry)) at (r .scan) (Code.CdlStands (now (s .entry)) (now (coefficients .exit)) (now (powers .exit)) r) (Unit {0})) ⌝ }
+    ensures { λ r. ⌜ ((st : Nodes.CdlState) → Code.CdlStands (lent (now (coefficients .entry)) (now (powers .entry))) state st → ReadsTo ((Nodes.cdlBody st (now (w .entry))) .run) (now (s .entry)) at (r .scan) (Code.CdlStands (lent (now (coefficients .exit)) (now (powers .exit))) r) (Unit {0})) ⌝ }
 {
-    let about = state.about;
     let sop = state.sop;
     let sat = state.sat;
     if xml::same(w, b"SOPNode") {
-        let scan = inner_node(s, at, false, coefficients, powers);
+        let scan = inner_node(s, at, CdlPart::Sop, coefficients, powers);
         return CdlStep {
             scan,
-            about,
             sop: true,
             sat,
         };
     }
     if xml::same(w, b"SatNode") {
-        let scan = inner_node(s, at, true, coefficients, powers);
+        let scan = inner_node(s, at, CdlPart::Sat, coefficients, powers);
         return CdlStep {
             scan,
-            about,
             sop,
             sat: true,
         };
     }
-    let t = info::text_element(s, at, w);
-    let more = node_parts::with_about(about, t.start, t.end);
-    let scan = t.scan;
-    CdlStep {
-        scan,
-        about: more,
-        sop,
-        sat,
-    }
+    cdl_with(state, info::text_element(s, at, w))
 }
 
 // A child of an ASC_CDL: its `<` stands at `at`, and its name ends at e.
@@ -309,7 +313,7 @@ fn cdl_child(
     powers: &mut [i8],
 ) -> CdlStep
     requires { ⌜ (at + 2 ≤ e) × (e ≤ length (now s)) ⌝ }
-    ensures { λ r. ⌜ ((st : Nodes.CdlState) → Code.CdlStands (now (s .entry)) (now (coefficients .entry)) (now (powers .entry)) state st → Goes Nodes.cdlHolder st (now (s .entry)) at e (r .scan) (Code.CdlStands (now (s .entry)) (now (coefficients .exit)) (now (powers .exit)) r) (Unit {0})) ⌝ }
+    ensures { λ r. ⌜ ((st : Nodes.CdlState) → Code.CdlStands (lent (now (coefficients .entry)) (now (powers .entry))) state st → Goes Nodes.cdlHolder st (now (s .entry)) at e (r .scan) (Code.CdlStands (lent (now (coefficients .exit)) (now (powers .exit))) r) (Unit {0})) ⌝ }
 {
     let w = tags::part(s, at + 1, e);
     let k = cdl_fault(w, state.sop, state.sat);
@@ -324,7 +328,6 @@ fn no_cdl(scan: Scan) -> CdlStep
 {
     CdlStep {
         scan,
-        about: node_parts::no_about(),
         sop: false,
         sat: false,
     }
@@ -332,8 +335,8 @@ fn no_cdl(scan: Scan) -> CdlStep
 
 // The content of an ASC_CDL, and its end tag. Its numbers go into a room of ten, where those of absent parts stand already.
 fn cdl_content(s: &[u8], at: usize, coefficients: &mut [i64], powers: &mut [i8]) -> CdlStep
-    requires { ⌜ (now coefficients ≡ Code.defaults) × (now powers ≡ Code.noPowers) ⌝ }
-    ensures { λ r. ⌜ ReadsTo ((held Nodes.cdlHolder Nodes.noCdl) .run) (now (s .entry)) at (r .scan) (Code.CdlStands (now (s .entry)) (now (coefficients .exit)) (now (powers .exit)) r) (Unit {0}) ⌝ }
+    requires { ⌜ smallNumbers (lent (now coefficients) (now powers)) ≡ Code.absentParts ⌝ }
+    ensures { λ r. ⌜ ReadsTo ((held Nodes.cdlHolder Nodes.noCdl) .run) (now (s .entry)) at (r .scan) (Code.CdlStands (lent (now (coefficients .exit)) (now (powers .exit))) r) (Unit {0}) ⌝ }
 {
     let mut state = no_cdl(Scan::At(at));
     let mut i = at;
@@ -368,8 +371,8 @@ fn cdl_content(s: &[u8], at: usize, coefficients: &mut [i64], powers: &mut [i8])
 
 // What follows the start tag of an ASC_CDL, which may be empty.
 fn cdl_followed(s: &[u8], end: TagEnd, coefficients: &mut [i64], powers: &mut [i8]) -> CdlStep
-    requires { ⌜ (now coefficients ≡ Code.defaults) × (now powers ≡ Code.noPowers) ⌝ }
-    ensures { λ r. ⌜ Code.Followed (now (s .entry)) end (now (coefficients .exit)) (now (powers .exit)) r ⌝ }
+    requires { ⌜ smallNumbers (lent (now coefficients) (now powers)) ≡ Code.absentParts ⌝ }
+    ensures { λ r. ⌜ Code.Followed (now (s .entry)) end (lent (now (coefficients .exit)) (now (powers .exit))) r ⌝ }
 {
     match end {
         TagEnd::Open(q) => cdl_content(s, q, coefficients, powers),
@@ -387,7 +390,7 @@ pub fn read_cdl(
     powers: &mut [i8],
     base: usize,
 ) -> NodeStep
-    ensures { λ r. ⌜ NodeReads (Nodes.ascCdl .run) (now (s .entry)) at base r (now (coefficients .entry)) (now (powers .entry)) (now (coefficients .exit)) (now (powers .exit)) ⌝ }
+    ensures { λ r. ⌜ NodeReads (Nodes.ascCdl .run) (now (s .entry)) at base r (lent (now (coefficients .entry)) (now (powers .entry))) (lent (now (coefficients .exit)) (now (powers .exit))) ⌝ }
 {
     let tag = tags::start_tag(s, at, TagKind::Cdl);
     let end = tag.end;
@@ -395,9 +398,11 @@ pub fn read_cdl(
     let mut small: [i64; 10] = [1, 1, 1, 0, 0, 0, 1, 1, 1, 1];
     let mut small_powers = [0i8; 10];
     let c = cdl_followed(s, end, &mut small, &mut small_powers);
-    node_parts::store_all(&small, &small_powers, coefficients, powers, base);
     let scan = c.scan;
-    let about = c.about;
+    let Scan::At(e) = scan else {
+        return node_parts::failed(scan, coefficients, powers, base);
+    };
+    node_parts::store_all(&small, &small_powers, coefficients, powers, base);
     let clamp = !node_parts::style_is(s, seen, b"FwdNoClamp");
-    node_parts::finished(s, seen, scan, Kind::Cdl { clamp }, about)
+    node_parts::finished(s, seen, scan, Kind::Cdl { clamp })
 }

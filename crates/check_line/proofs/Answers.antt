@@ -8,8 +8,8 @@ use Rattle.process_list.specs.List.{nodesOf, total, capped}
 use Rattle.clf.specs.Reading.{read, numberOf, placeNumber}
 use Rattle.reading.specs.declared.Answer.{Answer}
 use Rattle.reading.specs.Code.{answerOf}
-use Rattle.reading_counts.specs.Counts.{nodeCount, numberCount}
-use Rattle.reading_counts.proofs.Answers.{answer-count, answer-numbers}
+use Rattle.reading.specs.Counts.{nodeCount, numberCount}
+use Rattle.reading.proofs.Counts.{answer-count, answer-numbers}
 use Rattle.check_line.specs.declared.Line.{Line}
 use Rattle.check_line.specs.Line.{lineFrom, textOf, tooLong, answerText, readingText, checkText, acceptedText, refusalText}
 

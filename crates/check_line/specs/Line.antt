@@ -9,7 +9,7 @@ use Rattle.process_list.specs.List.{nodesOf, total, capped}
 use Rattle.clf.specs.Reading.{Reading, read, numberOf, placeNumber}
 use Rattle.xml.specs.Bytes.{bytes}
 use Rattle.decimal_write.specs.Written.{digits}
-use Rattle.reading_counts.specs.Counts.{nodeCount, numberCount}
+use Rattle.reading.specs.Counts.{nodeCount, numberCount}
 use Rattle.reading.specs.declared.Answer.{Answer}
 use Rattle.check_line.specs.declared.Line.{Line}
 

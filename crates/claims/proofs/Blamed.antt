@@ -154,11 +154,11 @@ onlyEnd-well w missing h = blames-lookTwo (λ a b. blames-cond (eqb b slash) (en
 
 content-well : (w : List ℕ) → Well (textContent w)
 unfolding textContent
-content-well w = blames-seq (text-well (λ b. eqb b lessThan)) (λ t. blames-seq (onlyEnd-well w 0 fair-zero) (λ u. blames-ret (t .1)))
+content-well w = blames-seq (text-well (λ b. eqb b lessThan)) (λ t. onlyEnd-well w 0 fair-zero)
 
 pub textElement-well : (w : List ℕ) → Well (textElement w)
 unfolding textElement
-textElement-well w = blames-seq (startTag-well plain plain-right) (λ tag. blames-cond (tag .empty) (blames-ret []) (content-well w))
+textElement-well w = blames-seq (startTag-well plain plain-right) (λ tag. blames-cond (tag .empty) (blames-ret tt) (content-well w))
 
 -- ---- Info
 

@@ -100,8 +100,8 @@ module _ (shape : List ℕ → Option Kind) where
   table-well w =
       held-well (arrayHolder w shape) (λ st. fair-cond (isSome (st .table)) fair-zero five)
       (λ st v. fair-cond (isSome (st .table)) five (fair-cond (same v (bytes "Array") || same v (bytes "Description")) fair-zero five))
-      (λ st v. blames-cond (same v (bytes "Array")) (blames-seq array-well (λ t. blames-ret (record { about = st .about; table = some t })))
-      (blames-seq (textElement-well v) (λ t. blames-ret (record { about = st .about ++ t ∷ []; table = st .table }))))
+      (λ st v. blames-cond (same v (bytes "Array")) (blames-seq array-well (λ t. blames-ret (record { table = some t })))
+      (blames-seq (textElement-well v) (λ t. blames-ret st)))
       noArray
 
 matrix-well : Well matrix
@@ -124,8 +124,8 @@ range-content : Well (held rangeHolder noValues)
 range-content =
     held-well rangeHolder (λ st. fair-cond (allThere st) (fair-cond (inOrder st) fair-zero twentyOne) five)
     (λ st w. fair-cond (same w (bytes "Description")) (fair-cond (anyThere st) five fair-zero) (fair-cond (ltb (rangeIndex w) 4) (fair-cond (isThere (rangeIndex w) st) five fair-zero) five))
-    (λ st w. blames-cond (same w (bytes "Description")) (blames-seq (textElement-well w) (λ t. blames-ret (record { about = st .about ++ t ∷ []; values = st .values })))
-    (blames-seq (value-well w 1 anyNumber any-right) (λ l. blames-ret (record { about = st .about; values = set (st .values) (rangeIndex w) (some (oneOf l)) }))))
+    (λ st w. blames-cond (same w (bytes "Description")) (blames-seq (textElement-well w) (λ t. blames-ret st))
+    (blames-seq (value-well w 1 anyNumber any-right) (λ l. blames-ret (record { values = set (st .values) (rangeIndex w) (some (oneOf l)) }))))
     noValues
 
 range-well : Well range
@@ -167,9 +167,9 @@ cdl-fault st w =
 
 cdl-body : (st : CdlState) (w : List ℕ) → Well (cdlBody st w)
 cdl-body st w =
-    blames-cond (same w (bytes "SOPNode")) (blames-seq sop-well (λ l. blames-ret (record { about = st .about; sop = some l; sat = st .sat })))
-    (blames-cond (same w (bytes "SatNode")) (blames-seq sat-well (λ l. blames-ret (record { about = st .about; sop = st .sop; sat = some l })))
-    (blames-seq (textElement-well w) (λ t. blames-ret (record { about = st .about ++ t ∷ []; sop = st .sop; sat = st .sat }))))
+    blames-cond (same w (bytes "SOPNode")) (blames-seq sop-well (λ l. blames-ret (record { sop = some l; sat = st .sat })))
+    (blames-cond (same w (bytes "SatNode")) (blames-seq sat-well (λ l. blames-ret (record { sop = st .sop; sat = some l })))
+    (blames-seq (textElement-well w) (λ t. blames-ret st)))
 
 cdl-texts : (w t : List ℕ) → Right (cdlTexts w t)
 cdl-texts w t =

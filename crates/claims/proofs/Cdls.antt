@@ -169,7 +169,7 @@ cdl-body : (st : CdlState) → Begun st → (w : List ℕ) → Holds Begun (cdlB
 cdl-body st i w =
     holds-cond (same w (bytes "SOPNode")) (λ z. holds-seq Nine sop-holds (λ l k. holds-ret (record { sop = k; sat = i .sat })))
     (λ z. holds-cond (same w (bytes "SatNode")) (λ z. holds-seq (Counted 1 notBelowZero) sat-holds (λ l k. holds-ret (record { sop = i .sop; sat = k })))
-    (λ z. holds-then (textElement w) (λ t. holds-ret (record { sop = i .sop; sat = i .sat }))))
+    (λ z. holds-then (textElement w) (λ t. holds-ret i)))
 
 content-holds : (tag : Tag) → Holds Begun (cdlContent tag)
 content-holds tag =

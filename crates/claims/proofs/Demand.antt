@@ -12,10 +12,11 @@ use Rattle.process_list.specs.declared.Verdict.the-variants.{Accepted, NoNode, 
 use Rattle.process_list.specs.List.{Element, verdict}
 use Rattle.grammar.specs.Parse.{Out, done, fault, cut}
 use Rattle.clf.specs.Nodes.{NodeRead}
-use Rattle.clf.specs.Reading.{Reading, accepted, faulty, unfit, mostBytes, elementsOf, placeIn, listReading, readText, read}
+use Rattle.clf.specs.Places.{nodeSpan}
+use Rattle.clf.specs.Reading.{Reading, accepted, faulty, unfit, mostBytes, elementsOf, placeIn, isNumbered, listReading, readText, read}
 use Rattle.clf.specs.Reading as R
-use Rattle.look.specs.Replacing.{element, Answer, refused, isNumbered, byVerdict, listed, byElement, replace, listAfter}
-use Rattle.claims.specs.TriedFile.{answerOf, nodeSpan, spliced, Attempt, answers, tries, trying, attemptElement, attempt, settled, byAttempt, fileCall, listCall, SmallAttempt, Small, SameRun}
+use Rattle.look.specs.Replacing.{element, Answer, refused, byVerdict, listed, byElement, replace, listAfter}
+use Rattle.claims.specs.TriedFile.{answerOf, spliced, Attempt, answers, tries, trying, attemptElement, attempt, settled, byAttempt, fileCall, listCall, NotBefore, InElement, AllInElement, SmallAttempt, Small, SameRun}
 use Rattle.claims.proofs.Sound.{and-true}
 use Rattle.claims.proofs.Spliced.{Opened, opened, spliced-done, spliced-fault}
 use Rattle.claims.proofs.Rules.{Short, read-short}
@@ -102,16 +103,56 @@ module _ (room : ℕ) (s : List ℕ) (l : List NodeRead) (old : readText room s 
       let t = by-tests (c .0) (c .1) (isNumbered (c .0) (length l)) (ltb mostBytes (length (c .1))) refl in
       rw (o .is, o .same, n) t
 
+  -- ---- a fault of the tried file stands in the element
+
+  list-in : (at : ℕ) (m : List NodeRead) → NotBefore at (listReading room m)
+  unfolding listReading
+  list-in at m = go (verdict room (elementsOf m))
+    where
+      go : (v : Verdict) → NotBefore at (R.byVerdict m v)
+      go Accepted = tt
+      go NoNode = tt
+      go TooManyNodes = tt
+      go (DepthDiffers k) = tt
+      go TooManyNumbers = tt
+
+  module _ (k : ℕ) (e : List ℕ) (there : k - 1 < length l) where
+    fault-in : (j : ℕ) (r : List ℕ) → element .run e ≡ fault j r → (v : Bool) → eqb j 20 ≡ v
+        → InElement (readText room) (cond v (answers (refused 20 (placeIn e r))) (trying s (nodeSpan s (k - 1)) e))
+    fault-in j r q true z = tt
+    fault-in j r q false z =
+        subst (NotBefore (nodeSpan s (k - 1) .0)) (sym (spliced-fault room s l (k - 1) old there e j r q (eqb-false j 20 z)))
+        (let h : nodeSpan s (k - 1) .0 ≤ nodeSpan s (k - 1) .0 + placeIn e r = omega arith in h)
+
+    element-in : (o : Out NodeRead) → element .run e ≡ o → InElement (readText room) (attemptElement s (nodeSpan s (k - 1)) e o)
+    element-in cut q = tt
+    element-in (fault j r) q = fault-in j r q (eqb j 20) refl
+    element-in (done m []) q =
+        subst (NotBefore (nodeSpan s (k - 1) .0)) (sym (spliced-done room s l (k - 1) old there e m q)) (list-in (nodeSpan s (k - 1) .0) (set l (k - 1) m))
+    element-in (done m (b ∷ r)) q = tt
+
+  tests-in : (k : ℕ) (e : List ℕ) (v x : Bool) → isNumbered k (length l) ≡ v
+      → InElement (readText room) (cond v (cond x (answers (refused 4 0)) (attemptElement s (nodeSpan s (k - 1)) e (element .run e))) (answers (refused 19 0)))
+  tests-in k e true true q = tt
+  tests-in k e true false q = element-in k e (numbered k q) (element .run e) refl
+  tests-in k e false x q = tt
+
+  pub call-in : (c : ℕ × List ℕ) → InElement (readText room) (attempt s (c .0) (c .1))
+  unfolding attempt
+  call-in c =
+      let o : Opened room s l = opened room s l old in
+      rw (o .is, o .same) (tests-in (c .0) (c .1) (isNumbered (c .0) (length l)) (ltb mostBytes (length (c .1))) refl)
+
 -- ---- runs
 
 -- DEMAND 3, of reading without the limit of 16 MiB
 pub demand3-text : (room : ℕ) (calls : List (ℕ × List ℕ)) (s : List ℕ) (l : List NodeRead) → readText room s ≡ accepted l → SameRun room (readText room) s (elementsOf l) calls
-demand3-text room [] s l old = record { answers = refl; list = ap answerOf old }
+demand3-text room [] s l old = record { answers = refl; list = ap answerOf old; places = tt }
 demand3-text room (c ∷ calls) s l old =
     let g : Agree room (fileCall (readText room) s c) (listCall room (elementsOf l) c) = one-call room s l old c in
     let i : SameRun room (readText room) (fileCall (readText room) s c .1) (listCall room (elementsOf l) c .1) calls =
     subst (λ (es : List Element). SameRun room (readText room) (fileCall (readText room) s c .1) es calls) (g .same) (demand3-text room calls (fileCall (readText room) s c .1) (g .l) (g .reads)) in
-    record { answers = λ j. g .answer j ∷ i .answers j; list = i .list }
+    record { answers = λ j. g .answer j ∷ i .answers j; list = i .list; places = (call-in room s l old c, i .places) }
 
 -- a file of at most 16 MiB is read as if there were no limit
 pub read-small : (room : ℕ) (t : List ℕ) → length t ≤ mostBytes → read room t ≡ readText room t
@@ -122,6 +163,10 @@ pub call-small : (room : ℕ) (s : List ℕ) (a : Attempt) → SmallAttempt a �
 call-small room s (answers a) h = refl
 call-small room s (tries at t) h = ap (settled at s t) (read-small room t h)
 
+pub in-small : (room : ℕ) (a : Attempt) → SmallAttempt a → InElement (readText room) a → InElement (read room) a
+in-small room (answers a) h i = tt
+in-small room (tries at t) h i = subst (NotBefore at) (sym (read-small room t h)) i
+
 settled-small : (at : ℕ) (s t : List ℕ) (r : Reading) → length s ≤ mostBytes → length t ≤ mostBytes → length (settled at s t r .1) ≤ mostBytes
 settled-small at s t (accepted l) h k = k
 settled-small at s t (faulty n p) h k = h
@@ -131,9 +176,9 @@ pub stays-small : (room : ℕ) (s : List ℕ) (a : Attempt) → length s ≤ mos
 stays-small room s (answers a) h k = h
 stays-small room s (tries at t) h k = settled-small at s t (read room t) h k
 
-runs : (room : ℕ) (calls : List (ℕ × List ℕ)) (s : List ℕ) (l : List NodeRead) → length s ≤ mostBytes → readText room s ≡ accepted l → Small (read room) s calls
+pub runs : (room : ℕ) (calls : List (ℕ × List ℕ)) (s : List ℕ) (l : List NodeRead) → length s ≤ mostBytes → readText room s ≡ accepted l → Small (read room) s calls
     → SameRun room (read room) s (elementsOf l) calls
-runs room [] s l h old k = record { answers = refl; list = ap answerOf (read-small room s h ∙ old) }
+runs room [] s l h old k = record { answers = refl; list = ap answerOf (read-small room s h ∙ old); places = tt }
 runs room (c ∷ calls) s l h old k =
     let a : Attempt = attempt s (c .0) (c .1) in
     let e : fileCall (read room) s c ≡ fileCall (readText room) s c = call-small room s a (k .0) in
@@ -142,7 +187,7 @@ runs room (c ∷ calls) s l h old k =
     let i : SameRun room (read room) (fileCall (read room) s c .1) (listCall room (elementsOf l) c .1) calls =
     subst (λ (es : List Element). SameRun room (read room) (fileCall (read room) s c .1) es calls) (g .same)
     (runs room calls (fileCall (read room) s c .1) (g .l) (stays-small room s a h (k .0)) (g .reads) (k .1)) in
-    record { answers = λ j. g .answer j ∷ i .answers j; list = i .list }
+    record { answers = λ j. g .answer j ∷ i .answers j; list = i .list; places = (in-small room a (k .0) (call-in room s l old c), i .places) }
 
 -- DEMAND 3: an accepted file, any calls, each file so tried at most 16 MiB
 pub demand3 : (room : ℕ) (calls : List (ℕ × List ℕ)) (s : List ℕ) (l : List NodeRead) → read room s ≡ accepted l → Small (read room) s calls

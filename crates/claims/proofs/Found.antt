@@ -17,7 +17,7 @@ use Rattle.xml.specs.Elements.{Part, gap, child, close, markup, between}
 use Rattle.clf.specs.Nodes.{NodeRead}
 use Rattle.clf.specs.List.{Child, node, description, inputDescriptor, outputDescriptor, infoChild, Flags, noFlags, childFault, childBody, listItem, nextFlags, head, Document, listContent, document}
 use Rattle.clf.specs.Reading.{withPart, nodesOf}
-use Rattle.claims.specs.TriedFile.{spanOf}
+use Rattle.clf.specs.Places.{spanOf}
 
 abbrev pub Items : Type 0
 Items = List (Part Child × List ℕ)

@@ -23,3 +23,4 @@ pub mod Tried
 pub mod Spliced
 pub mod Demand
 pub mod Look
+pub mod Larger

@@ -4,13 +4,11 @@ use mathlib.Core.Bool.{true}
 use mathlib.Core.List.{List, [], _∷_, map}
 use Prim.Native.Nat.{ℕ, _≤_, min}
 use native.Mathlib.Omega.{arith}
-use lib.IntN.{ℤ, pos}
-use lib.ListN.{length, length-map}
-use Rattle.decimal.specs.declared.Decimal.{Decimal}
-use Rattle.process_list.specs.List.{Element, nodeOf, allNumbers, coefficientsOf, powersOf, verdict}
+use lib.ListN.{length}
+use Rattle.process_list.specs.List.{Element, nodeOf, allNumbers, verdict}
 use Rattle.process_list.proofs.Lists.{Fine, accepted-fine}
-use Rattle.room.specs.Room.{roomLength, filled}
-use Rattle.room.proofs.Contents.{filled-length, filled-behind, filled-over}
+use Rattle.room.specs.Room.{roomLength, filledWith}
+use Rattle.room.proofs.Rooms.{filled-room, filled-again}
 use Rattle.valid.specs.Valid.{isValid}
 use Rattle.valid.specs.Valid as Valid
 use Rattle.valid.proofs.Readings.{all-length, reading-valid, reading-elements}
@@ -18,11 +16,11 @@ use Rattle.valid.proofs.Readings as Readings
 use Rattle.clf.specs.Nodes.{NodeRead}
 use Rattle.clf.specs.Reading.{Reading, accepted, mostBytes, elementsOf, nodesIn, readText, read}
 use Rattle.look.specs.Replacing.{Answer, replaced, refused, replace, listAfter}
-use Rattle.claims.specs.TriedFile.{Attempt, attempt, fileCall, listCall, fileRun, Small}
+use Rattle.claims.specs.TriedFile.{Attempt, attempt, fileCall, listCall, fileRun, Small, SameRun}
 use Rattle.look.specs.Look.{Look, roomOf, holding, replaceIn, lookAfter}
 use Rattle.claims.specs.LookRuns.{readInto, lookRun, SameLook}
 use Rattle.claims.proofs.Rules.{Short, read-short, WholeElements, text-elements}
-use Rattle.claims.proofs.Demand.{Agree, one-call, read-small, call-small, stays-small}
+use Rattle.claims.proofs.Demand.{Agree, one-call, read-small, call-small, stays-small, runs}
 
 -- ---- a look that holds the elements of an accepted reading
 
@@ -33,53 +31,30 @@ module _ (n : ℕ) (es : List Element) (w : WholeElements n es) where
       let f : Fine n (map nodeOf es) = accepted-fine n (map nodeOf es) (w .fits) in
       omega (arith, f .holds, all-length es (w .sounds))
 
-  few-coefficients : length (coefficientsOf es) ≤ n
-  unfolding coefficientsOf
-  few-coefficients = omega (arith, few, length-map (allNumbers es) (λ (d : Decimal). d .coefficient))
-
-  few-powers : length (powersOf es) ≤ n
-  unfolding powersOf
-  few-powers = omega (arith, few, length-map (allNumbers es) (λ (d : Decimal). d .power))
-
--- what was held before does not matter
-again : (n : ℕ) (xs ys s : List ℤ) → length ys ≤ n → filled n (pos 0) xs (filled n (pos 0) ys s) ≡ filled n (pos 0) xs s
-again n xs ys s h = filled-over n (pos 0) xs (filled n (pos 0) ys s) s (filled-behind n (pos 0) ys s h)
-
 module _ (x : Look) (es : List Element) (w : WholeElements (roomOf x) es) where
   room-kept : roomOf (holding x es) ≡ roomOf x
-  unfolding holding roomLength
-  room-kept =
-      let n : ℕ = min (length (x .coefficients)) (length (x .powers)) in
-      let a = filled-length n (pos 0) (coefficientsOf es) (x .coefficients) (few-coefficients n es w) (omega arith) in
-      let b = filled-length n (pos 0) (powersOf es) (x .powers) (few-powers n es w) (omega arith) in
-      omega arith
+  unfolding holding
+  room-kept = filled-room (allNumbers es) (x .room) (few (roomOf x) es w)
 
   held-again : (new : List Element) → holding (holding x es) new ≡ holding x new
   unfolding holding
-  held-again new =
-      let a = again (roomOf x) (coefficientsOf new) (coefficientsOf es) (x .coefficients) (few-coefficients (roomOf x) es w) in
-      let b = again (roomOf x) (powersOf new) (powersOf es) (x .powers) (few-powers (roomOf x) es w) in
-      rw (room-kept, a, b)
+  held-again new = rw (filled-again (allNumbers new) (allNumbers es) (x .room) (few (roomOf x) es w)) refl
 
-  is-reading : Readings.Reading (holding x es .list) (holding x es .coefficients) (holding x es .powers) es
+  is-reading : Readings.Reading (holding x es .list) (holding x es .room) es
   unfolding holding
-  is-reading =
-      let a = again (roomOf x) (coefficientsOf es) (coefficientsOf es) (x .coefficients) (few-coefficients (roomOf x) es w) in
-      let b = again (roomOf x) (powersOf es) (powersOf es) (x .powers) (few-powers (roomOf x) es w) in
-      record {
-        list = refl;
-        coefficients = rw room-kept (sym a);
-        powers = rw room-kept (sym b);
-        accepted = rw room-kept (w .fits);
-        sounds = w .sounds;
-      }
+  is-reading = record {
+    list = refl;
+    room = sym (filled-again (allNumbers es) (allNumbers es) (x .room) (few (roomOf x) es w));
+    accepted = rw room-kept (w .fits);
+    sounds = w .sounds;
+  }
 
   -- THE LOOK IS VALID, and tells its elements
-  pub held-valid : isValid (holding x es .list) (holding x es .coefficients) (holding x es .powers) ≡ true
-  held-valid = reading-valid (holding x es .list) (holding x es .coefficients) (holding x es .powers) es is-reading
+  pub held-valid : isValid (holding x es .list) (holding x es .room) ≡ true
+  held-valid = reading-valid (holding x es .list) (holding x es .room) es is-reading
 
-  pub held-elements : Valid.elementsOf (holding x es .list) (holding x es .coefficients) (holding x es .powers) ≡ es
-  held-elements = reading-elements (holding x es .list) (holding x es .coefficients) (holding x es .powers) es is-reading
+  pub held-elements : Valid.elementsOf (holding x es .list) (holding x es .room) ≡ es
+  held-elements = reading-elements (holding x es .list) (holding x es .room) es is-reading
 
   -- so a call on it is a call by the list alone
   replaces : (k : ℕ) (e : List ℕ) → replaceIn (holding x es) k e ≡ replace (roomOf x) es k e
@@ -124,4 +99,4 @@ module _ (x : Look) where
       let i : Same (holding x (elementsOf l)) s calls = looks calls s l (r .most) (r .text) k in
       let q : holding x (elementsOf l) ≡ readInto x s = ap (λ (z : Reading). holding x (elementsOf (nodesIn z))) (sym e) in
       let j : Same (readInto x s) s calls = subst (λ (y : Look). Same y s calls) q i in
-      record { answers = j .0; look = j .1 }
+      record { answers = j .0; look = j .1; places = runs room calls s l (r .most) (r .text) k .places }

@@ -6,13 +6,12 @@ use Prim.Native.Nat.{ℕ, _≤_}
 use native.Mathlib.Omega.{arith}
 use borrow.Author.Tests.{ltb-false}
 use lib.Dec.{ltb}
-use lib.IntN.{ℤ, pos}
 use lib.ListN.{length, length-map}
 use Rattle.decimal.specs.declared.Decimal.{Decimal}
 use Rattle.process_list.specs.declared.Verdict.the-variants.{Accepted}
-use Rattle.process_list.specs.List.{Element, nodeOf, placed, listOf, allNumbers, coefficientsOf, powersOf, verdict}
+use Rattle.process_list.specs.List.{Element, nodeOf, placed, listOf, allNumbers, verdict}
 use Rattle.process_list.proofs.Lists.{heads-length, Fine, accepted-fine}
-use Rattle.room.specs.Room.{roomLength, filled}
+use Rattle.room.specs.Room.{Room, roomLength, filledWith}
 use Rattle.valid.specs.Valid.{every, sound, isValid}
 use Rattle.valid.proofs.Readings.{all-length, made}
 use Rattle.grammar.specs.Laws.{nope}
@@ -70,14 +69,11 @@ accepted-text-rules room s l e = whole-rules room l (text-elements room s l e)
 pub accepted-rules : (room : ℕ) (s : List ℕ) (l : List NodeRead) → read room s ≡ accepted l → AllRules room l
 accepted-rules room s l e = accepted-text-rules room s l (read-short room s l e .text)
 
--- READ IMPLIES VALID: the list, and the room that was c and p, as an accepted reading leaves them
-pub accepted-valid : (c p : List ℤ) (s : List ℕ) (l : List NodeRead) → read (roomLength c p) s ≡ accepted l
-    → isValid (listOf (placed (elementsOf l)))
-    (filled (roomLength c p) (pos 0) (coefficientsOf (elementsOf l)) c)
-    (filled (roomLength c p) (pos 0) (powersOf (elementsOf l)) p) ≡ true
-accepted-valid c p s l e =
-    let w : WholeElements (roomLength c p) (elementsOf l) = text-elements (roomLength c p) s l (read-short (roomLength c p) s l e .text) in
-    made (roomLength c p) c p (elementsOf l) (w .sounds) (w .fits) refl
+-- READ IMPLIES VALID: the list, and the room m, as an accepted reading leaves them
+pub accepted-valid : (m : Room) (s : List ℕ) (l : List NodeRead) → read (roomLength m) s ≡ accepted l → isValid (listOf (placed (elementsOf l))) (filledWith (allNumbers (elementsOf l)) m) ≡ true
+accepted-valid m s l e =
+    let w : WholeElements (roomLength m) (elementsOf l) = text-elements (roomLength m) s l (read-short (roomLength m) s l e .text) in
+    made m (elementsOf l) (w .sounds) (w .fits)
 
 -- the numbers of the nodes are those of their elements
 pub numbers-in : (l : List NodeRead) → numbersIn l ≡ allNumbers (elementsOf l)

@@ -15,7 +15,8 @@ use Rattle.clf.specs.Nodes.{NodeRead}
 use Rattle.clf.specs.List.{node, Flags, noFlags, listItem, nextFlags, head, Document, listContent, document, tail}
 use Rattle.clf.specs.Reading.{accepted, faulty, nodesOf, placeIn, listReading, tailReading, textReading, readText}
 use Rattle.look.specs.Replacing.{element}
-use Rattle.claims.specs.TriedFile.{spanDocument, nodeSpan, spliced}
+use Rattle.clf.specs.Places.{spanDocument, nodeSpan}
+use Rattle.claims.specs.TriedFile.{spliced}
 use Rattle.claims.proofs.Accepted.{judged-same}
 use Rattle.claims.proofs.View.{asItem, View, isCut, is20, isItem, view}
 use Rattle.claims.proofs.Found.{Items, Found, find, Parts, parts, with-node}

@@ -58,11 +58,11 @@ module _ (shape : List ℕ → Option Kind) where
       holds-cond (same w (bytes "Array")) (λ z. holds-seq (Tabled shape) (array-holds) (λ t k. holds-ret k)) (λ z. holds-then (textElement w) (λ t. holds-ret i))
 
   module _ (w : List ℕ) (right : (dim : List ℕ) (k : Kind) → shape dim ≡ some k → Plain k) where
-    table-right : (l : List Attribute) (about : List (List ℕ)) (o : Option Table) → OptHolds (Tabled shape) o → _≡_ {A = ℕ} (cond (isSome o) 0 5) 0
-        → sound (tableNode l (record { about = about; table = o }) .element) ≡ true
-    table-right l about none i z = absurd (omega arith)
-    table-right l about (some t) i z =
-        sound-by (tableNode l (record { about = about; table = some t }) .element)
+    table-right : (l : List Attribute) (o : Option Table) → OptHolds (Tabled shape) o → _≡_ {A = ℕ} (cond (isSome o) 0 5) 0
+        → sound (tableNode l (record { table = o }) .element) ≡ true
+    table-right l none i z = absurd (omega arith)
+    table-right l (some t) i z =
+        sound-by (tableNode l (record { table = some t }) .element)
         (record {
           shape = right (i .dim) (t .0) (i .shaped) .shape;
           count = i .counted .count;
@@ -74,7 +74,7 @@ module _ (shape : List ℕ → Option Kind) where
     table-holds l =
         holds-seq (Ended (arrayHolder w shape) Begun (λ st i v h q. body-holds st i v))
         (held-holds (arrayHolder w shape) Begun (λ st i v h q. body-holds st i v) tt)
-        (λ st e. holds-ret (table-right l (st .about) (st .table) (e .state) (e .nothing)))
+        (λ st e. holds-ret (table-right l (st .table) (e .state) (e .nothing)))
 
 -- ---- the two shapes
 

@@ -5,7 +5,7 @@ use Prim.Native.Nat.{ℕ}
 use Rattle.clf.specs.Reading.{elementsOf, nodesIn, read}
 use Rattle.look.specs.Replacing.{Answer}
 use Rattle.look.specs.Look.{Look, roomOf, holding, replaceIn, lookAfter}
-use Rattle.claims.specs.TriedFile.{fileRun}
+use Rattle.claims.specs.TriedFile.{fileRun, AllInElement}
 
 -- what a reading leaves: 'A refused reading gives no nodes and zeroed room'
 abbrev pub readInto : Look → List ℕ → Look
@@ -24,3 +24,4 @@ lookRun x (c ∷ calls) =
 pub record SameLook (x : Look) (s : List ℕ) (calls : List (ℕ × List ℕ)) : Type 0 where
   pub answers : lookRun (readInto x s) calls .0 ≡ fileRun (read (roomOf x)) s calls .0
   pub look : lookRun (readInto x s) calls .1 ≡ readInto x (fileRun (read (roomOf x)) s calls .1)
+  pub places : AllInElement (read (roomOf x)) s calls

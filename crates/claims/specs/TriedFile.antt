@@ -10,8 +10,9 @@ use Rattle.grammar.specs.Parse.{Out, done, fault, cut}
 use Rattle.xml.specs.Elements.{Part, gap, child, close}
 use Rattle.clf.specs.Nodes.{NodeRead}
 use Rattle.clf.specs.List.{Child, node, description, inputDescriptor, outputDescriptor, infoChild, Document, document}
-use Rattle.clf.specs.Reading.{Reading, accepted, faulty, unfit, mostBytes, nodesOf, elementsOf, placeIn}
-use Rattle.look.specs.Replacing.{element, Answer, replaced, refused, isNumbered, replace, listAfter}
+use Rattle.clf.specs.Places.{nodeSpan}
+use Rattle.clf.specs.Reading.{isNumbered, Reading, accepted, faulty, unfit, mostBytes, nodesOf, elementsOf, placeIn}
+use Rattle.look.specs.Replacing.{element, Answer, replaced, refused, replace, listAfter}
 
 -- what a reading answers, in the terms of a call
 abbrev pub answerOf : Reading → Answer
@@ -20,36 +21,6 @@ answerOf (faulty n p) = refused n p
 answerOf (unfit n p) = refused n p
 
 -- ---- by the file: 'Demand 3's file'
-
--- where node k, from 0, stands among items that start at `at`: its first byte's place, and how many bytes it has
-abbrev pub spanNode : ℕ → ℕ → List ℕ → (ℕ → ℕ × ℕ) → ℕ × ℕ
-spanNode zero at c later = (at, length c)
-spanNode (suc k) at c later = later k
-
-abbrev pub spanChild : Child → ℕ → ℕ → List ℕ → (ℕ → ℕ × ℕ) → ℕ × ℕ
-spanChild (node n) k at c later = spanNode k at c later
-spanChild description k at c later = later k
-spanChild inputDescriptor k at c later = later k
-spanChild outputDescriptor k at c later = later k
-spanChild infoChild k at c later = later k
-
-abbrev pub spanPart : Part Child → ℕ → ℕ → List ℕ → (ℕ → ℕ × ℕ) → ℕ × ℕ
-spanPart gap k at c later = later k
-spanPart (child x) k at c later = spanChild x k at c later
-spanPart close k at c later = later k
-
-unfoldable pub spanOf : List (Part Child × List ℕ) → ℕ → ℕ → ℕ × ℕ
-spanOf [] k at = (at, 0)
-spanOf (x ∷ l) k at = spanPart (x .0) k at (x .1) (λ j. spanOf l j (at + length (x .1)))
-
--- where node k, from 0, stands in a file
-abbrev pub spanDocument : ℕ → Out Document → ℕ × ℕ
-spanDocument k (done d r) = spanOf (d .parts) k (length (d .start))
-spanDocument k (fault j r) = (0, 0)
-spanDocument k cut = (0, 0)
-
-unfoldable pub nodeSpan : List ℕ → ℕ → ℕ × ℕ
-nodeSpan s k = spanDocument k (document .run s)
 
 -- 'that file with the new element's bytes where node k's stood, from `<` to last `>`'
 abbrev pub spliced : List ℕ → ℕ × ℕ → List ℕ → List ℕ
@@ -117,6 +88,20 @@ listRun room es (c ∷ calls) =
     let z : List Answer × List Element = listRun room (a .1) calls in
     (a .0 ∷ z .0, z .1)
 
+-- 'another number, with reading's place less the start of node k': such a fault stands in the element, so reading's place is not before that start, and the difference is none below zero
+abbrev pub NotBefore : ℕ → Reading → Type 0
+NotBefore at (accepted l) = Unit {0}
+NotBefore at (faulty n p) = at ≤ p
+NotBefore at (unfit n p) = Unit {0}
+
+abbrev pub InElement : (List ℕ → Reading) → Attempt → Type 0
+InElement reads (answers a) = Unit {0}
+InElement reads (tries at t) = NotBefore at (reads t)
+
+abbrev pub AllInElement : (List ℕ → Reading) → List ℕ → List (ℕ × List ℕ) → Type 0
+AllInElement reads s [] = Unit {0}
+AllInElement reads s (c ∷ calls) = InElement reads (attempt s (c .0) (c .1)) × AllInElement reads (fileCall reads s c .1) calls
+
 -- 'Premise: each file so tried is at most 16 MiB'
 abbrev pub SmallAttempt : Attempt → Type 0
 SmallAttempt (answers a) = Unit {0}
@@ -131,3 +116,4 @@ Small reads s (c ∷ calls) = SmallAttempt (attempt s (c .0) (c .1)) × Small re
 pub record SameRun (room : ℕ) (reads : List ℕ → Reading) (s : List ℕ) (es : List Element) (calls : List (ℕ × List ℕ)) : Type 0 where
   pub answers : fileRun reads s calls .0 ≡ listRun room es calls .0
   pub list : answerOf (reads (fileRun reads s calls .1)) ≡ replaced (listRun room es calls .1)
+  pub places : AllInElement reads s calls

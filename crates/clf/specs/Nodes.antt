@@ -28,15 +28,9 @@ abbrev pub orElse : {A : Type 0} → A → Option A → A
 orElse a none = a
 orElse a (some b) = b
 
--- a node as it is read: what the list holds of it, and the bytes of its first Description, none where it has none
+-- a node as it is read: what the list holds of it. Its Descriptions are passed over
 pub record NodeRead : Type 0 where
   pub element : Element
-  pub description : List ℕ
-
--- the first of a node's Descriptions
-abbrev pub firstOf : List (List ℕ) → List ℕ
-firstOf [] = []
-firstOf (t ∷ l) = t
 
 -- ---- '`inBitDepth`, `outBitDepth` from 8i, 10i, 12i, 16i, 16f, 32f'
 
@@ -61,10 +55,9 @@ abbrev pub depthAt : List ℕ → List Attribute → Depth
 depthAt w l = orElse I8 (depthOf (textOf w l))
 
 -- the node of these attributes and this content
-abbrev pub nodeOf : List Attribute → Kind → List Decimal → List (List ℕ) → NodeRead
-nodeOf l kind ns about = record {
+abbrev pub nodeOf : List Attribute → Kind → List Decimal → NodeRead
+nodeOf l kind ns = record {
   element = record { kind = kind; input = depthAt (bytes "inBitDepth") l; output = depthAt (bytes "outBitDepth") l; numbers = ns };
-  description = firstOf about;
 }
 
 -- the rules of a node's start tag; one that may not be empty lacks an element: 5 at the `/>`, the lowest there
@@ -123,17 +116,16 @@ array shape = seq (startTag (arrayRules shape)) (λ tag. arrayOf (shape (textOf 
 -- ---- Matrix and LUT1D: Descriptions, then one Array
 
 pub record ArrayState : Type 0 where
-  pub about : List (List ℕ)
   pub table : Option Table
 
 abbrev pub noArray : ArrayState
-noArray = record { about = []; table = none }
+noArray = record { table = none }
 
 abbrev pub arrayBody : (List ℕ → Option Kind) → ArrayState → List ℕ → G ArrayState
 arrayBody shape st w =
     cond (same w (bytes "Array"))
-    (seq (array shape) (λ t. ret (record { about = st .about; table = some t })))
-    (seq (textElement w) (λ t. ret (record { about = st .about ++ t ∷ []; table = st .table })))
+    (seq (array shape) (λ t. ret (record { table = some t })))
+    (textElement w >> ret st)
 
 -- 'Descriptions come first in it': behind the Array nothing may stand
 abbrev pub arrayHolder : List ℕ → (List ℕ → Option Kind) → Holder ArrayState
@@ -145,7 +137,7 @@ arrayHolder w shape = record {
 }
 
 abbrev pub tableNode : List Attribute → ArrayState → NodeRead
-tableNode l st = let t = orElse (Matrix false, []) (st .table) in nodeOf l (t .0) (t .1) (st .about)
+tableNode l st = let t = orElse (Matrix false, []) (st .table) in nodeOf l (t .0) (t .1)
 
 unfoldable pub matrix : G NodeRead
 matrix = do
@@ -178,11 +170,10 @@ rangeIndex w =
     (cond (same w (bytes "maxOutValue")) 3 4)))
 
 pub record RangeState : Type 0 where
-  pub about : List (List ℕ)
   pub values : List (Option Decimal)
 
 abbrev pub noValues : RangeState
-noValues = record { about = []; values = none ∷ none ∷ none ∷ none ∷ [] }
+noValues = record { values = none ∷ none ∷ none ∷ none ∷ [] }
 
 abbrev pub isThere : ℕ → RangeState → Bool
 isThere i st = isSome (getD (st .values) i none)
@@ -213,8 +204,8 @@ oneOf (d ∷ l) = d
 abbrev pub rangeBody : RangeState → List ℕ → G RangeState
 rangeBody st w =
     cond (same w (bytes "Description"))
-    (seq (textElement w) (λ t. ret (record { about = st .about ++ t ∷ []; values = st .values })))
-    (seq (valueElement w 1 anyNumber) (λ l. ret (record { about = st .about; values = set (st .values) (rangeIndex w) (some (oneOf l)) })))
+    (textElement w >> ret st)
+    (seq (valueElement w 1 anyNumber) (λ l. ret (record { values = set (st .values) (rangeIndex w) (some (oneOf l)) })))
 
 -- 'A node's rule on two values is judged at its end tag': 21; a value that is missing is 5
 abbrev pub rangeHolder : Holder RangeState
@@ -231,7 +222,7 @@ rangeTexts w t = cond (same w (bytes "style")) (cond (same t (bytes "Clamp") || 
 
 abbrev pub rangeNode : List Attribute → RangeState → NodeRead
 rangeNode l st =
-    nodeOf l (Range (not (same (textOf (bytes "style") l) (bytes "noClamp")))) (valueAt 0 st ∷ valueAt 1 st ∷ valueAt 2 st ∷ valueAt 3 st ∷ []) (st .about)
+    nodeOf l (Range (not (same (textOf (bytes "style") l) (bytes "noClamp")))) (valueAt 0 st ∷ valueAt 1 st ∷ valueAt 2 st ∷ valueAt 3 st ∷ [])
 
 unfoldable pub range : G NodeRead
 range = do
@@ -276,12 +267,11 @@ unfoldable pub satNode : G (List Decimal)
 satNode = startTag holderRules >> held satHolder []
 
 pub record CdlState : Type 0 where
-  pub about : List (List ℕ)
   pub sop : Option (List Decimal)
   pub sat : Option (List Decimal)
 
 abbrev pub noCdl : CdlState
-noCdl = record { about = []; sop = none; sat = none }
+noCdl = record { sop = none; sat = none }
 
 abbrev pub cdlFault : CdlState → List ℕ → ℕ
 cdlFault st w =
@@ -291,9 +281,9 @@ cdlFault st w =
 
 abbrev pub cdlBody : CdlState → List ℕ → G CdlState
 cdlBody st w =
-    cond (same w (bytes "SOPNode")) (seq sopNode (λ l. ret (record { about = st .about; sop = some l; sat = st .sat })))
-    (cond (same w (bytes "SatNode")) (seq satNode (λ l. ret (record { about = st .about; sop = st .sop; sat = some l })))
-    (seq (textElement w) (λ t. ret (record { about = st .about ++ t ∷ []; sop = st .sop; sat = st .sat }))))
+    cond (same w (bytes "SOPNode")) (seq sopNode (λ l. ret (record { sop = some l; sat = st .sat })))
+    (cond (same w (bytes "SatNode")) (seq satNode (λ l. ret (record { sop = st .sop; sat = some l })))
+    (textElement w >> ret st))
 
 abbrev pub cdlHolder : Holder CdlState
 cdlHolder = record { name = bytes "ASC_CDL"; missing = λ st. 0; fault = cdlFault; body = cdlBody }
@@ -319,7 +309,7 @@ abbrev pub satNumbers : CdlState → List Decimal
 satNumbers st = orElse (oneNumber ∷ []) (st .sat)
 
 abbrev pub cdlNode : List Attribute → CdlState → NodeRead
-cdlNode l st = nodeOf l (Cdl (not (same (textOf (bytes "style") l) (bytes "FwdNoClamp")))) (sopNumbers st ++ satNumbers st) (st .about)
+cdlNode l st = nodeOf l (Cdl (not (same (textOf (bytes "style") l) (bytes "FwdNoClamp")))) (sopNumbers st ++ satNumbers st)
 
 -- an ASC_CDL may be empty
 abbrev pub cdlRules : Rules

@@ -1,7 +1,7 @@
 -- Reading a file (document 01, Refusal numbers): 4 first; then the fault with the smallest place; then, only over text without fault, 12, 11, 10, 13.
 use mathlib.Core.Bool.{Bool, true, false, cond, _&&_}
 use mathlib.Core.List.{List, [], _∷_, _++_, map}
-use Prim.Native.Nat.{ℕ, zero, suc, _-_}
+use Prim.Native.Nat.{ℕ, _-_}
 use lib.Dec.{ltb, leb}
 use lib.ListN.{length}
 use Rattle.decimal.specs.declared.Decimal.{Decimal}
@@ -103,20 +103,13 @@ numbersIn (n ∷ l) = n .element .numbers ++ numbersIn l
 abbrev pub readAlone : List ℕ → Reading
 readAlone s = read mostNumbers s
 
--- 'The first Description inside node k', from 1; no bytes where there is no such node
-unfoldable pub described : ℕ → List NodeRead → List ℕ
-described zero l = []
-described (suc k) [] = []
-described (suc zero) (n ∷ l) = n .description
-described (suc (suc k)) (n ∷ l) = described (suc k) l
+-- 'node number, from 1'
+abbrev pub isNumbered : ℕ → ℕ → Bool
+isNumbered k count = ltb 0 k && leb k count
 
--- 'empty when there is none or the call is refused'
-unfoldable pub descriptionOf : ℕ → List ℕ → List ℕ
-descriptionOf k s = described k (nodesIn (readAlone s))
-
--- 'its number (reading's, then 19) is a second question'
+-- a Description's 'number (reading's, then 19) is a second question'
 abbrev pub askedFor : ℕ → Reading → Reading
-askedFor k (accepted l) = cond (ltb 0 k && leb k (length l)) (accepted l) (faulty 19 0)
+askedFor k (accepted l) = cond (isNumbered k (length l)) (accepted l) (faulty 19 0)
 askedFor k (faulty j p) = faulty j p
 askedFor k (unfit j p) = unfit j p
 

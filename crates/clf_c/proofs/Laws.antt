@@ -7,7 +7,7 @@ use Rattle.clf.specs.Reading.{Reading, read, numberOf, placeNumber}
 use Rattle.reading.specs.declared.Answer.{Answer}
 use Rattle.reading.specs.declared.Checked.{Checked}
 use Rattle.reading.specs.Code.{answerOf, checkedOf}
-use Rattle.reading_counts.proofs.Answers.{answer-count, answer-numbers}
+use Rattle.reading.proofs.Counts.{answer-count, answer-numbers}
 use Rattle.clf_c.specs.declared.FileCheck.{FileCheck}
 use Rattle.clf_c.specs.declared.FileRead.{FileRead}
 use Rattle.clf_c.specs.Answers.{fileCheckOf, fileReadOf}

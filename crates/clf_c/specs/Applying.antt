@@ -5,12 +5,10 @@ use mathlib.Core.Bool.{Bool, cond, _||_}
 use mathlib.Core.List.{List}
 use Prim.Native.Nat.{ℕ}
 use lib.Dec.{eqb}
-use lib.IntN.{ℤ}
 use lib.Ieee.{Float}
 use Rattle.process_list.specs.List.{nodesOf, listOf, placed}
-use Rattle.room.specs.Room.{roomLength}
-use Rattle.clf.specs.Reading.{Reading, read, numberOf, nodesIn, elementsOf}
-use Rattle.reading.specs.Code.{coefficientsAfter, powersAfter}
+use Rattle.room.specs.Room.{Room, roomLength, filledWith}
+use Rattle.clf.specs.Reading.{Reading, read, nodesIn, elementsOf, numbersIn}
 use Rattle.pixel_run.specs.Finite.{firstNotFinite}
 use Rattle.running.specs.Running.{notThrees, notFinite, runNodes}
 use Rattle.clf_c.specs.declared.FileCheck.{FileCheck}
@@ -22,20 +20,17 @@ use Rattle.clf_c.specs.Answers.{fileCheckOf}
 unfoldable pub sliceRefused : List Float → Bool
 sliceRefused pixels = notThrees pixels || notFinite pixels
 
--- what is to be said of a file for room of these two slices
-abbrev pub readInto : List ℕ → List ℤ → List ℤ → Reading
-readInto file coefficients powers = read (roomLength coefficients powers) file
+-- what is to be said of a file for this room
+abbrev pub readInto : List ℕ → Room → Reading
+readInto file m = read (roomLength m) file
 
 -- the room after the reading: the file's numbers, then zeros; refused, zeros alone
-abbrev pub coefficientsRead : List ℕ → List ℤ → List ℤ → List ℤ
-coefficientsRead file coefficients powers = coefficientsAfter (roomLength coefficients powers) (readInto file coefficients powers) coefficients
-
-abbrev pub powersRead : List ℕ → List ℤ → List ℤ → List ℤ
-powersRead file coefficients powers = powersAfter (roomLength coefficients powers) (readInto file coefficients powers) powers
+abbrev pub roomRead : List ℕ → Room → Room
+roomRead file m = filledWith (numbersIn (nodesIn (readInto file m))) m
 
 -- the nodes of a reading's list over the pixels, with the numbers of this room; a refused reading has no nodes
-unfoldable pub runThrough : Reading → List ℤ → List ℤ → List Float → List Float
-runThrough r coefficients powers pixels = runNodes coefficients powers (nodesOf (listOf (placed (elementsOf (nodesIn r))))) pixels
+unfoldable pub runThrough : Reading → Room → List Float → List Float
+runThrough r m pixels = runNodes m (nodesOf (listOf (placed (elementsOf (nodesIn r))))) pixels
 
 -- ---- the call
 
@@ -43,29 +38,19 @@ abbrev pub answer : ℕ → ℕ → FileCheck
 answer number place = record { number = number; place = place }
 
 -- number and place: 'Running: .. 14, 15 (lowest index)', 'the place .. of 15, the index; .. of 14 .. 0'; then reading's own, 0 for accepted
-unfoldable pub applyOf : List ℕ → List ℤ → List ℤ → List Float → FileCheck
-applyOf file coefficients powers pixels =
-    cond (notThrees pixels) (answer 14 0)
-    (cond (notFinite pixels) (answer 15 (firstNotFinite pixels))
-    (fileCheckOf (readInto file coefficients powers)))
+unfoldable pub applyOf : List ℕ → Room → List Float → FileCheck
+applyOf file m pixels = cond (notThrees pixels) (answer 14 0) (cond (notFinite pixels) (answer 15 (firstNotFinite pixels)) (fileCheckOf (readInto file m)))
 
 -- the room afterwards: 'Any other refusal changes nothing'
-unfoldable pub coefficientsApplied : List ℕ → List ℤ → List ℤ → List Float → List ℤ
-coefficientsApplied file coefficients powers pixels = cond (sliceRefused pixels) coefficients (coefficientsRead file coefficients powers)
-
-unfoldable pub powersApplied : List ℕ → List ℤ → List ℤ → List Float → List ℤ
-powersApplied file coefficients powers pixels = cond (sliceRefused pixels) powers (powersRead file coefficients powers)
+unfoldable pub roomApplied : List ℕ → Room → List Float → Room
+roomApplied file m pixels = cond (sliceRefused pixels) m (roomRead file m)
 
 -- the pixels afterwards: those of an accepted call have gone through every node in file order
-unfoldable pub appliedTo : List ℕ → List ℤ → List ℤ → List Float → List Float
-appliedTo file coefficients powers pixels =
-    cond (eqb (applyOf file coefficients powers pixels .number) 0)
-    (runThrough (readInto file coefficients powers) (coefficientsRead file coefficients powers) (powersRead file coefficients powers) pixels)
-    pixels
+unfoldable pub appliedTo : List ℕ → Room → List Float → List Float
+appliedTo file m pixels = cond (eqb (applyOf file m pixels .number) 0) (runThrough (readInto file m) (roomRead file m) pixels) pixels
 
--- all that a call leaves: its answer r, the room c and p and the pixels ys afterwards
-pub record Applies (file : List ℕ) (c₀ p₀ : List ℤ) (xs : List Float) (r : FileCheck) (c p : List ℤ) (ys : List Float) : Type 0 where
-  pub answers : r ≡ applyOf file c₀ p₀ xs
-  pub coefficients : c ≡ coefficientsApplied file c₀ p₀ xs
-  pub powers : p ≡ powersApplied file c₀ p₀ xs
-  pub pixels : ys ≡ appliedTo file c₀ p₀ xs
+-- all that a call leaves: its answer r, the room m₁ and the pixels ys afterwards
+pub record Applies (file : List ℕ) (m₀ : Room) (xs : List Float) (r : FileCheck) (m₁ : Room) (ys : List Float) : Type 0 where
+  pub answers : r ≡ applyOf file m₀ xs
+  pub room : m₁ ≡ roomApplied file m₀ xs
+  pub pixels : ys ≡ appliedTo file m₀ xs

@@ -1,9 +1,8 @@
 // The functions for C: the file check on plain bytes, reading into lent room, and running pixels through a file's list. See capi/clf.h.
 ghost use mathlib.Core.Path.{_≡_};
-ghost use Rattle.room.specs.Room.{roomLength};
+ghost use Rattle.room.specs.Room.{lent};
 ghost use Rattle.clf.specs.Reading as Reading;
-ghost use Rattle.reading.specs.Code.{coefficientsAfter, powersAfter};
-ghost use Rattle.clf_c.specs.Answers.{fileCheckOf, fileReadOf};
+ghost use Rattle.clf_c.specs.Answers.{fileCheckOf, FileReads};
 ghost use mathlib.Core.Bool.{false};
 ghost use Rattle.clf_c.specs.Applying.{sliceRefused, Applies};
 
@@ -42,7 +41,7 @@ pub extern "C" fn clf_read_file(
     coefficients: &mut [i64],
     powers: &mut [i8],
 ) -> FileRead
-    ensures { λ r. ⌜ (r ≡ fileReadOf (Reading.read (roomLength (now (coefficients .entry)) (now (powers .entry))) (now (file .entry)))) × (now (coefficients .exit) ≡ coefficientsAfter (roomLength (now (coefficients .entry)) (now (powers .entry))) (Reading.read (roomLength (now (coefficients .entry)) (now (powers .entry))) (now (file .entry))) (now (coefficients .entry))) × (now (powers .exit) ≡ powersAfter (roomLength (now (coefficients .entry)) (now (powers .entry))) (Reading.read (roomLength (now (coefficients .entry)) (now (powers .entry))) (now (file .entry))) (now (powers .entry))) ⌝ }
+    ensures { λ r. ⌜ FileReads (now (file .entry)) r (lent (now (coefficients .entry)) (now (powers .entry))) (lent (now (coefficients .exit)) (now (powers .exit))) ⌝ }
 {
     let answer = reading::read(file, coefficients, powers);
     let list = answer.list;
@@ -63,7 +62,7 @@ pub extern "C" fn clf_apply(
     powers: &mut [i8],
     pixels: &mut [f64],
 ) -> FileCheck
-    ensures { λ r. ⌜ Applies (now (file .entry)) (now (coefficients .entry)) (now (powers .entry)) (now (pixels .entry)) r (now (coefficients .exit)) (now (powers .exit)) (now (pixels .exit)) ⌝ }
+    ensures { λ r. ⌜ Applies (now (file .entry)) (lent (now (coefficients .entry)) (now (powers .entry))) (now (pixels .entry)) r (lent (now (coefficients .exit)) (now (powers .exit))) (now (pixels .exit)) ⌝ }
 {
     if pixels.len() % 3 != 0 {
         return FileCheck {
@@ -89,7 +88,7 @@ fn read_and_run(
     pixels: &mut [f64],
 ) -> FileCheck
     requires { ⌜ sliceRefused (now pixels) ≡ false ⌝ }
-    ensures { λ r. ⌜ Applies (now (file .entry)) (now (coefficients .entry)) (now (powers .entry)) (now (pixels .entry)) r (now (coefficients .exit)) (now (powers .exit)) (now (pixels .exit)) ⌝ }
+    ensures { λ r. ⌜ Applies (now (file .entry)) (lent (now (coefficients .entry)) (now (powers .entry))) (now (pixels .entry)) r (lent (now (coefficients .exit)) (now (powers .exit))) (now (pixels .exit)) ⌝ }
 {
     let answer = reading::read(file, coefficients, powers);
     if answer.number != 0 {

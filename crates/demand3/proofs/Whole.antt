@@ -1,113 +1,87 @@
--- DEMAND 3 of the code, from the contracts of reading and replacing and the theorem on their definitions. Assumes nothing.
-use mathlib.Core.Path.{_≡_, refl, sym, ap, _∙_}
+-- DEMAND 3 of a reading and a run of calls, from the run of the definitions and the theorem on them. Assumes nothing.
+use mathlib.Core.Path.{_≡_, refl, sym, ap, subst, _∙_}
 use mathlib.Core.List.{List, [], _∷_, _++_, map}
 use Prim.Native.Nat.{ℕ}
-use lib.IntN.{ℤ, pos}
+use lib.ListN.{length, take, drop, length-map}
+use lib.Seq.{take-at}
 use Rattle.decimal.specs.declared.Decimal.{Decimal}
 use Rattle.process_list.specs.declared.ProcessList.{ProcessList}
-use Rattle.process_list.specs.List.{allNumbers, coefficientsOf, powersOf}
-use Rattle.room.specs.Room.{roomLength, filled}
+use Rattle.process_list.specs.File.{fileList, file-list}
+use Rattle.process_list.specs.List.{allNumbers}
+use Rattle.room.specs.Room.{Room, roomLength, filledWith}
 use Rattle.clf.specs.Nodes.{NodeRead}
-use Rattle.clf.specs.Reading.{Reading, accepted, elementsOf, nodesIn, numbersIn, read}
+use Rattle.clf.specs.Reading.{Reading, elementsOf, nodesIn, numbersIn, read}
 use Rattle.reading.specs.declared.Answer.{Answer}
-use Rattle.reading.specs.declared.Checked.{Checked}
-use Rattle.reading.specs.Code.{coefficientsAfter, powersAfter, ReadsInto}
-use Rattle.reading.specs.Code as Reading
-use Rattle.look.specs.Look.{Look, roomOf, holding, replaceIn, lookAfter}
+use Rattle.reading.specs.Code.{answerOf, ReadsInto}
+use Rattle.look.specs.Look.{Look, roomOf, holding}
 use Rattle.look.specs.Replacing as Replacing
-use Rattle.replacing.specs.Code.{Leaves, lookOf}
-use Rattle.replacing.specs.Code as Replaces
+use Rattle.replacing.specs.Code.{lookOf}
 use Rattle.claims.specs.TriedFile.{fileRun, Small}
 use Rattle.claims.specs.LookRuns.{readInto, lookRun, SameLook}
 use Rattle.claims.proofs.Refusals.{number-accepted}
 use Rattle.claims.proofs.Look.{demand3-look}
-use Rattle.demand3.specs.Runs.{said, answered, Calls, none, call, Demand3}
+use Rattle.demand3.specs.declared.RunRead.{RunRead}
+use Rattle.demand3.specs.Runs.{numbersSaid, placesSaid, CallsRun, Demand3, ReadAndReplaced}
+use Rattle.demand3.proofs.Laws.{length-answers}
 
--- ---- replacing: a run of calls is the run of the definitions
-
-left-look : (x : Look) (a : Replacing.Answer) (r : Answer) (c p : List ℤ) → Leaves x a r c p → lookOf (r .list) c p ≡ lookAfter x a
-unfolding Replaces.answerOf
-left-look x a r c p h = ap (λ (z : Answer). lookOf (z .list) c p) (h .answer) ∙ ap (λ (z : List ℤ). lookOf (lookAfter x a .list) z p) (h .coefficients)
-    ∙ ap (λ (z : List ℤ). lookOf (lookAfter x a .list) (lookAfter x a .coefficients) z) (h .powers)
-
-left-said : (x : Look) (a : Replacing.Answer) (r : Answer) (c p : List ℤ) → Leaves x a r c p → answered r ≡ said a
-unfolding Replaces.answerOf
-left-said x a r c p h = ap answered (h .answer)
-
-calls-are : (x : Look) (calls : List (ℕ × List ℕ)) (rs : List Checked) (y : Look) → Calls x calls rs y → (rs ≡ map said (lookRun x calls .0)) × (y ≡ lookRun x calls .1)
-calls-are x calls rs y (none z) = (refl, refl)
-calls-are x calls rs y (call z k e r c p h more rest w i) =
-    let a : Replacing.Answer = replaceIn x k e in
-    let b : lookOf (r .list) c p ≡ lookAfter x a = left-look x a r c p h in
-    let t : (rest ≡ map said (lookRun (lookOf (r .list) c p) more .0)) × (y ≡ lookRun (lookOf (r .list) c p) more .1) = calls-are (lookOf (r .list) c p) more rest y i in (
-      ap (λ (q : Checked). q ∷ rest) (left-said x a r c p h) ∙ ap (λ (l : List Checked). said a ∷ l) (t .0 ∙ ap (λ (q : Look). map said (lookRun q more .0)) b),
-      t .1 ∙ ap (λ (q : Look). lookRun q more .1) b,
-    )
-
--- ---- reading: what it leaves is the definition's look
+-- ---- what a reading leaves is the definition's look
 
 numbers-are : (l : List NodeRead) → numbersIn l ≡ allNumbers (elementsOf l)
 unfolding numbersIn allNumbers
 numbers-are [] = refl
 numbers-are (n ∷ l) = ap (λ (m : List Decimal). n .element .numbers ++ m) (numbers-are l)
 
-module _ (l : ProcessList) (c₀ p₀ : List ℤ) (s : List ℕ) where
-  abbrev x₀ : Look
-  x₀ = lookOf l c₀ p₀
+room-is : (x : Look) (r : Reading) → filledWith (numbersIn (nodesIn r)) (x .room) ≡ holding x (elementsOf (nodesIn r)) .room
+unfolding holding
+room-is x r = ap (λ (xs : List Decimal). filledWith xs (x .room)) (numbers-are (nodesIn r))
 
-  abbrev room : ℕ
-  room = roomLength c₀ p₀
+list-is : (x : Look) (r : Reading) → answerOf r .list ≡ holding x (elementsOf (nodesIn r)) .list
+unfolding answerOf holding
+list-is x r = refl
 
-  after-coefficients : (r : Reading) → coefficientsAfter room r c₀ ≡ holding x₀ (elementsOf (nodesIn r)) .coefficients
-  unfolding coefficientsAfter holding coefficientsOf
-  after-coefficients r = ap (λ (m : List Decimal). filled room (pos 0) (map (λ (d : Decimal). d .coefficient) m) c₀) (numbers-are (nodesIn r))
+pub read-look : (x : Look) (s : List ℕ) (r : Answer) (m : Room) → ReadsInto (read (roomOf x) s) r (x .room) m → lookOf (r .list) m ≡ readInto x s
+read-look x s r m h =
+    let d : Reading = read (roomOf x) s in
+    ap (λ (z : Answer). lookOf (z .list) m) (h .answer) ∙ ap (λ (z : ProcessList). lookOf z m) (list-is x d) ∙ ap (lookOf (readInto x s .list)) (h .room ∙ room-is x d)
 
-  after-powers : (r : Reading) → powersAfter room r p₀ ≡ holding x₀ (elementsOf (nodesIn r)) .powers
-  unfolding powersAfter holding powersOf
-  after-powers r = ap (λ (m : List Decimal). filled room (pos 0) (map (λ (d : Decimal). d .power) m) p₀) (numbers-are (nodesIn r))
+-- ---- the look after the run is a fresh reading's
 
-  after-list : (r : Reading) → Reading.answerOf r .list ≡ holding x₀ (elementsOf (nodesIn r)) .list
-  unfolding Reading.answerOf holding
-  after-list r = refl
+module _ (s : List ℕ) (calls : List (ℕ × List ℕ)) (m₀ : Room) where
+  abbrev file : List ℕ
+  file = fileRun (read (roomLength m₀)) s calls .1
 
-  read-look : (r : Answer) (c p : List ℤ) → ReadsInto (read room s) r c₀ p₀ c p → lookOf (r .list) c p ≡ readInto x₀ s
-  read-look r c p h =
-      ap (λ (z : Answer). lookOf (z .list) c p) (h .answer) ∙ ap (λ (z : ProcessList). lookOf z c p) (after-list (read room s))
-      ∙ ap (λ (z : List ℤ). lookOf (readInto x₀ s .list) z p) (h .coefficients ∙ after-coefficients (read room s))
-      ∙ ap (λ (z : List ℤ). lookOf (readInto x₀ s .list) (readInto x₀ s .coefficients) z) (h .powers ∙ after-powers (read room s))
+  front : (f : Replacing.Answer → ℕ) (x : Look) (a a₀ : List ℕ) → a ≡ map f (lookRun x calls .0) ++ drop (length calls) a₀ → take (length calls) a ≡ map f (lookRun x calls .0)
+  front f x a a₀ e =
+      let n : length (map f (lookRun x calls .0)) ≡ length calls = length-map (lookRun x calls .0) f ∙ length-answers x calls in
+      ap (take (length calls)) e ∙ take-at (map f (lookRun x calls .0)) (drop (length calls) a₀) (length calls) n
 
-  look-read : (y : Look) → y ≡ readInto x₀ s
-      → (y .list ≡ Reading.answerOf (read room s) .list) × ReadsInto (read room s) (Reading.answerOf (read room s)) c₀ p₀ (y .coefficients) (y .powers)
-  look-read y q = (
-    ap (λ (z : Look). z .list) q ∙ sym (after-list (read room s)),
-    record {
-      answer = refl;
-      coefficients = ap (λ (z : Look). z .coefficients) q ∙ sym (after-coefficients (read room s));
-      powers = ap (λ (z : Look). z .powers) q ∙ sym (after-powers (read room s));
-    },
-  )
-
--- DEMAND 3
-module _ (s : List ℕ) (c₀ p₀ : List ℤ) (r : Answer) (c p : List ℤ) (h : ReadsInto (read (roomLength c₀ p₀) s) r c₀ p₀ c p) (z : r .number ≡ 0) where
-  abbrev room₀ : ℕ
-  room₀ = roomLength c₀ p₀
-
-  abbrev x₁ : Look
-  x₁ = lookOf (r .list) c₀ p₀
-
-  well : (l : List NodeRead) × (read room₀ s ≡ accepted l)
-  unfolding Reading.answerOf
-  well = number-accepted room₀ s (sym (ap (λ (a : Answer). a .number) (h .answer)) ∙ z)
-
-  pub demand3 : (calls : List (ℕ × List ℕ)) (rs : List Checked) (y : Look) → Calls (lookOf (r .list) c p) calls rs y → Small (read room₀) s calls → Demand3 s c₀ p₀ calls rs y
-  demand3 calls rs y k small =
-      let d : SameLook x₁ s calls = demand3-look x₁ s (well .0) calls (well .1) small in
-      let q : lookOf (r .list) c p ≡ readInto x₁ s = read-look (r .list) c₀ p₀ s r c p h in
-      let g : (rs ≡ map said (lookRun (lookOf (r .list) c p) calls .0)) × (y ≡ lookRun (lookOf (r .list) c p) calls .1) = calls-are (lookOf (r .list) c p) calls rs y k in
-      let v : y ≡ readInto x₁ (fileRun (read room₀) s calls .1) = g .1 ∙ ap (λ (z : Look). lookRun z calls .1) q ∙ d .look in
-      let w = look-read (r .list) c₀ p₀ (fileRun (read room₀) s calls .1) y v in
+  by-look : (x : Look) → x .room ≡ m₀ → SameLook x s calls → (y : Look) (ns₀ ps₀ ns ps : List ℕ) → CallsRun (readInto x s) calls ns₀ ps₀ y ns ps
+      → Demand3 s m₀ calls (take (length calls) ns) (take (length calls) ps) y
+  by-look x e d y ns₀ ps₀ ns ps t =
+      subst (λ (m : Room). Demand3 s m calls (take (length calls) ns) (take (length calls) ps) y) e
+      (let v : y ≡ readInto x (fileRun (read (roomOf x)) s calls .1) = t .left ∙ d .look in
       record {
-        answers = g .0 ∙ ap (λ (z : Look). map said (lookRun z calls .0)) q ∙ ap (map said) (d .answers);
-        list = w .0;
-        room = w .1;
-      }
+        numbers = front _ (readInto x s) ns ns₀ (t .numbers) ∙ ap numbersSaid (d .answers);
+        places = front _ (readInto x s) ps ps₀ (t .places) ∙ ap placesSaid (d .answers);
+        inElement = d .places;
+        list = file-list (y .list) ∙ ap (λ (z : Look). z .list) v ∙ sym (list-is x (read (roomOf x) (fileRun (read (roomOf x)) s calls .1)));
+        room = ap (λ (z : Look). z .room) v ∙ sym (room-is x (read (roomOf x) (fileRun (read (roomOf x)) s calls .1)));
+      })
+
+-- THE PROMISE: r is what reading answered, l the list that the run left
+pub promise : (s : List ℕ) (calls : List (ℕ × List ℕ)) (r : Answer) (l : ProcessList) (m₀ m m₁ : Room) (ns₀ ns₁ ps₀ ps₁ : List ℕ) → ReadsInto (read (roomLength m₀) s) r m₀ m
+    → CallsRun (lookOf (r .list) m) calls ns₀ ps₀ (lookOf l m₁) ns₁ ps₁
+    → ReadAndReplaced s calls (record { number = r .number; place = r .place; list = l }) m₀ m₁ ns₀ ns₁ ps₀ ps₁
+unfolding answerOf
+promise s calls r l m₀ m m₁ ns₀ ns₁ ps₀ ps₁ h t =
+    let x : Look = lookOf l m₀ in
+    let q : lookOf (r .list) m ≡ readInto x s = read-look x s r m h in
+    let u : CallsRun (readInto x s) calls ns₀ ps₀ (lookOf l m₁) ns₁ ps₁ = subst (λ (z : Look). CallsRun z calls ns₀ ps₀ (lookOf l m₁) ns₁ ps₁) q t in
+    record {
+      number = ap (λ (z : Answer). z .number) (h .answer);
+      place = ap (λ (z : Answer). z .place) (h .answer);
+      run = u;
+      demand3 = λ z k.
+          let w = number-accepted (roomLength m₀) s (sym (ap (λ (y : Answer). y .number) (h .answer)) ∙ z) in
+          by-look s calls m₀ x refl (demand3-look x s (w .0) calls (w .1) k) (lookOf l m₁) ns₀ ps₀ ns₁ ps₁ u;
+    }

@@ -4,10 +4,10 @@ use mathlib.Core.Bool.{false}
 use mathlib.Core.List.{List, []}
 use Prim.Native.Nat.{ℕ}
 use native.Mathlib.Omega.{arith}
-use lib.IntN.{ℤ}
 use Rattle.process_list.specs.declared.Kind.the-variants.{Matrix}
 use Rattle.process_list.specs.declared.Depth.the-variants.{I8}
-use Rattle.grammar.specs.Parse.{Out, Parser, thenOut, judgeP}
+use Rattle.room.specs.Room.{Room, clearedFrom}
+use Rattle.grammar.specs.Parse.{Out, Parser, thenOut, bindP, judgeP}
 use Rattle.xml.specs.Code.{Inside, Reads, Failed}
 use Rattle.xml.specs.CodeLaws.{reads-well, reads-ill, reads-unjudged}
 use Rattle.xml.specs.declared.Scan.{Scan}
@@ -18,7 +18,6 @@ use Rattle.nodes.specs.declared.CarriedNode.{CarriedNode}
 use Rattle.nodes.specs.declared.CarriedNode.the-variants as Carrieds
 use Rattle.node_parts.specs.Code.{NodeReads, noNode}
 use Rattle.node_parts.specs.declared.NodeStep.{NodeStep}
-use Rattle.node_parts.proofs.Reading.{NodeIs, NodePart, to-failed, node-reads, none-part}
 use Rattle.look.specs.Replacing.{start, element}
 
 abbrev judged : Parser NodeName
@@ -34,36 +33,39 @@ carried-well Carrieds.Range = refl
 carried-well Carrieds.Cdl = refl
 
 anyNode : NodeRead
-anyNode = record { element = record { kind = Matrix false; input = I8; output = I8; numbers = [] }; description = [] }
+anyNode = record { element = record { kind = Matrix false; input = I8; output = I8; numbers = [] } }
 
 module _ (s : List ℕ) (base : ℕ) where
-  none : (c p : List ℤ) (n : NodeName) (r : Scan) → Failed r → Reads 1 judged (λ e. n) s 0 r → NodeReads (element .run) s 0 base (noNode r) c p c p
+  none : (m₀ m₁ : Room) → m₁ ≡ clearedFrom base m₀ → (n : NodeName) (r : Scan) → Failed r → Reads 1 judged (λ e. n) s 0 r → NodeReads (element .run) s 0 base (noNode r) m₀ m₁
   unfolding element
-  none c p n r f v =
-      node-reads s base (noNode r) c p c p (element .run) 0
-      (to-failed judged s 0 (NodeIs s base (noNode r) c p c p) (NodePart s base (noNode r) c p c p) body (λ e. n) r f anyNode (none-part s base c p r) v)
+  none m₀ m₁ q n r f v = by r f v
+    where
+      by : (y : Scan) → Failed y → Reads 1 judged (λ e. n) s 0 y → NodeReads (bindP judged body) s 0 base (noNode y) m₀ m₁
+      by (At e) f v = absurd f
+      by (Fault k e) f v =
+          record { value = anyNode; out = ap (λ (o : Out NodeName). thenOut o body) (v .out); inside = v .inside; node = refl; all = tt; room = q }
+      by Cut f v = record { value = anyNode; out = ap (λ (o : Out NodeName). thenOut o body) (v .out); inside = tt; node = refl; all = tt; room = q }
 
   -- no start
-  pub element-none : (c p : List ℤ) (n : NodeName) (r : Scan) → Failed r → Reads 1 (start .run) (λ e. n) s 0 r → NodeReads (element .run) s 0 base (noNode r) c p c p
-  element-none c p n r f v = none c p n r f (reads-unjudged (start .run) (λ e. n) s 0 nodeFault 1 1 r f v)
+  pub element-none : (m₀ m₁ : Room) → m₁ ≡ clearedFrom base m₀ → (n : NodeName) (r : Scan) → Failed r → Reads 1 (start .run) (λ e. n) s 0 r → NodeReads (element .run) s 0 base (noNode r) m₀ m₁
+  element-none m₀ m₁ q n r f v = none m₀ m₁ q n r f (reads-unjudged (start .run) (λ e. n) s 0 nodeFault 1 1 r f v)
 
   -- the start of a node that is not carried
-  pub element-fault : (c p : List ℤ) (n : NodeName) (k e : ℕ) → nodeFault n ≡ k → (k ≡ 0 → ⊥) → Reads 1 (start .run) (λ e. n) s 0 (At e)
-      → NodeReads (element .run) s 0 base (noNode (Fault k 0)) c p c p
-  element-fault c p n k e q z v = none c p n (Fault k 0) tt (reads-ill (start .run) (λ e. n) s 0 nodeFault 1 1 e k q z v)
+  pub element-fault : (m₀ m₁ : Room) → m₁ ≡ clearedFrom base m₀ → (n : NodeName) (k e : ℕ) → nodeFault n ≡ k → (k ≡ 0 → ⊥) → Reads 1 (start .run) (λ e. n) s 0 (At e)
+      → NodeReads (element .run) s 0 base (noNode (Fault k 0)) m₀ m₁
+  element-fault m₀ m₁ w n k e q z v = none m₀ m₁ w n (Fault k 0) tt (reads-ill (start .run) (λ e. n) s 0 nodeFault 1 1 e k q z v)
 
   -- a carried node
-  pub element-node : (c₀ p₀ c₁ p₁ : List ℤ) (n : CarriedNode) (e : ℕ) (step : NodeStep) → Reads 1 (start .run) (λ e. carriedOf n) s 0 (At e)
-      → NodeReads (body (carriedOf n)) s e base step c₀ p₀ c₁ p₁ → NodeReads (element .run) s 0 base step c₀ p₀ c₁ p₁
+  pub element-node : (m₀ m₁ : Room) (n : CarriedNode) (e : ℕ) (step : NodeStep) → Reads 1 (start .run) (λ e. carriedOf n) s 0 (At e)
+      → NodeReads (body (carriedOf n)) s e base step m₀ m₁ → NodeReads (element .run) s 0 base step m₀ m₁
   unfolding element
-  element-node c₀ p₀ c₁ p₁ n e step v w =
+  element-node m₀ m₁ n e step v w =
       let j : Reads 1 judged (λ e. carriedOf n) s 0 (At e) = reads-well (start .run) (λ e. carriedOf n) s 0 nodeFault 1 e (carried-well n) v in
       record {
         value = w .value;
         out = w .out ∙ ap (λ (o : Out NodeName). thenOut o body) (j .out);
         inside = later (step .scan) (w .inside);
         node = w .node;
-        about = w .about;
         all = w .all;
         room = w .room;
       }

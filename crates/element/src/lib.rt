@@ -2,6 +2,7 @@
 ghost use mathlib.Core.Path.{_≡_};
 ghost use Rattle.grammar.specs.Parse.{lookP};
 ghost use Rattle.xml.specs.Code.{Reads, blamedScan};
+ghost use Rattle.room.specs.Room.{lent};
 ghost use Rattle.nodes.specs.Code.{nameOf};
 ghost use Rattle.node_parts.specs.Code.{NodeReads};
 ghost use Rattle.look.specs.Replacing as Replacing;
@@ -12,7 +13,7 @@ use nodes::NodeName;
 use xml::Scan;
 
 // How the start of an element reads, and the node that it names.
-pub struct StartStep {
+struct StartStep {
     pub scan: Scan,
     pub name: NodeName,
 }
@@ -146,7 +147,7 @@ fn blamed(r: Scan) -> Scan
 }
 
 // The start of an element: `<` and a node's name. Another start is 20 at 0.
-pub fn element_start(s: &[u8]) -> StartStep
+fn element_start(s: &[u8]) -> StartStep
     ensures { λ r. ⌜ StartReads (Replacing.start .run) (now (s .entry)) 0 r ⌝ }
 {
     let step = open_start(s);
@@ -158,19 +159,21 @@ pub fn element_start(s: &[u8]) -> StartStep
     }
 }
 
-// The element from its first byte on; its numbers are stored from `base` on.
+// The element from its first byte on: its numbers stand from `base` on; at a fault the node is blank and the room is zero from there on.
 pub fn element(s: &[u8], coefficients: &mut [i64], powers: &mut [i8], base: usize) -> NodeStep
-    ensures { λ r. ⌜ NodeReads (Replacing.element .run) (now (s .entry)) 0 base r (now (coefficients .entry)) (now (powers .entry)) (now (coefficients .exit)) (now (powers .exit)) ⌝ }
+    ensures { λ r. ⌜ NodeReads (Replacing.element .run) (now (s .entry)) 0 base r (lent (now (coefficients .entry)) (now (powers .entry))) (lent (now (coefficients .exit)) (now (powers .exit))) ⌝ }
 {
     let start = element_start(s);
     let scan = start.scan;
     let name = start.name;
     let Scan::At(e) = scan else {
-        return node_parts::no_node(scan);
+        return node_parts::failed(scan, coefficients, powers, base);
     };
     match name {
         NodeName::Carried(c) => nodes::node_body(s, e, c, coefficients, powers, base),
-        NodeName::NotCarried => node_parts::no_node(Scan::Fault(7, 0)),
-        NodeName::Other => node_parts::no_node(Scan::Fault(5, 0)),
+        NodeName::NotCarried => {
+            node_parts::failed(Scan::Fault(7, 0), coefficients, powers, base)
+        },
+        NodeName::Other => { node_parts::failed(Scan::Fault(5, 0), coefficients, powers, base) },
     }
 }

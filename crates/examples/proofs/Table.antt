@@ -7,7 +7,7 @@ use Rattle.decimal_value.specs.Value.{valueOf, powered, ten, less, atMost, notN
 use Rattle.decimal_write.specs.Written as Written
 use Rattle.process_list.specs.List as List
 use Rattle.room.specs.Room.{roomLength}
-use Rattle.valid.specs.Valid.{every, pairs, numbersAt, elementOf, elementsOf, tableRight, shapeRight, carried, rangeHolds, slopesHold, powersHold, cdlHolds, rulesHold, sound, gapless, isBlank, listRight, restZero, isValid}
+use Rattle.valid.specs.Valid.{every, pairs, numbersAt, elementOf, elementsOf, tableRight, shapeRight, carried, rangeHolds, slopesHold, powersHold, cdlHolds, rulesHold, sound, gapless, isBlank, listRight, restZero, zeroFrom, isValid}
 use Rattle.pixel.specs.Hold.{hold}
 use Rattle.pixel.specs.Scale.{toFraction, toFractions, toCodeValue, toCodeValues}
 use Rattle.pixel.specs.Range.{rangeScale, rangeShift, rangeLine, rangeComponent, rangePixel}
@@ -27,8 +27,8 @@ pub starred : map answer questions ≡ answers
 unfolding questions answers
     isDigit isMark isMinus behindSign digitsOf behindDigits fractionOf behindFraction isEmpty isExponent exponentMinus exponentDigits formOf append withSign digits scale zeros trailing normal judged tokenOf
     valueOf powered ten less atMost notNegative isOne Written.normal
-    List.sameDepth List.scaleOf List.numbersOf List.unplaced List.standing List.nodeOf List.total List.placeFrom List.placed List.allNumbers List.coefficientsOf List.powersOf List.blankNode List.listOf List.nodesOf List.differs List.firstDiffers List.judged
-    roomLength every pairs numbersAt elementOf elementsOf tableRight shapeRight carried rangeHolds slopesHold powersHold cdlHolds rulesHold sound gapless isBlank listRight restZero isValid
+    List.sameDepth List.scaleOf List.numbersOf List.unplaced List.standing List.nodeOf List.total List.placeFrom List.placed List.allNumbers List.blankNode List.listOf List.nodesOf List.differs List.firstDiffers List.judged
+    roomLength every pairs numbersAt elementOf elementsOf tableRight shapeRight carried rangeHolds slopesHold powersHold cdlHolds rulesHold sound gapless isBlank listRight restZero zeroFrom isValid
     hold toFraction toFractions toCodeValue toCodeValues rangeScale rangeShift rangeLine rangeComponent rangePixel rowOut matrixPixel heldForFwd sop sopPixel satPixel cdlPixel
     numberAt rowAt rowsAt position floorTo index remainder interpolated stepped lookedUp entryAt columnOf tableIn lookedUpAll lut1dPixel
     stepPixel rangeFrom cdlFrom eachPixel firstNotFinite preparedAs preparedOf rowsAs rowsOf runNode runNodes notThrees notFinite ranOf pixelsOf

@@ -14,7 +14,9 @@ use Rattle.decimal_value.specs.Value.{valueOf}
 use Rattle.process_list.specs.declared.Depth.the-variants.{F32}
 use Rattle.process_list.specs.declared.Kind.{Kind}
 use Rattle.process_list.specs.declared.Kind.the-variants.{Matrix, Lut1d, Range, Cdl}
-use Rattle.process_list.specs.List.{Element, placed, coefficientsOf, powersOf, listOf}
+use Rattle.process_list.specs.List.{Element, placed, allNumbers, listOf}
+use Rattle.room.specs.Room.{Room, lent, coefficientParts, powerParts}
+use Rattle.clf.specs.Numbers.{faultOf, anyNumber}
 use Rattle.running.specs.Running.{ranOf, pixelsOf}
 use Rattle.xml.specs.Bytes.{bytes}
 
@@ -31,20 +33,25 @@ pub data Answer : Type 0 where
 
 -- ---- what the definitions answer
 
+-- a token that says no number has the refusal that the only number of an element would have
 abbrev pub ofToken : Token → Answer
 ofToken (Number d) = number (d .coefficient) (d .power)
-ofToken Malformed = refusal 9
+ofToken Malformed = refusal (faultOf 1 anyNumber 0 Malformed)
 
 -- three components a pixel
 abbrev pub greyPixel : Float → List Float
 greyPixel x = x ∷ x ∷ x ∷ []
 
--- the nodes stand in a list, their numbers without gaps in a room
+-- the numbers of all nodes, without gaps in node order, in a room that has no more
+abbrev pub roomOf : List Element → Room
+roomOf es = lent (coefficientParts (allNumbers es)) (powerParts (allNumbers es))
+
+-- the nodes stand in a list, their numbers in the room
 abbrev pub ofRun : List Element → List Float → Answer
 ofRun es xs =
     slice
-    (ranOf (listOf (placed es)) (coefficientsOf es) (powersOf es) xs .number)
-    (pixelsOf (listOf (placed es)) (coefficientsOf es) (powersOf es) xs)
+    (ranOf (listOf (placed es)) (roomOf es) xs .number)
+    (pixelsOf (listOf (placed es)) (roomOf es) xs)
 
 abbrev pub answer : Question → Answer
 answer (token t) = ofToken (tokenOf t)

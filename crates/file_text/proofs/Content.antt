@@ -1,21 +1,21 @@
 -- The loop over ProcessList's content. Assumes nothing.
 use mathlib.Core.Path.{_≡_, refl, sym, ap, _∙_, subst}
-use mathlib.Core.Bool.{Bool, true, false, cond}
 use mathlib.Core.List.{List, [], _∷_, _++_}
-use Prim.Native.Nat.{ℕ, zero, suc, _+_, _≤_, _<_}
+use Prim.Native.Nat.{ℕ, _+_, _-_, _≤_, _<_}
 use native.Mathlib.Omega.{arith}
-use lib.Dec.{leb}
-use lib.IntN.{ℤ}
 use lib.ListN.{length, drop}
-use borrow.Author.Tests.{le-leb}
-use Rattle.grammar.specs.Parse.{Out, done, fault, cut, again, thenOut}
-use Rattle.grammar.specs.Grammar.{items}
+use Rattle.grammar.specs.Parse.{done, fault, cut, again}
+use Rattle.grammar.specs.Grammar.{items, wholeItems}
+use Rattle.grammar.specs.Splice.{flat}
 use Rattle.xml.specs.Bytes.{bytes}
 use Rattle.xml.specs.Xml.{endTag}
 use Rattle.xml.specs.Elements.{Part, gap, child, close, between}
 use Rattle.xml.specs.declared.Scan.{Scan}
 use Rattle.xml.specs.declared.Scan.the-variants as Scans
 use Rattle.xml.specs.Code.{scanOut, Inside, Reads, noValue, part, Failed}
+use Rattle.process_list.specs.List as Lists
+use Rattle.room.specs.Room.{Room, laidIn}
+use Rattle.room.proofs.Rooms.{RoomFrom, from-refl, from-trans}
 use Rattle.markup.specs.Leads.{LeadsTo}
 use Rattle.markup.specs.declared.Lead.the-variants as Leads
 use Rattle.markup.specs.Between.{between-gap, between-fault, between-cut, between-refused, between-child, between-child-fault, between-child-cut, between-end-reads}
@@ -23,163 +23,198 @@ use Rattle.tags.specs.Code.{partIn}
 use Rattle.tags.proofs.Words.{part-in}
 use Rattle.clf.specs.Nodes.{NodeRead}
 use Rattle.clf.specs.List.{Child, Flags, noFlags, childFault, childBody, listItem, nextFlags}
-use Rattle.clf.specs.Reading.{nodesOf, withChild}
+use Rattle.clf.specs.Reading.{nodesOf, withChild, numbersIn}
+use Rattle.clf.specs.Whole.{WholeText}
 use Rattle.file_text.specs.declared.ListState.{ListState}
 use Rattle.file_text.specs.declared.ListStep.{ListStep}
-use Rattle.file_text.specs.Code.{flagsOf, WhenAt, Outside, Holds, Grows, ChildReads, refused, read, noList, step, ContentReads}
-use Rattle.file_text.proofs.Nodes.{nodes-more, outside-then}
-use Rattle.file_text.proofs.Items.{onItems, itemAt, items-on, items-end, items-bad, items-short, items-past, nodes-gap, nodes-close}
-use Rattle.file_text.proofs.Children.{holds-none}
+use Rattle.file_text.specs.Code.{bare, stateFrom, stateWith, Counted, Holds, flagsOf, noList, step, ChildReads, refused, read, ItemsRead}
+use Rattle.file_text.proofs.Nodes.{counted-none, counted-both}
+use Rattle.file_text.proofs.Rooms.{from-less, holds-none, holds-more, holds-failed, holds-whole, holds-size}
+use Rattle.file_text.proofs.Places.{nodes-gap, nodes-child, state-none, state-gap, state-child, flags-child}
+use Rattle.file_text.proofs.Children.{child-room}
+use Rattle.file_text.proofs.Items.{onItems, wholeFrom, itemAt, items-on, items-end, items-bad, items-short, items-past, whole-on, whole-end, whole-bad, whole-short, whole-past, item-length, flat-more}
 
--- what has been read of the content up to i
-pub record ContentInv (wanted : ℕ) (s : List ℕ) (at i : ℕ) (st : ListState) (c₀ : List ℤ) (p₀ : List ℤ) (c : List ℤ) (p : List ℤ) : Type 0 where
+-- what has been read of the content up to i: the items, each with its bytes
+pub record ContentInv (wanted : ℕ) (s : List ℕ) (at i : ℕ) (st : ListState) (m₀ m : Room) : Type 0 where
   pub parts : List (Part Child × List ℕ)
-  pub from : at ≤ i
+  pub place : i ≡ at + length (flat parts)
   pub run : onItems [] noFlags (drop at s) ≡ onItems parts (flagsOf st) (drop i s)
-  pub holds : Holds wanted s (nodesOf parts) st c₀ p₀ c p
+  pub whole : wholeFrom [] noFlags (drop at s) ≡ wholeFrom parts (flagsOf st) (drop i s)
+  pub state : st ≡ stateFrom wanted at (flagsOf st, parts)
+  pub counted : Counted (nodesOf parts)
+  pub room : RoomFrom Lists.mostNumbers (laidIn 0 (numbersIn (nodesOf parts)) m₀) m
 
-pub content-start : (wanted : ℕ) (s : List ℕ) (at : ℕ) (c p : List ℤ) → ContentInv wanted s at at noList c p c p
+pub content-start : (wanted : ℕ) (s : List ℕ) (at : ℕ) (m : Room) → ContentInv wanted s at at noList m m
 unfolding nodesOf
-content-start wanted s at c p = record { parts = []; from = omega arith; run = refl; holds = holds-none wanted s c p }
+content-start wanted s at m = record {
+  parts = [];
+  place = omega arith;
+  run = refl;
+  whole = refl;
+  state = state-none wanted at;
+  counted = counted-none;
+  room = holds-none m;
+}
 
 item-is : (st : Flags) (u : List ℕ) → (listItem st) .run u ≡ (between (endTag (bytes "ProcessList") 0) (childFault st) childBody) .run u
 unfolding listItem
 item-is st u = refl
 
--- the nodes of a child behind others
-nodes-child : (l : List (Part Child × List ℕ)) (k : Child) (b : List ℕ) → nodesOf l ++ withChild k [] ≡ nodesOf (l ++ (child k, b) ∷ [])
-unfolding nodesOf
-nodes-child l k b = sym (nodes-more l ((child k, b) ∷ []))
+-- the answer of the content that begins at `at`
+abbrev pub ContentReads : ℕ → List ℕ → ℕ → ListStep → Room → Room → Type 0
+ContentReads wanted s at r m₀ m₁ = ItemsRead wanted ((items listItem nextFlags noFlags) .run) (wholeItems listItem nextFlags noFlags (drop at s)) at s at r m₀ m₁
 
-module _ (wanted : ℕ) (s : List ℕ) (at i : ℕ) (st : ListState) (c₀ p₀ c p : List ℤ) (v : ContentInv wanted s at i st c₀ p₀ c p) (g : i < length s) where
+used-is : (wanted at : ℕ) (fl : Flags) (l : List (Part Child × List ℕ)) (st : ListState) → st ≡ stateFrom wanted at (fl, l) → st .used ≡ Lists.capped (Lists.total (bare (nodesOf l)))
+unfolding stateFrom stateWith
+used-is wanted at fl l st e = ap (λ (x : ListState). x .used) e
+
+module _ (wanted : ℕ) (s : List ℕ) (at i : ℕ) (st : ListState) (m₀ m : Room) (v : ContentInv wanted s at i st m₀ m) where
   abbrev fl : Flags
   fl = flagsOf st
 
-  pub content-gap : (e : ℕ) → LeadsTo s i (Leads.Gap e) → ContentInv wanted s at e st c₀ p₀ c p
-  content-gap e l = record {
-    parts = v .parts ++ itemAt s i e gap ∷ [];
-    from = omega (arith, v .from, l .inside .0);
-    run = v .run ∙ items-on (v .parts) fl s i e (omega (arith, l .inside .0)) (l .inside .1) gap fl
-        (item-is fl (drop i s) ∙ between-gap (endTag (bytes "ProcessList") 0) (childFault fl) childBody s i e l) refl;
-    holds = subst (λ (n : List NodeRead). Holds wanted s n st c₀ p₀ c p) (sym (nodes-gap (v .parts) (itemAt s i e gap .1))) (v .holds);
-  }
+  abbrev now : WholeText
+  now = (flagsOf st, v .parts)
 
-  -- it ends here: the answer is a fault or cut
-  stopped : (r : Scan) (st′ : ListState) (c₁ p₁ : List ℤ) → Failed r → scanOut (λ e. v .parts) s r ≡ onItems (v .parts) fl (drop i s) → Inside 0 s i r → Outside c p c₁ p₁
-      → ContentReads wanted ((items listItem nextFlags noFlags) .run) s at (step r st′) c₀ p₀ c₁ p₁
-  stopped (Scans.Fault k q) st′ c₁ p₁ f z b o = record {
-    parts = v .parts;
-    out = z ∙ sym (v .run);
-    inside = (omega (arith, v .from, b .0), b .1);
-    outside = outside-then c₀ p₀ c p c₁ p₁ (v .holds .outside) o;
-    holds = tt;
-  }
-  stopped Scans.Cut st′ c₁ p₁ f z b o = record {
-    parts = v .parts;
-    out = z ∙ sym (v .run);
-    inside = tt;
-    outside = outside-then c₀ p₀ c p c₁ p₁ (v .holds .outside) o;
-    holds = tt;
-  }
-  stopped (Scans.At e) st′ c₁ p₁ f z b o = absurd f
+  used : st .used ≡ Lists.capped (Lists.total (bare (nodesOf (v .parts))))
+  used = used-is wanted at fl (v .parts) st (v .state)
 
-  same-room : Outside c p c p
-  same-room = record { coefficients = refl; behind = refl; powers = refl; beyond = refl }
+  -- it ends here: what stands whole is what has been read
+  ended : (parts : List (Part Child × List ℕ)) (r : Scan) (m₁ : Room) → scanOut (λ e. parts) s r ≡ onItems (v .parts) fl (drop i s) → wholeFrom (v .parts) fl (drop i s) ≡ now
+      → Inside 0 s at r → RoomFrom (st .used) m m₁ → ContentReads wanted s at (step r st) m₀ m₁
+  ended parts r m₁ z w b g =
+      let e : wholeItems listItem nextFlags noFlags (drop at s) ≡ now = v .whole ∙ w in
+      record {
+        parts = parts;
+        out = z ∙ sym (v .run);
+        inside = b;
+        state = v .state ∙ ap (stateFrom wanted at) (sym e);
+        counted = subst (λ (x : WholeText). Counted (nodesOf (x .1))) (sym e) (v .counted);
+        room = subst (λ (x : WholeText). Holds (nodesOf (x .1)) m₀ m₁) (sym e) (holds-failed (nodesOf (v .parts)) (st .used) m₀ m m₁ used (v .room) g);
+      }
 
-  pub content-fault : (k q : ℕ) → LeadsTo s i (Leads.Fault k q) → ContentReads wanted ((items listItem nextFlags noFlags) .run) s at (step (Scans.Fault k q) st) c₀ p₀ c p
-  content-fault k q l =
-      stopped (Scans.Fault k q) st c p tt
-      (sym (items-bad (v .parts) fl (drop i s) k (drop q s) (item-is fl (drop i s) ∙ between-fault (endTag (bytes "ProcessList") 0) (childFault fl) childBody s i k q l)))
-      (l .inside) same-room
+  -- the slices keep their lengths
+  pub content-size : RoomFrom 0 m₀ m
+  content-size = holds-size (nodesOf (v .parts)) m₀ m (holds-whole (nodesOf (v .parts)) m₀ m (v .room))
 
-  pub content-cut : LeadsTo s i Leads.Cut → ContentReads wanted ((items listItem nextFlags noFlags) .run) s at (step Scans.Cut st) c₀ p₀ c p
-  content-cut l =
-      stopped Scans.Cut st c p tt
-      (sym (items-short (v .parts) fl (drop i s) (item-is fl (drop i s) ∙ between-cut (endTag (bytes "ProcessList") 0) (childFault fl) childBody s i l)))
-      tt same-room
+  pub child-size : (w : List ℕ) (e : ℕ) (r : ListStep) (m₁ : Room) → ChildReads wanted s w i e st r m m₁ → RoomFrom 0 m₀ m₁
+  child-size w e r m₁ h = from-trans 0 m₀ m m₁ content-size (from-less (st .used) 0 m m₁ (omega arith) (child-room wanted s w i e st r m m₁ h))
 
-  -- the end tag
-  pub content-end : (r : Scan) → LeadsTo s i Leads.End → Reads 1 ((endTag (bytes "ProcessList") 0) .run) noValue s i r
-      → ContentReads wanted ((items listItem nextFlags noFlags) .run) s at (step r st) c₀ p₀ c p
-  content-end (Scans.At e) l h = record {
-    parts = v .parts ++ itemAt s i e close ∷ [];
-    out = sym (v .run ∙ items-end (v .parts) fl s i e (omega (arith, h .inside .0)) (h .inside .1)
-        (item-is fl (drop i s) ∙ between-end-reads (endTag (bytes "ProcessList") 0) (childFault fl) childBody s i l (Scans.At e) h));
-    inside = (omega (arith, v .from, h .inside .0), h .inside .1);
-    outside = v .holds .outside;
-    holds = subst (λ (n : List NodeRead). Holds wanted s n st c₀ p₀ c p) (sym (nodes-close (v .parts) (itemAt s i e close .1))) (v .holds);
-  }
-  content-end (Scans.Fault k q) l h =
-      stopped (Scans.Fault k q) st c p tt
-      (sym (items-bad (v .parts) fl (drop i s) k (drop q s) (item-is fl (drop i s) ∙ between-end-reads (endTag (bytes "ProcessList") 0) (childFault fl) childBody s i l (Scans.Fault k q) h)))
-      (h .inside) same-room
-  content-end Scans.Cut l h =
-      stopped Scans.Cut st c p tt
-      (sym (items-short (v .parts) fl (drop i s) (item-is fl (drop i s) ∙ between-end-reads (endTag (bytes "ProcessList") 0) (childFault fl) childBody s i l Scans.Cut h)))
-      tt same-room
+  low : at ≤ i
+  low = omega (arith, v .place)
 
-  -- a child, whose name ends at e
-  module _ (e : ℕ) (l : LeadsTo s i (Leads.Open e)) (c₁ p₁ : List ℤ) where
-    abbrev w : List ℕ
-    w = part s (i + 1) e
+  later : (r : Scan) → Inside 0 s i r → Inside 0 s at r
+  later (Scans.At e) b = (omega (arith, low, b .0), b .1)
+  later (Scans.Fault k q) b = (omega (arith, low, b .0), b .1)
+  later Scans.Cut b = tt
 
-    -- what it may answer, by the name as the definition has it
-    named : (r : ListStep) → ChildReads wanted s (partIn s (i + 1) e) i e st r c p c₁ p₁ → ChildReads wanted s w i e st r c p c₁ p₁
-    named r h = subst (λ (x : List ℕ). ChildReads wanted s x i e st r c p c₁ p₁) (sym (part-in s (i + 1) e (l .inside .1))) h
+  same : RoomFrom (st .used) m m
+  same = from-refl (st .used) m
 
-    next : (q : ℕ) (x : ListState) → ChildReads wanted s w i e st (step (Scans.At q) x) c p c₁ p₁ → ContentInv wanted s at q x c₀ p₀ c₁ p₁
-    next q x (refused k f z y o) = absurd (never y)
-      where
-        never : Scans.At q ≡ Scans.Fault k i → ⊥
-        never y = let n : _≡_ {A = ℕ} 0 1 = cc in omega arith
-    next q x (read k f z b o y) = record {
-      parts = v .parts ++ itemAt s i q (child k) ∷ [];
-      from = omega (arith, v .from, l .inside .0, b .0);
-      run = v .run ∙ items-on (v .parts) fl s i q (omega (arith, l .inside .0, b .0)) (b .1) (child k) (flagsOf x)
-          (item-is fl (drop i s) ∙ between-child (endTag (bytes "ProcessList") 0) (childFault fl) childBody s i e l f k (drop q s) (sym z)) (y .0);
-      holds = subst (λ (n : List NodeRead). Holds wanted s n x c₀ p₀ c₁ p₁) (nodes-child (v .parts) k (itemAt s i q (child k) .1)) (y .1 .grows (nodesOf (v .parts)) c₀ p₀ (v .holds));
-    }
+  pub content-past : length s ≤ i → ContentReads wanted s at (step Scans.Cut st) m₀ m
+  content-past h = ended [] Scans.Cut m (sym (items-past (v .parts) fl s i h)) (whole-past (v .parts) fl s i h) tt same
 
-    failed-child : (r : Scan) (x : ListState) → Failed r → ChildReads wanted s w i e st (step r x) c p c₁ p₁
-        → ContentReads wanted ((items listItem nextFlags noFlags) .run) s at (step r x) c₀ p₀ c₁ p₁
-    failed-child r x a (refused k f z y o) =
-        subst (λ (d : Scan). ContentReads wanted ((items listItem nextFlags noFlags) .run) s at (step d x) c₀ p₀ c₁ p₁) (sym y)
-        (stopped (Scans.Fault k i) x c₁ p₁ tt
-        (sym (items-bad (v .parts) fl (drop i s) k (drop i s) (item-is fl (drop i s) ∙ between-refused (endTag (bytes "ProcessList") 0) (childFault fl) childBody s i e l k f z)))
-        (omega arith, omega arith) o)
-    failed-child (Scans.Fault j q) x a (read k f z b o y) =
-        stopped (Scans.Fault j q) x c₁ p₁ tt
-        (sym (items-bad (v .parts) fl (drop i s) j (drop q s) (item-is fl (drop i s) ∙ between-child-fault (endTag (bytes "ProcessList") 0) (childFault fl) childBody s i e l f j (drop q s) (sym z))))
-        (omega (arith, l .inside .0, b .0), b .1) o
-    failed-child Scans.Cut x a (read k f z b o y) =
-        stopped Scans.Cut x c₁ p₁ tt
-        (sym (items-short (v .parts) fl (drop i s) (item-is fl (drop i s) ∙ between-child-cut (endTag (bytes "ProcessList") 0) (childFault fl) childBody s i e l f (sym z)))) tt o
-    failed-child (Scans.At q) x a (read k f z b o y) = absurd a
+  module _ (g : i < length s) where
+    -- the item is at fault, or the bytes end in it
+    bad : (k q : ℕ) (m₁ : Room) → (listItem fl) .run (drop i s) ≡ fault k (drop q s) → Inside 0 s i (Scans.Fault k q)
+        → RoomFrom (st .used) m m₁ → ContentReads wanted s at (step (Scans.Fault k q) st) m₀ m₁
+    bad k q m₁ x b f =
+        ended [] (Scans.Fault k q) m₁ (sym (items-bad (v .parts) fl (drop i s) k (drop q s) x)) (whole-bad (v .parts) fl (drop i s) k (drop q s) x) (later (Scans.Fault k q) b) f
 
-    pub content-child : (q : ℕ) (r : ListStep) → r .scan ≡ Scans.At q → ChildReads wanted s (partIn s (i + 1) e) i e st r c p c₁ p₁ → ContentInv wanted s at q (r .state) c₀ p₀ c₁ p₁
-    content-child q r z h = next q (r .state) (subst (λ (d : Scan). ChildReads wanted s w i e st (step d (r .state)) c p c₁ p₁) z (named r h))
+    short : (m₁ : Room) → (listItem fl) .run (drop i s) ≡ cut → RoomFrom (st .used) m m₁ → ContentReads wanted s at (step Scans.Cut st) m₀ m₁
+    short m₁ x f = ended [] Scans.Cut m₁ (sym (items-short (v .parts) fl (drop i s) x)) (whole-short (v .parts) fl (drop i s) x) tt f
 
-    moved : (q : ℕ) (x : ListState) → ChildReads wanted s w i e st (step (Scans.At q) x) c p c₁ p₁ → (i < q) × (q ≤ length s)
-    moved q x (refused k f z y o) = absurd (never y)
-      where
-        never : Scans.At q ≡ Scans.Fault k i → ⊥
-        never y = let n : _≡_ {A = ℕ} 0 1 = cc in omega arith
-    moved q x (read k f z b o y) = (omega (arith, l .inside .0, b .0), b .1)
+    -- one item more, up to e
+    longer : (e : ℕ) (p : Part Child) → i < e → e ≤ length s → e ≡ at + length (flat (v .parts ++ itemAt s i e p ∷ []))
+    longer e p h k = omega (arith, v .place, flat-more (v .parts) (itemAt s i e p), item-length (v .parts) fl s i e h k p)
 
-    -- behind a child there are fewer bytes
-    pub content-moves : (q : ℕ) (r : ListStep) → r .scan ≡ Scans.At q → ChildReads wanted s (partIn s (i + 1) e) i e st r c p c₁ p₁ → (i < q) × (q ≤ length s)
-    content-moves q r z h = moved q (r .state) (subst (λ (d : Scan). ChildReads wanted s w i e st (step d (r .state)) c p c₁ p₁) z (named r h))
+    pub content-gap : (e : ℕ) → LeadsTo s i (Leads.Gap e) → ContentInv wanted s at e st m₀ m
+    content-gap e l =
+        let h : i < e = omega (arith, l .inside .0) in
+        let x : (listItem fl) .run (drop i s) ≡ done gap (drop e s) = item-is fl (drop i s) ∙ between-gap (endTag (bytes "ProcessList") 0) (childFault fl) childBody s i e l in
+        let n : nodesOf (v .parts ++ itemAt s i e gap ∷ []) ≡ nodesOf (v .parts) = nodes-gap (v .parts) (itemAt s i e gap .1) in
+        record {
+          parts = v .parts ++ itemAt s i e gap ∷ [];
+          place = longer e gap h (l .inside .1);
+          run = v .run ∙ items-on (v .parts) fl s i e h (l .inside .1) gap fl x refl;
+          whole = v .whole ∙ whole-on (v .parts) fl s i e h (l .inside .1) gap fl x refl;
+          state = state-gap wanted at (v .parts) st (itemAt s i e gap .1) (v .state);
+          counted = subst (λ (ns : List NodeRead). Counted ns) (sym n) (v .counted);
+          room = subst (λ (ns : List NodeRead). RoomFrom Lists.mostNumbers (laidIn 0 (numbersIn ns) m₀) m) (sym n) (v .room);
+        }
 
-    pub content-failed : (r : ListStep) → Failed (r .scan) → ChildReads wanted s (partIn s (i + 1) e) i e st r c p c₁ p₁
-        → ContentReads wanted ((items listItem nextFlags noFlags) .run) s at r c₀ p₀ c₁ p₁
-    content-failed r a h = failed-child (r .scan) (r .state) a (named r h)
+    pub content-fault : (k q : ℕ) → LeadsTo s i (Leads.Fault k q) → ContentReads wanted s at (step (Scans.Fault k q) st) m₀ m
+    content-fault k q l = bad k q m (item-is fl (drop i s) ∙ between-fault (endTag (bytes "ProcessList") 0) (childFault fl) childBody s i k q l) (l .inside) same
 
-pub content-past : (wanted : ℕ) (s : List ℕ) (at i : ℕ) (st : ListState) (c₀ p₀ c p : List ℤ) → ContentInv wanted s at i st c₀ p₀ c p → length s ≤ i
-    → ContentReads wanted ((items listItem nextFlags noFlags) .run) s at (step Scans.Cut st) c₀ p₀ c p
-content-past wanted s at i st c₀ p₀ c p v h = record {
-  parts = v .parts;
-  out = sym (v .run ∙ items-past (v .parts) (flagsOf st) s i h);
-  inside = tt;
-  outside = v .holds .outside;
-  holds = tt;
-}
+    pub content-cut : LeadsTo s i Leads.Cut → ContentReads wanted s at (step Scans.Cut st) m₀ m
+    content-cut l = short m (item-is fl (drop i s) ∙ between-cut (endTag (bytes "ProcessList") 0) (childFault fl) childBody s i l) same
+
+    -- the end tag
+    pub content-end : (r : Scan) → LeadsTo s i Leads.End → Reads 1 ((endTag (bytes "ProcessList") 0) .run) noValue s i r → ContentReads wanted s at (step r st) m₀ m
+    content-end (Scans.At e) l h =
+        let x : (listItem fl) .run (drop i s) ≡ done close (drop e s) =
+        item-is fl (drop i s) ∙ between-end-reads (endTag (bytes "ProcessList") 0) (childFault fl) childBody s i l (Scans.At e) h in
+        ended (v .parts ++ itemAt s i e close ∷ []) (Scans.At e) m
+        (sym (items-end (v .parts) fl s i e (omega (arith, h .inside .0)) (h .inside .1) x)) (whole-end (v .parts) fl s i e (omega (arith, h .inside .0)) (h .inside .1) x)
+        (omega (arith, low, h .inside .0), h .inside .1) same
+    content-end (Scans.Fault k q) l h =
+        bad k q m (item-is fl (drop i s) ∙ between-end-reads (endTag (bytes "ProcessList") 0) (childFault fl) childBody s i l (Scans.Fault k q) h) (h .inside) same
+    content-end Scans.Cut l h = short m (item-is fl (drop i s) ∙ between-end-reads (endTag (bytes "ProcessList") 0) (childFault fl) childBody s i l Scans.Cut h) same
+
+    -- a child, whose name ends at e
+    module _ (e : ℕ) (l : LeadsTo s i (Leads.Open e)) (m₁ : Room) where
+      abbrev w : List ℕ
+      w = part s (i + 1) e
+
+      -- what it may answer, by the name as the definition has it
+      named : (r : ListStep) → ChildReads wanted s (partIn s (i + 1) e) i e st r m m₁ → ChildReads wanted s w i e st r m m₁
+      named r h = subst (λ (x : List ℕ). ChildReads wanted s x i e st r m m₁) (sym (part-in s (i + 1) e (l .inside .1))) h
+
+      never : (q k : ℕ) → Scans.At q ≡ Scans.Fault k i → ⊥
+      never q k y = let n : _≡_ {A = ℕ} 0 1 = cc in omega arith
+
+      moved : (q : ℕ) (x : ListState) → ChildReads wanted s w i e st (step (Scans.At q) x) m m₁ → (i < q) × (q ≤ length s)
+      moved q x (refused k f z y o) = absurd (never q k y)
+      moved q x (read k f z b y) = (omega (arith, l .inside .0, b .0), b .1)
+
+      next : (q : ℕ) (x : ListState) → ChildReads wanted s w i e st (step (Scans.At q) x) m m₁ → ContentInv wanted s at q x m₀ m₁
+      next q x (refused k f z y o) = absurd (never q k y)
+      next q x (read c f z b y) =
+          let h : i < q = omega (arith, l .inside .0, b .0) in
+          let t : (listItem fl) .run (drop i s) ≡ done (child c) (drop q s) =
+          item-is fl (drop i s) ∙ between-child (endTag (bytes "ProcessList") 0) (childFault fl) childBody s i e l f c (drop q s) (sym z) in
+          let n : nodesOf (v .parts ++ itemAt s i q (child c) ∷ []) ≡ nodesOf (v .parts) ++ withChild c [] = nodes-child (v .parts) c (itemAt s i q (child c) .1) in
+          let g : nextFlags fl (child c) ≡ again (flagsOf x) = flags-child wanted i st c ∙ ap (λ (u : ListState). again (flagsOf u)) (sym (y .0)) in
+          record {
+            parts = v .parts ++ itemAt s i q (child c) ∷ [];
+            place = longer q (child c) h (b .1);
+            run = v .run ∙ items-on (v .parts) fl s i q h (b .1) (child c) (flagsOf x) t g;
+            whole = v .whole ∙ whole-on (v .parts) fl s i q h (b .1) (child c) (flagsOf x) t g;
+            state = y .0 ∙ state-child wanted at (v .parts) st i c (itemAt s i q (child c) .1) (v .place) (v .state)
+                ∙ ap (λ (u : ListState). stateFrom wanted at (flagsOf u, v .parts ++ itemAt s i q (child c) ∷ [])) (sym (y .0));
+            counted = subst (λ (ns : List NodeRead). Counted ns) (sym n) (counted-both (nodesOf (v .parts)) (withChild c []) (v .counted) (y .1));
+            room = subst (λ (ns : List NodeRead). RoomFrom Lists.mostNumbers (laidIn 0 (numbersIn ns) m₀) m₁) (sym n)
+                (subst (λ (a : Room). RoomFrom Lists.mostNumbers (laidIn 0 (numbersIn (nodesOf (v .parts) ++ withChild c [])) m₀) a) (sym (y .2))
+                (holds-more (nodesOf (v .parts)) (withChild c []) (st .used) m₀ m (v .counted) used (v .room)));
+          }
+
+      failed : (r : Scan) (x : ListState) → Failed r → ChildReads wanted s w i e st (step r x) m m₁ → ContentReads wanted s at (step r st) m₀ m₁
+      failed r x a (refused k f z y o) =
+          subst (λ (d : Scan). ContentReads wanted s at (step d st) m₀ m₁) (sym y)
+          (bad k i m₁ (item-is fl (drop i s) ∙ between-refused (endTag (bytes "ProcessList") 0) (childFault fl) childBody s i e l k f z)
+          (omega arith, omega arith) (subst (λ (d : Room). RoomFrom (st .used) m d) (sym o) same))
+      failed (Scans.Fault j q) x a (read k f z b y) =
+          bad j q m₁ (item-is fl (drop i s) ∙ between-child-fault (endTag (bytes "ProcessList") 0) (childFault fl) childBody s i e l f j (drop q s) (sym z))
+          (omega (arith, l .inside .0, b .0), b .1) y
+      failed Scans.Cut x a (read k f z b y) =
+          short m₁ (item-is fl (drop i s) ∙ between-child-cut (endTag (bytes "ProcessList") 0) (childFault fl) childBody s i e l f (sym z)) y
+      failed (Scans.At q) x a (read k f z b y) = absurd a
+
+      pub content-child : (q : ℕ) (r : ListStep) → r .scan ≡ Scans.At q → ChildReads wanted s (partIn s (i + 1) e) i e st r m m₁ → ContentInv wanted s at q (r .state) m₀ m₁
+      content-child q r z h = next q (r .state) (subst (λ (d : Scan). ChildReads wanted s w i e st (step d (r .state)) m m₁) z (named r h))
+
+      -- behind a child there are fewer bytes
+      pub content-moves : (q : ℕ) (r : ListStep) → r .scan ≡ Scans.At q → ChildReads wanted s (partIn s (i + 1) e) i e st r m m₁ → (i < q) × (q ≤ length s)
+      content-moves q r z h = moved q (r .state) (subst (λ (d : Scan). ChildReads wanted s w i e st (step d (r .state)) m m₁) z (named r h))
+
+      pub content-failed : (r : ListStep) → Failed (r .scan) → ChildReads wanted s (partIn s (i + 1) e) i e st r m m₁ → ContentReads wanted s at (step (r .scan) st) m₀ m₁
+      content-failed r a h = failed (r .scan) (r .state) a (named r h)

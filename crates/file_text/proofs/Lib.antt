@@ -1,4 +1,6 @@
 pub mod Nodes
+pub mod Rooms
+pub mod Places
 pub mod Items
 pub mod Text
 pub mod Children

@@ -1,16 +1,20 @@
 -- A file's text from its parts' answers. Assumes nothing.
-use mathlib.Core.Path.{_≡_, refl, sym, ap, _∙_, subst}
-use mathlib.Core.Bool.{Bool, true, false, cond}
-use mathlib.Core.List.{List, [], _∷_, _++_}
+use mathlib.Core.Path.{_≡_, refl, sym, ap, _∙_}
+use mathlib.Core.List.{List, []}
 use Prim.Native.Nat.{ℕ}
 use lib.ListN.{drop}
-use Rattle.grammar.specs.Parse.{Out, done, fault, cut, Parser, before, thenOut, bindP, retP, keptOut}
+use Rattle.grammar.specs.Parse.{Out, done, fault, cut, before, thenOut, bindP, retP, keptOut}
+use Rattle.grammar.specs.Laws.{nope}
 use Rattle.xml.specs.Xml.{Tag, startTag}
+use Rattle.xml.specs.declared.Scan.{Scan}
+use Rattle.xml.specs.declared.Scan.the-variants as Scans
+use Rattle.xml.specs.Code.{scanOut}
 use Rattle.xml.specs.Elements.{Part}
 use Rattle.clf.specs.Nodes.{NodeRead}
-use Rattle.clf.specs.List.{Child, listItem, nextFlags, noFlags, listRules, listContent, head, Document, document, tail}
+use Rattle.clf.specs.List.{Child, listRules, listContent, head, Document, document, tail}
 use Rattle.clf.specs.Reading.{nodesOf}
-use Rattle.grammar.specs.Grammar.{items}
+use Rattle.clf.specs.Whole.{wholeNodes}
+use Rattle.clf.proofs.Whole.{document-whole}
 use Rattle.around_root.specs.Code.{lead}
 use Rattle.file_text.specs.Code.{afterRoot, textNodes, rootP}
 
@@ -25,7 +29,35 @@ text-is : (s : List ℕ) → textNodes s ≡ content s (head .run s)
 unfolding textNodes document
 text-is s = refl
 
+-- the nodes of a text without fault are those that stand whole
+text-nodes : (s : List ℕ) (l : List NodeRead) (r : List ℕ) → done l r ≡ textNodes s → l ≡ wholeNodes s
+unfolding textNodes
+text-nodes s l r q = by (document .run s) refl q
+  where
+    value : Out (List NodeRead) → List NodeRead
+    value (done x u) = x
+    value (fault k u) = []
+    value cut = []
+
+    by : (o : Out Document) → document .run s ≡ o → done l r ≡ thenOut o afterRoot → l ≡ wholeNodes s
+    by (done d u) e z = behind (tail u) z
+      where
+        behind : (x : Out (Unit {0})) → done l r ≡ thenOut x (λ y t. done (nodesOf (d .parts)) t) → l ≡ wholeNodes s
+        behind (done y t) w = ap value w ∙ (document-whole s d u e) .nodes
+        behind (fault k t) w = nope cc
+        behind cut w = nope cc
+    by (fault k u) e z = nope cc
+    by cut e z = nope cc
+
+pub out-whole : (s : List ℕ) (l : List NodeRead) (r : Scan) → scanOut (λ e. l) s r ≡ textNodes s → scanOut (λ e. wholeNodes s) s r ≡ textNodes s
+out-whole s l (Scans.At e) q = ap (λ (x : List NodeRead). done x (drop e s)) (sym (text-nodes s l (drop e s) q)) ∙ q
+out-whole s l (Scans.Fault k p) q = q
+out-whole s l Scans.Cut q = q
+
 module _ (s : List ℕ) where
+  pub head-failed : (o : Out (Unit {0})) → lead s ≡ o → head .run s ≡ thenOut o (λ u. (startTag listRules) .run)
+  head-failed o q = head-is s ∙ ap (λ (x : Out (Unit {0})). thenOut x (λ u. (startTag listRules) .run)) q
+
   pub lead-fault : (k : ℕ) (r : List ℕ) → lead s ≡ fault k r → textNodes s ≡ fault k r
   lead-fault k r q = text-is s ∙ ap (content s) (head-is s ∙ ap (λ (o : Out (Unit {0})). thenOut o (λ u. (startTag listRules) .run)) q)
 
@@ -33,7 +65,7 @@ module _ (s : List ℕ) where
   lead-cut q = text-is s ∙ ap (content s) (head-is s ∙ ap (λ (o : Out (Unit {0})). thenOut o (λ u. (startTag listRules) .run)) q)
 
   module _ (u : List ℕ) (q : lead s ≡ done tt u) where
-    head-at : head .run s ≡ (startTag listRules) .run u
+    pub head-at : head .run s ≡ (startTag listRules) .run u
     head-at = head-is s ∙ ap (λ (o : Out (Unit {0})). thenOut o (λ x. (startTag listRules) .run)) q
 
     -- the rest of the text, by the root's answer

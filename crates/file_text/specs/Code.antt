@@ -1,31 +1,30 @@
 -- What the answers of the code mean.
 use mathlib.Core.Path.{_≡_}
 use mathlib.Core.Bool.{Bool, true, false, cond}
-use mathlib.Core.List.{List, [], _∷_, _++_, map}
-use Prim.Native.Nat.{ℕ, _+_, _≤_}
+use mathlib.Core.List.{List, [], map}
+use Prim.Native.Nat.{ℕ, _+_, min}
 use lib.Dec.{eqb, ltb, leb}
-use lib.IntN.{ℤ}
-use lib.ListN.{length, drop}
+use lib.ListN.{length, take, drop}
 use Rattle.decimal.specs.declared.Decimal.{Decimal}
-use Rattle.grammar.specs.Parse.{Out, done, thenOut, Parser, again}
+use Rattle.grammar.specs.Parse.{Out, done, thenOut, Parser}
 use Rattle.xml.specs.declared.Scan.{Scan}
 use Rattle.xml.specs.declared.Scan.the-variants as Scans
 use Rattle.xml.specs.Code.{scanOut, Inside}
-use Rattle.xml.specs.Elements.{Part, child}
+use Rattle.xml.specs.Elements.{Part}
 use Rattle.process_list.specs.declared.Node.{Node}
 use Rattle.process_list.specs.List as Lists
-use Rattle.room.specs.Room.{roomLength}
-use Rattle.values.specs.Code.{Laid}
-use Rattle.node_parts.specs.declared.About.{About}
+use Rattle.room.specs.Room.{Room, roomLength, laidIn, filledWith}
+use Rattle.room.proofs.Rooms.{RoomFrom}
 use Rattle.node_parts.specs.declared.NodeStep.{NodeStep}
-use Rattle.node_parts.specs.Code.{aboutText, noAbout, NodeReads}
+use Rattle.node_parts.specs.Code.{NodeReads}
 use Rattle.nodes.specs.declared.CarriedNode.{CarriedNode}
 use Rattle.nodes.specs.declared.NodeName.{NodeName}
 use Rattle.nodes.specs.Code.{carriedOf, nameOf}
 use Rattle.xml.specs.Xml.{startTag}
 use Rattle.clf.specs.Nodes.{NodeRead, nodeBody, nodeFault}
-use Rattle.clf.specs.List.{Child, Flags, childFault, childBody, nextFlags, listRules, listContent, Document, document, tail}
-use Rattle.clf.specs.Reading.{nodesOf, withChild, elementsOf, numbersIn, described}
+use Rattle.clf.specs.List.{Child, node, description, inputDescriptor, outputDescriptor, infoChild, Flags, childFault, childBody, listRules, listContent, Document, document, tail}
+use Rattle.clf.specs.Reading.{nodesOf, withChild, elementsOf, numbersIn}
+use Rattle.clf.specs.Whole.{WholeText, wholeText, wholeNodes, contentPlace, placeAmong}
 use Rattle.file_text.specs.declared.ListState.{ListState}
 use Rattle.file_text.specs.declared.ListStep.{ListStep}
 
@@ -40,44 +39,82 @@ textNodes s = thenOut (document .run s) afterRoot
 abbrev pub bare : List NodeRead → List Node
 bare l = map Lists.nodeOf (elementsOf l)
 
+-- ---- what a text leaves: its state, and the room
+
+-- the state with these nodes: the first 32 of them; whether there are more; how many numbers they have, counted no further than one more than may be
+unfoldable pub stateWith : Flags → List NodeRead → ℕ → ListState
+stateWith flags nodes start = record {
+  list = Lists.listOf (bare nodes);
+  over = ltb Lists.mostNodes (length nodes);
+  used = Lists.capped (Lists.total (bare nodes));
+  input = flags .input;
+  output = flags .output;
+  info = flags .info;
+  start = start;
+}
+
+-- after these items, of which the first stands at `at`: `start` is the place of the node that is wanted
+unfoldable pub stateFrom : ℕ → ℕ → WholeText → ListState
+stateFrom wanted at whole = stateWith (whole .0) (nodesOf (whole .1)) (placeAmong wanted at (whole .1))
+
+-- after what stands whole in a text
+unfoldable pub stateOf : ℕ → List ℕ → ListState
+stateOf wanted s = stateFrom wanted (contentPlace s) (wholeText s)
+
+-- as many of the numbers as a room of length n holds and a list may have
+abbrev pub fitting : ℕ → List Decimal → List Decimal
+fitting n xs = take (min n Lists.mostNumbers) xs
+
+-- as many numbers as the kinds of the nodes ask for
+abbrev pub Counted : List NodeRead → Type 0
+Counted nodes = length (numbersIn nodes) ≡ Lists.total (bare nodes)
+
+-- the text of a file: its answer is the definition's; the state is that of the nodes that stand whole, at a fault those before it;
+-- and the room holds their numbers, the rest of it is zero
+pub record ListReads (wanted : ℕ) (s : List ℕ) (r : ListStep) (m₀ m₁ : Room) : Type 0 where
+  pub out : scanOut (λ e. wholeNodes s) s (r .scan) ≡ textNodes s
+  pub inside : Inside 0 s 0 (r .scan)
+  pub state : r .state ≡ stateOf wanted s
+  pub counted : Counted (wholeNodes s)
+  pub room : m₁ ≡ filledWith (fitting (roomLength m₀) (numbersIn (wholeNodes s))) m₀
+
+-- ---- before the rest of the room is cleared
+
+-- the numbers of the nodes stand in the room, as far as may be; what stands behind them is not said
+abbrev pub Holds : List NodeRead → Room → Room → Type 0
+Holds nodes m₀ m₁ = RoomFrom (min (Lists.total (bare nodes)) Lists.mostNumbers) (laidIn 0 (numbersIn nodes) m₀) m₁
+
+pub record TextReads (wanted : ℕ) (s : List ℕ) (r : ListStep) (m₀ m₁ : Room) : Type 0 where
+  pub out : scanOut (λ e. wholeNodes s) s (r .scan) ≡ textNodes s
+  pub inside : Inside 0 s 0 (r .scan)
+  pub state : r .state ≡ stateOf wanted s
+  pub counted : Counted (wholeNodes s)
+  pub room : Holds (wholeNodes s) m₀ m₁
+
+-- ProcessList's items read from `at` on: the answer is p's, whose value is `parts`; the items that stand whole are `whole`, of which the first stands at `place`
+pub record ItemsRead (wanted : ℕ) (p : Parser (List (Part Child × List ℕ))) (whole : WholeText) (place : ℕ) (s : List ℕ) (at : ℕ) (r : ListStep) (m₀ m₁ : Room) : Type 0 where
+  pub parts : List (Part Child × List ℕ)
+  pub out : scanOut (λ e. parts) s (r .scan) ≡ p (drop at s)
+  pub inside : Inside 0 s at (r .scan)
+  pub state : r .state ≡ stateFrom wanted place whole
+  pub counted : Counted (nodesOf (whole .1))
+  pub room : Holds (nodesOf (whole .1)) m₀ m₁
+
+-- ProcessList behind its name
+abbrev pub rootP : Parser (List (Part Child × List ℕ))
+rootP u = thenOut ((startTag listRules) .run u) (λ tag. (listContent tag) .run)
+
+-- ---- what the small steps of the code do
+
 -- which of the children that may not repeat have been there
 abbrev pub flagsOf : ListState → Flags
 flagsOf st = record { input = st .input; output = st .output; info = st .info }
 
--- what holds where the answer is a next place
-abbrev pub WhenAt : Scan → Type 0 → Type 0
-WhenAt (Scans.At e) T = T
-WhenAt (Scans.Fault k p) T = Unit
-WhenAt Scans.Cut T = Unit
-
--- nothing outside the room has changed
-pub record Outside (c₀ : List ℤ) (p₀ : List ℤ) (c₁ : List ℤ) (p₁ : List ℤ) : Type 0 where
-  pub coefficients : length c₁ ≡ length c₀
-  pub behind : drop (roomLength c₀ p₀) c₁ ≡ drop (roomLength c₀ p₀) c₀
-  pub powers : length p₁ ≡ length p₀
-  pub beyond : drop (roomLength c₀ p₀) p₁ ≡ drop (roomLength c₀ p₀) p₀
-
--- what a state says of the nodes read so far, and of the room: their numbers stand there, if they are not too many
-pub record Holds (wanted : ℕ) (s : List ℕ) (nodes : List NodeRead) (r : ListState) (c₀ : List ℤ) (p₀ : List ℤ) (c₁ : List ℤ) (p₁ : List ℤ) : Type 0 where
-  pub list : r .list ≡ Lists.listOf (bare nodes)
-  pub over : r .over ≡ ltb Lists.mostNodes (length nodes)
-  pub counts : length (numbersIn nodes) ≡ Lists.total (bare nodes)
-  pub used : r .used ≡ Lists.capped (Lists.total (bare nodes))
-  pub about : length nodes ≤ Lists.mostNodes → aboutText s (r .about) ≡ described wanted nodes
-  pub outside : Outside c₀ p₀ c₁ p₁
-  pub room : Lists.total (bare nodes) ≤ Lists.mostNumbers → Laid 0 (numbersIn nodes) c₀ p₀ c₁ p₁
-
--- from one state to the next: what held of some nodes holds of them with those of one child more
-pub record Grows (wanted : ℕ) (s : List ℕ) (st : ListState) (more : List NodeRead) (next : ListState) (c₁ : List ℤ) (p₁ : List ℤ) (c₂ : List ℤ) (p₂ : List ℤ) : Type 0 where
-  pub grows : (nodes : List NodeRead) (c₀ p₀ : List ℤ) → Holds wanted s nodes st c₀ p₀ c₁ p₁ → Holds wanted s (nodes ++ more) next c₀ p₀ c₂ p₂
-
--- ---- what the small steps of the code do
-
 abbrev pub noList : ListState
-noList = record { list = Lists.listOf []; over = false; used = 0; input = false; output = false; info = false; about = noAbout }
+noList = record { list = Lists.listOf []; over = false; used = 0; input = false; output = false; info = false; start = 0 }
 
 abbrev pub flagged : ListState → Bool → Bool → Bool → ListState
-flagged st i o f = record { list = st .list; over = st .over; used = st .used; input = i; output = o; info = f; about = st .about }
+flagged st i o f = record { list = st .list; over = st .over; used = st .used; input = i; output = o; info = f; start = st .start }
 
 abbrev pub step : Scan → ListState → ListStep
 step scan st = record { scan = scan; state = st }
@@ -91,63 +128,52 @@ outputStep at st scan = cond (st .output) (step (Scans.Fault 5 at) st) (step sca
 abbrev pub infoStep : ℕ → ListState → Scan → ListStep
 infoStep at st scan = cond (st .info) (step (Scans.Fault 5 at) st) (step scan (flagged st (st .input) (st .output) true))
 
-unfoldable pub wantedAbout : ℕ → ℕ → About → About → About
-wantedAbout count wanted old new = cond (ltb count 32) (cond (eqb (count + 1) wanted) new old) old
+-- the place of the node that is wanted, after `count` nodes and one more, whose `<` stands at `at`
+unfoldable pub wantedStart : ℕ → ℕ → ℕ → ℕ → ℕ
+wantedStart count wanted old at = cond (ltb count 32) (cond (eqb (count + 1) wanted) at old) old
 
 unfoldable pub isOver : Bool → ℕ → Bool
 isOver over count = cond over true (leb 32 count)
 
-unfoldable pub nodeState : ListState → NodeStep → ℕ → ListState
-nodeState st n wanted = record {
-  list = Lists.appended (st .list) (n .node);
+-- one node more, whose `<` stands at `at`
+unfoldable pub nodeState : ListState → Node → ℕ → ℕ → ListState
+nodeState st n wanted at = record {
+  list = Lists.appended (st .list) n;
   over = isOver (st .over) (st .list .count);
-  used = Lists.capped (st .used + Lists.numbersOf (n .node .kind));
+  used = Lists.capped (st .used + Lists.numbersOf (n .kind));
   input = st .input;
   output = st .output;
   info = st .info;
-  about = wantedAbout (st .list .count) wanted (st .about) (n .about);
+  start = wantedStart (st .list .count) wanted (st .start) at;
 }
 
--- an answer that is p's, whatever its value
-pub record Passes {A : Type 0} (p : Parser A) (s : List ℕ) (at : ℕ) (r : Scan) : Type 0 where
-  pub value : A
-  pub out : scanOut (λ e. value) s r ≡ p (drop at s)
-  pub inside : Inside 1 s at r
-
 -- a carried node behind its name
-pub record CarriedReads (wanted : ℕ) (s : List ℕ) (e : ℕ) (name : CarriedNode) (st : ListState) (r : ListStep) (c₁ : List ℤ) (p₁ : List ℤ) (c₂ : List ℤ) (p₂ : List ℤ) : Type 0 where
+pub record CarriedReads (wanted : ℕ) (s : List ℕ) (at e : ℕ) (name : CarriedNode) (st : ListState) (r : ListStep) (m₁ m₂ : Room) : Type 0 where
   pub node : NodeStep
-  pub reads : NodeReads ((nodeBody (carriedOf name)) .run) s e (st .used) node c₁ p₁ c₂ p₂
-  pub is : r ≡ step (node .scan) (nodeState st node wanted)
+  pub reads : NodeReads ((nodeBody (carriedOf name)) .run) s e (st .used) node m₁ m₂
+  pub is : r ≡ step (node .scan) (nodeState st (node .node) wanted at)
 
 -- a child by its name as a node: a carried one, or none that may stand there
-pub data NodeChild (wanted : ℕ) (s : List ℕ) (at e : ℕ) (name : NodeName) (st : ListState) (r : ListStep) (c₁ : List ℤ) (p₁ : List ℤ) (c₂ : List ℤ) (p₂ : List ℤ) : Type 0 where
-  carried : (n : CarriedNode) → nameOf name ≡ carriedOf n → CarriedReads wanted s e n st r c₁ p₁ c₂ p₂ → NodeChild wanted s at e name st r c₁ p₁ c₂ p₂
-  other : (k : ℕ) → nodeFault (nameOf name) ≡ k → (k ≡ 0 → ⊥) → r .scan ≡ Scans.Fault k at → c₂ ≡ c₁ → p₂ ≡ p₁ → NodeChild wanted s at e name st r c₁ p₁ c₂ p₂
+pub data NodeChild (wanted : ℕ) (s : List ℕ) (at e : ℕ) (name : NodeName) (st : ListState) (r : ListStep) (m₁ m₂ : Room) : Type 0 where
+  carried : (n : CarriedNode) → nameOf name ≡ carriedOf n → CarriedReads wanted s at e n st r m₁ m₂ → NodeChild wanted s at e name st r m₁ m₂
+  other : (k : ℕ) → nodeFault (nameOf name) ≡ k → (k ≡ 0 → ⊥) → r .scan ≡ Scans.Fault k at → m₂ ≡ m₁ → NodeChild wanted s at e name st r m₁ m₂
 
--- ProcessList behind its name
-abbrev pub rootP : Parser (List (Part Child × List ℕ))
-rootP u = thenOut ((startTag listRules) .run u) (λ tag. (listContent tag) .run)
+-- the state after a child whose `<` stands at `at`
+abbrev pub childState : ℕ → ℕ → ListState → Child → ListState
+childState wanted at st (node v) = nodeState st (Lists.nodeOf (v .element)) wanted at
+childState wanted at st description = st
+childState wanted at st inputDescriptor = flagged st true (st .output) (st .info)
+childState wanted at st outputDescriptor = flagged st (st .input) true (st .info)
+childState wanted at st infoChild = flagged st (st .input) (st .output) true
+
+-- what a child leaves: where it stands whole, its state and its numbers; else nothing has changed but the room from `used` on
+abbrev pub Leaves : ℕ → ℕ → ListState → Child → Scan → ListState → Room → Room → Type 0
+Leaves wanted at st c (Scans.At e) next m₁ m₂ = (next ≡ childState wanted at st c) × Counted (withChild c []) × (m₂ ≡ laidIn (st .used) (numbersIn (withChild c [])) m₁)
+Leaves wanted at st c (Scans.Fault k p) next m₁ m₂ = RoomFrom (st .used) m₁ m₂
+Leaves wanted at st c Scans.Cut next m₁ m₂ = RoomFrom (st .used) m₁ m₂
 
 -- a child of the name w, whose `<` stands at `at` and whose name ends at e: it may not stand there, or it reads as the definition's
-pub data ChildReads (wanted : ℕ) (s w : List ℕ) (at e : ℕ) (st : ListState) (r : ListStep) (c₁ : List ℤ) (p₁ : List ℤ) (c₂ : List ℤ) (p₂ : List ℤ) : Type 0 where
-  refused : (k : ℕ) → childFault (flagsOf st) w ≡ k → (k ≡ 0 → ⊥) → r .scan ≡ Scans.Fault k at → Outside c₁ p₁ c₂ p₂ → ChildReads wanted s w at e st r c₁ p₁ c₂ p₂
-  read : (c : Child) → childFault (flagsOf st) w ≡ 0 → scanOut (λ q. c) s (r .scan) ≡ (childBody w) .run (drop e s) → Inside 1 s e (r .scan) → Outside c₁ p₁ c₂ p₂
-      → WhenAt (r .scan) ((nextFlags (flagsOf st) (child c) ≡ again (flagsOf (r .state))) × Grows wanted s st (withChild c []) (r .state) c₁ p₁ c₂ p₂)
-      → ChildReads wanted s w at e st r c₁ p₁ c₂ p₂
-
--- items of ProcessList read from `at` on: the answer is p's, whose value is `parts`, and the state holds their nodes
-pub record ContentReads (wanted : ℕ) (p : Parser (List (Part Child × List ℕ))) (s : List ℕ) (at : ℕ) (r : ListStep) (c₀ : List ℤ) (p₀ : List ℤ) (c₁ : List ℤ) (p₁ : List ℤ) : Type 0 where
-  pub parts : List (Part Child × List ℕ)
-  pub out : scanOut (λ e. parts) s (r .scan) ≡ p (drop at s)
-  pub inside : Inside 0 s at (r .scan)
-  pub outside : Outside c₀ p₀ c₁ p₁
-  pub holds : WhenAt (r .scan) (Holds wanted s (nodesOf parts) (r .state) c₀ p₀ c₁ p₁)
-
--- the text of a file: the answer is the definition's, whose value is the nodes that the state holds
-pub record ListReads (wanted : ℕ) (s : List ℕ) (r : ListStep) (c₀ : List ℤ) (p₀ : List ℤ) (c₁ : List ℤ) (p₁ : List ℤ) : Type 0 where
-  pub nodes : List NodeRead
-  pub out : scanOut (λ e. nodes) s (r .scan) ≡ textNodes s
-  pub inside : Inside 0 s 0 (r .scan)
-  pub outside : Outside c₀ p₀ c₁ p₁
-  pub holds : WhenAt (r .scan) (Holds wanted s nodes (r .state) c₀ p₀ c₁ p₁)
+pub data ChildReads (wanted : ℕ) (s w : List ℕ) (at e : ℕ) (st : ListState) (r : ListStep) (m₁ m₂ : Room) : Type 0 where
+  refused : (k : ℕ) → childFault (flagsOf st) w ≡ k → (k ≡ 0 → ⊥) → r .scan ≡ Scans.Fault k at → m₂ ≡ m₁ → ChildReads wanted s w at e st r m₁ m₂
+  read : (c : Child) → childFault (flagsOf st) w ≡ 0 → scanOut (λ q. c) s (r .scan) ≡ (childBody w) .run (drop e s) → Inside 1 s e (r .scan)
+      → Leaves wanted at st c (r .scan) (r .state) m₁ m₂ → ChildReads wanted s w at e st r m₁ m₂

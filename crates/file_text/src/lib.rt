@@ -1,24 +1,26 @@
 // The text of a CLF file: the declaration, ProcessList with its children, and what may stand around it.
 ghost use mathlib.Core.Path.{_≡_};
 ghost use Prim.Native.Nat.{_+_, _<_};
-ghost use lib.ListN.{length};
-ghost use Rattle.grammar.specs.Grammar.{items};
-ghost use Rattle.xml.specs.Elements as Elements;
+ghost use lib.ListN.{length, drop};
+ghost use Rattle.grammar.specs.Grammar.{items, wholeItems};
+ghost use Rattle.room.specs.Room.{lent};
+ghost use Rattle.xml.specs.Xml.{startTag};
 ghost use Rattle.tags.specs.Code.{partIn};
 ghost use Rattle.clf.specs.List as List;
+ghost use Rattle.clf.specs.Whole.{wholeBehind, behindHead};
 ghost use Rattle.file_text.specs.Code as Code;
 use markup::Lead;
-use node_parts::About;
-use node_parts::NodeStep;
 use nodes::CarriedNode;
 use nodes::NodeName;
+use process_list::Node;
 use process_list::ProcessList;
 use tags::TagEnd;
 use tags::TagKind;
 use xml::Scan;
 
 // ProcessList so far: its nodes, the first 32 of them; whether there were more; how many numbers they have, counted no further than
-// one more than may be; which of the children that may not repeat have been there; and the Description of the node that is wanted.
+// one more than may be; which of the children that may not repeat have been there; and where the `<` of the node that is wanted stands,
+// 0 where it has not been.
 pub struct ListState {
     pub list: ProcessList,
     pub over: bool,
@@ -26,13 +28,19 @@ pub struct ListState {
     pub input: bool,
     pub output: bool,
     pub info: bool,
-    pub about: About,
+    pub start: usize,
 }
 
 // How the text reads, and what it has held so far.
 pub struct ListStep {
     pub scan: Scan,
     pub state: ListState,
+}
+
+fn step_of(scan: Scan, state: ListState) -> ListStep
+    ensures { λ r. ⌜ r ≡ Code.step scan state ⌝ }
+{
+    ListStep { scan, state }
 }
 
 fn no_list() -> ListState
@@ -45,7 +53,7 @@ fn no_list() -> ListState
         input: false,
         output: false,
         info: false,
-        about: node_parts::no_about(),
+        start: 0,
     }
 }
 
@@ -54,7 +62,6 @@ fn flagged(state: ListState, input: bool, output: bool, info: bool) -> ListState
     ensures { λ r. ⌜ r ≡ Code.flagged state input output info ⌝ }
 {
     let list = state.list;
-    let about = state.about;
     ListState {
         list,
         over: state.over,
@@ -62,7 +69,7 @@ fn flagged(state: ListState, input: bool, output: bool, info: bool) -> ListState
         input,
         output,
         info,
-        about,
+        start: state.start,
     }
 }
 
@@ -71,10 +78,7 @@ fn input_step(at: usize, state: ListState, scan: Scan) -> ListStep
     ensures { λ r. ⌜ r ≡ Code.inputStep at state scan ⌝ }
 {
     if state.input {
-        return ListStep {
-            scan: Scan::Fault(5, at),
-            state,
-        };
+        return step_of(Scan::Fault(5, at), state);
     }
     let next = flagged(state, true, state.output, state.info);
     ListStep { scan, state: next }
@@ -85,10 +89,7 @@ fn output_step(at: usize, state: ListState, scan: Scan) -> ListStep
     ensures { λ r. ⌜ r ≡ Code.outputStep at state scan ⌝ }
 {
     if state.output {
-        return ListStep {
-            scan: Scan::Fault(5, at),
-            state,
-        };
+        return step_of(Scan::Fault(5, at), state);
     }
     let next = flagged(state, state.input, true, state.info);
     ListStep { scan, state: next }
@@ -99,30 +100,19 @@ fn info_step(at: usize, state: ListState, scan: Scan) -> ListStep
     ensures { λ r. ⌜ r ≡ Code.infoStep at state scan ⌝ }
 {
     if state.info {
-        return ListStep {
-            scan: Scan::Fault(5, at),
-            state,
-        };
+        return step_of(Scan::Fault(5, at), state);
     }
     let next = flagged(state, state.input, state.output, true);
     ListStep { scan, state: next }
 }
 
-// A text-only child behind its name.
-fn text_child(s: &[u8], e: usize, w: &[u8]) -> Scan
-    ensures { λ r. ⌜ Code.Passes ((Elements.textElement (now (w .entry))) .run) (now (s .entry)) e r ⌝ }
-{
-    let t = info::text_element(s, e, w);
-    t.scan
-}
-
-// The Description that is wanted, where this node is the one of the number `count + 1`.
-fn wanted_about(count: usize, wanted: usize, old: About, new: About) -> About
-    ensures { λ r. ⌜ r ≡ Code.wantedAbout count wanted old new ⌝ }
+// The place of the node that is wanted, after `count` nodes and one more, whose `<` stands at `at`.
+fn wanted_start(count: usize, wanted: usize, old: usize, at: usize) -> usize
+    ensures { λ r. ⌜ r ≡ Code.wantedStart count wanted old at ⌝ }
 {
     if count < 32 {
         if count + 1 == wanted {
-            return new;
+            return at;
         }
     }
     old
@@ -138,17 +128,13 @@ fn is_over(over: bool, count: usize) -> bool
     32 <= count
 }
 
-// One node more.
-fn list_node(state: ListState, step: NodeStep, wanted: usize) -> ListState
-    ensures { λ r. ⌜ r ≡ Code.nodeState state step wanted ⌝ }
+// One node more, whose `<` stands at `at`.
+fn list_node(state: ListState, node: Node, wanted: usize, at: usize) -> ListState
+    ensures { λ r. ⌜ r ≡ Code.nodeState state node wanted at ⌝ }
 {
     let list = state.list;
     let count = list.count;
-    let node = step.node;
     let kind = node.kind;
-    let old = state.about;
-    let new = step.about;
-    let about = wanted_about(count, wanted, old, new);
     let next = process_list::append(list, node);
     ListState {
         list: next,
@@ -157,13 +143,14 @@ fn list_node(state: ListState, step: NodeStep, wanted: usize) -> ListState
         input: state.input,
         output: state.output,
         info: state.info,
-        about,
+        start: wanted_start(count, wanted, state.start, at),
     }
 }
 
-// A carried node behind its name.
+// A carried node, whose `<` stands at `at` and whose name ends at e.
 fn carried_child(
     s: &[u8],
+    at: usize,
     e: usize,
     name: CarriedNode,
     state: ListState,
@@ -171,11 +158,12 @@ fn carried_child(
     coefficients: &mut [i64],
     powers: &mut [i8],
 ) -> ListStep
-    ensures { λ r. ⌜ Code.CarriedReads wanted (now (s .entry)) e name state r (now (coefficients .entry)) (now (powers .entry)) (now (coefficients .exit)) (now (powers .exit)) ⌝ }
+    ensures { λ r. ⌜ Code.CarriedReads wanted (now (s .entry)) at e name state r (lent (now (coefficients .entry)) (now (powers .entry))) (lent (now (coefficients .exit)) (now (powers .exit))) ⌝ }
 {
     let step = nodes::node_body(s, e, name, coefficients, powers, state.used);
     let scan = step.scan;
-    let next = list_node(state, step, wanted);
+    let node = step.node;
+    let next = list_node(state, node, wanted, at);
     ListStep { scan, state: next }
 }
 
@@ -190,18 +178,12 @@ fn node_child(
     coefficients: &mut [i64],
     powers: &mut [i8],
 ) -> ListStep
-    ensures { λ r. ⌜ Code.NodeChild wanted (now (s .entry)) at e name state r (now (coefficients .entry)) (now (powers .entry)) (now (coefficients .exit)) (now (powers .exit)) ⌝ }
+    ensures { λ r. ⌜ Code.NodeChild wanted (now (s .entry)) at e name state r (lent (now (coefficients .entry)) (now (powers .entry))) (lent (now (coefficients .exit)) (now (powers .exit))) ⌝ }
 {
     match name {
-        NodeName::Carried(c) => carried_child(s, e, c, state, wanted, coefficients, powers),
-        NodeName::NotCarried => ListStep {
-            scan: Scan::Fault(7, at),
-            state,
-        },
-        NodeName::Other => ListStep {
-            scan: Scan::Fault(5, at),
-            state,
-        },
+        NodeName::Carried(c) => carried_child(s, at, e, c, state, wanted, coefficients, powers),
+        NodeName::NotCarried => step_of(Scan::Fault(7, at), state),
+        NodeName::Other => step_of(Scan::Fault(5, at), state),
     }
 }
 
@@ -216,18 +198,17 @@ fn list_child(
     powers: &mut [i8],
 ) -> ListStep
     requires { ⌜ at < length (now s) ⌝ }
-    ensures { λ r. ⌜ Code.ChildReads wanted (now (s .entry)) (partIn (now (s .entry)) (at + 1) e) at e state r (now (coefficients .entry)) (now (powers .entry)) (now (coefficients .exit)) (now (powers .exit)) ⌝ }
+    ensures { λ r. ⌜ Code.ChildReads wanted (now (s .entry)) (partIn (now (s .entry)) (at + 1) e) at e state r (lent (now (coefficients .entry)) (now (powers .entry))) (lent (now (coefficients .exit)) (now (powers .exit))) ⌝ }
 {
     let w = tags::part(s, at + 1, e);
     if xml::same(w, b"Description") {
-        let scan = text_child(s, e, w);
-        return ListStep { scan, state };
+        return step_of(info::text_element(s, e, w), state);
     }
     if xml::same(w, b"InputDescriptor") {
-        return input_step(at, state, text_child(s, e, w));
+        return input_step(at, state, info::text_element(s, e, w));
     }
     if xml::same(w, b"OutputDescriptor") {
-        return output_step(at, state, text_child(s, e, w));
+        return output_step(at, state, info::text_element(s, e, w));
     }
     if xml::same(w, b"Info") {
         return info_step(at, state, info::info(s, e));
@@ -236,7 +217,7 @@ fn list_child(
     node_child(s, at, e, name, state, wanted, coefficients, powers)
 }
 
-// The content of ProcessList, and its end tag.
+// The content of ProcessList, and its end tag. A child that does not stand whole leaves the state as it was before it.
 fn list_content(
     s: &[u8],
     at: usize,
@@ -244,7 +225,7 @@ fn list_content(
     coefficients: &mut [i64],
     powers: &mut [i8],
 ) -> ListStep
-    ensures { λ r. ⌜ Code.ContentReads wanted ((items List.listItem List.nextFlags List.noFlags) .run) (now (s .entry)) at r (now (coefficients .entry)) (now (powers .entry)) (now (coefficients .exit)) (now (powers .exit)) ⌝ }
+    ensures { λ r. ⌜ Code.ItemsRead wanted ((items List.listItem List.nextFlags List.noFlags) .run) (wholeItems List.listItem List.nextFlags List.noFlags (drop at (now (s .entry)))) at (now (s .entry)) at r (lent (now (coefficients .entry)) (now (powers .entry))) (lent (now (coefficients .exit)) (now (powers .exit))) ⌝ }
 {
     let mut state = no_list();
     let mut i = at;
@@ -257,70 +238,42 @@ fn list_content(
             Lead::Open(e) => {
                 let step = list_child(s, i, e, state, wanted, coefficients, powers);
                 let scan = step.scan;
-                let Scan::At(q) = scan else {
-                    return step;
-                };
                 let next = step.state;
+                let Scan::At(q) = scan else {
+                    return step_of(scan, state);
+                };
                 state = next;
                 i = q;
             }
-            Lead::End => {
-                let scan = markup::end_tag(s, i, b"ProcessList", 0);
-                return ListStep { scan, state };
-            }
-            Lead::Fault(k, p) => {
-                return ListStep {
-                    scan: Scan::Fault(k, p),
-                    state,
-                };
-            }
-            Lead::Cut => {
-                return ListStep {
-                    scan: Scan::Cut,
-                    state,
-                };
-            }
+            Lead::End => return step_of(markup::end_tag(s, i, b"ProcessList", 0), state),
+            Lead::Fault(k, p) => return step_of(Scan::Fault(k, p), state),
+            Lead::Cut => return step_of(Scan::Cut, state),
         }
     }
-    ListStep {
-        scan: Scan::Cut,
-        state,
-    }
+    step_of(Scan::Cut, state)
 }
 
 // ProcessList behind its name.
 fn root(s: &[u8], at: usize, wanted: usize, coefficients: &mut [i64], powers: &mut [i8]) -> ListStep
-    ensures { λ r. ⌜ Code.ContentReads wanted Code.rootP (now (s .entry)) at r (now (coefficients .entry)) (now (powers .entry)) (now (coefficients .exit)) (now (powers .exit)) ⌝ }
+    ensures { λ r. ⌜ Code.ItemsRead wanted Code.rootP (wholeBehind ((startTag List.listRules) .run (drop at (now (s .entry))))) (behindHead (now (s .entry)) ((startTag List.listRules) .run (drop at (now (s .entry))))) (now (s .entry)) at r (lent (now (coefficients .entry)) (now (powers .entry))) (lent (now (coefficients .exit)) (now (powers .exit))) ⌝ }
 {
     let tag = tags::start_tag(s, at, TagKind::ProcessList);
     let end = tag.end;
     match end {
         TagEnd::Open(q) => list_content(s, q, wanted, coefficients, powers),
-        TagEnd::Empty(q) => ListStep {
-            scan: Scan::At(q),
-            state: no_list(),
-        },
-        TagEnd::Fault(k, p) => ListStep {
-            scan: Scan::Fault(k, p),
-            state: no_list(),
-        },
-        TagEnd::Cut => ListStep {
-            scan: Scan::Cut,
-            state: no_list(),
-        },
+        TagEnd::Empty(q) => step_of(Scan::At(q), no_list()),
+        TagEnd::Fault(k, p) => step_of(Scan::Fault(k, p), no_list()),
+        TagEnd::Cut => step_of(Scan::Cut, no_list()),
     }
 }
 
-// The text of a file: how it reads, and what the list is.
-pub fn file_list(s: &[u8], wanted: usize, coefficients: &mut [i64], powers: &mut [i8]) -> ListStep
-    ensures { λ r. ⌜ Code.ListReads wanted (now (s .entry)) r (now (coefficients .entry)) (now (powers .entry)) (now (coefficients .exit)) (now (powers .exit)) ⌝ }
+// The text of a file, before the rest of the room is cleared.
+fn text_list(s: &[u8], wanted: usize, coefficients: &mut [i64], powers: &mut [i8]) -> ListStep
+    ensures { λ r. ⌜ Code.TextReads wanted (now (s .entry)) r (lent (now (coefficients .entry)) (now (powers .entry))) (lent (now (coefficients .exit)) (now (powers .exit))) ⌝ }
 {
     let r = around_root::to_root(s);
     let Scan::At(e) = r else {
-        return ListStep {
-            scan: r,
-            state: no_list(),
-        };
+        return step_of(r, no_list());
     };
     let step = root(s, e, wanted, coefficients, powers);
     let scan = step.scan;
@@ -328,6 +281,17 @@ pub fn file_list(s: &[u8], wanted: usize, coefficients: &mut [i64], powers: &mut
         return step;
     };
     let state = step.state;
-    let end = around_root::epilogue(s, q);
-    ListStep { scan: end, state }
+    step_of(around_root::epilogue(s, q), state)
+}
+
+// The text of a file: how it reads, and what the list is; at a fault, the nodes that stand whole before it. Their numbers stand in the
+// room, as many as it holds and a list may have, and the rest of the room is zero. `wanted` is the number of a node, from 1.
+pub fn file_list(s: &[u8], wanted: usize, coefficients: &mut [i64], powers: &mut [i8]) -> ListStep
+    ensures { λ r. ⌜ Code.ListReads wanted (now (s .entry)) r (lent (now (coefficients .entry)) (now (powers .entry))) (lent (now (coefficients .exit)) (now (powers .exit))) ⌝ }
+{
+    let step = text_list(s, wanted, coefficients, powers);
+    let state = step.state;
+    let room = room::length(coefficients, powers);
+    room::clear(coefficients, powers, process_list::limit(state.used), room);
+    step
 }

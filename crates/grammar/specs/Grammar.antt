@@ -3,7 +3,7 @@ use mathlib.Core.Path.{_≡_}
 use mathlib.Core.Bool.{Bool}
 use mathlib.Core.List.{List, [], _∷_, _++_}
 use Prim.Native.Nat.{ℕ}
-use Rattle.grammar.specs.Parse.{Parser, Turn, again, last, bindP, retP, badP, lookP, strictP, lookTwoP, judgeP, settleP, blameP, keptP, eatP, spanP, loopP}
+use Rattle.grammar.specs.Parse.{Parser, Turn, again, last, bindP, retP, badP, lookP, strictP, lookTwoP, judgeP, settleP, blameP, keptP, eatP, spanP, loopP, loopState}
 use Rattle.grammar.specs.Laws.{Answer, bind-answer, ret-answer, bad-answer, eat-answer, span-answer, look-answer, strict-answer, lookTwo-answer, judge-answer, settle-answer, blame-answer, kept-answer, loop-answer}
 
 infixl 10 _>>_ _>>=_
@@ -85,3 +85,7 @@ module _ {S A : Type 0} where
   -- items, to one after which none follows: each with the bytes that it was read from. The next one is read in the state that `next` says
   abbrev pub items : (S → G A) → (S → A → Turn S (Unit {0})) → S → G (List (A × List ℕ))
   items item next st = loop (oneItem item next) (st, [])
+
+  -- the items that stand whole before the last turn, each with its bytes, and the state behind them
+  abbrev pub wholeItems : (S → G A) → (S → A → Turn S (Unit {0})) → S → List ℕ → S × List (A × List ℕ)
+  wholeItems item next st s = loopState (λ v. (oneItem item next v) .run) (st, []) s

@@ -8,7 +8,7 @@ use lib.ListN.{length, take, length-append}
 use lib.Seq.{take-append-seam}
 use lib.Dec.{ltb, eqb}
 use borrow.Author.Tests.{ltb-true, lt-ltb, le-ltb, eq-eqb, ne-eqb}
-use Rattle.grammar.specs.Parse.{Out, done, fault, cut, Parser, Turn, again, last, before, samePlace, thenOut, bindP, retP, badP, lookP, strictOut, strictP, lookTwoP, verdict, judgeOut, judgeP, settleFault, settleOut, settleP, blameOut, blameP, keptOut, keptP, eatP, spanP, turnP, turnOut, loopF, loopP}
+use Rattle.grammar.specs.Parse.{Out, done, fault, cut, Parser, Turn, again, last, before, samePlace, thenOut, bindP, retP, badP, lookP, strictOut, strictP, lookTwoP, verdict, judgeOut, judgeP, settleFault, settleOut, settleP, blameOut, blameP, keptOut, keptP, eatP, spanP, turnP, turnOut, loopF, loopP, stateTurn, stateOut, stateF, loopState}
 
 -- 0 is not 1
 pub nope : {X : Type 0} → _≡_ {A = ℕ} 0 1 → X
@@ -240,6 +240,51 @@ module _ {S B : Type 0} (f : S → Parser (Turn S B)) where
 
   pub loop-cut : (st : S) (s : List ℕ) → f st s ≡ cut → loopP f st s ≡ cut
   loop-cut st s q = loop-step st s ∙ ap (λ (o : Out (Turn S B)). turnOut (loopP f) o s) q
+
+  -- ---- how far a loop came: the same laws of its last state
+
+  state-fuel-turn : (n m : ℕ) → ((st : S) (r : List ℕ) → length r < n → length r < m → stateF f n st r ≡ stateF f m st r)
+      → (st : S) (s : List ℕ) → length s ≤ n → length s ≤ m → (o : Out (Turn S B)) → stateOut (λ (v : S). stateF f n v) st o s ≡ stateOut (λ (v : S). stateF f m v) st o s
+  state-fuel-turn n m ih st s h k (done (last b) r) = refl
+  state-fuel-turn n m ih st s h k (done (again st′) r) = by (ltb (length r) (length s)) refl
+    where
+      by : (v : Bool) → ltb (length r) (length s) ≡ v → cond v (stateF f n st′ r) st ≡ cond v (stateF f m st′ r) st
+      by true q = let l : length r < length s = ltb-true (length r) (length s) q in ih st′ r (omega arith) (omega arith)
+      by false q = refl
+  state-fuel-turn n m ih st s h k (fault j r) = refl
+  state-fuel-turn n m ih st s h k cut = refl
+
+  state-fuel : (n m : ℕ) (st : S) (s : List ℕ) → length s < n → length s < m → stateF f n st s ≡ stateF f m st s
+  state-fuel zero m st s h k = absurd (omega arith)
+  state-fuel (suc n) zero st s h k = absurd (omega arith)
+  state-fuel (suc n) (suc m) st s h k = state-fuel-turn n m (λ v r. state-fuel n m v r) st s (omega arith) (omega arith) (f st s)
+
+  pub state-step : (st : S) (s : List ℕ) → loopState f st s ≡ stateOut (loopState f) st (f st s) s
+  unfolding loopState
+  state-step st s = go (f st s)
+    where
+      go : (o : Out (Turn S B)) → stateOut (λ (v : S). stateF f (length s) v) st o s ≡ stateOut (loopState f) st o s
+      go (done (last b) r) = refl
+      go (done (again st′) r) = by (ltb (length r) (length s)) refl
+        where
+          by : (v : Bool) → ltb (length r) (length s) ≡ v → cond v (stateF f (length s) st′ r) st ≡ cond v (loopState f st′ r) st
+          by true q = let l : length r < length s = ltb-true (length r) (length s) q in state-fuel (length s) (suc (length r)) st′ r l (omega arith)
+          by false q = refl
+      go (fault k r) = refl
+      go cut = refl
+
+  pub state-again : (st : S) (s : List ℕ) (st′ : S) (r : List ℕ) → f st s ≡ done (again st′) r → length r < length s → loopState f st s ≡ loopState f st′ r
+  state-again st s st′ r q l =
+      state-step st s ∙ ap (λ (o : Out (Turn S B)). stateOut (loopState f) st o s) q ∙ ap (λ (v : Bool). cond v (loopState f st′ r) st) (lt-ltb (length r) (length s) l)
+
+  pub state-last : (st : S) (s : List ℕ) (b : B) (r : List ℕ) → f st s ≡ done (last b) r → loopState f st s ≡ st
+  state-last st s b r q = state-step st s ∙ ap (λ (o : Out (Turn S B)). stateOut (loopState f) st o s) q
+
+  pub state-fault : (st : S) (s : List ℕ) (k : ℕ) (r : List ℕ) → f st s ≡ fault k r → loopState f st s ≡ st
+  state-fault st s k r q = state-step st s ∙ ap (λ (o : Out (Turn S B)). stateOut (loopState f) st o s) q
+
+  pub state-cut : (st : S) (s : List ℕ) → f st s ≡ cut → loopState f st s ≡ st
+  state-cut st s q = state-step st s ∙ ap (λ (o : Out (Turn S B)). stateOut (loopState f) st o s) q
 
   -- a turn that goes on without reading a byte ends the loop as if cut
   loop-stuck : (st : S) (s : List ℕ) (st′ : S) (r : List ℕ) → f st s ≡ done (again st′) r → length s ≤ length r → loopP f st s ≡ cut

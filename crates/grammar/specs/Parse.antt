@@ -139,3 +139,22 @@ module _ {S B : Type 0} where
   -- turn by turn, from state to state, to the one that gives the value; a turn after which it goes on reads a byte at least
   unfoldable pub loopP : (S → Parser (Turn S B)) → S → Parser B
   loopP f st s = loopF f (suc (length s)) st s
+
+  -- ---- how far a loop came
+
+  abbrev pub stateTurn : (S → List ℕ → S) → S → Turn S B → List ℕ → List ℕ → S
+  stateTurn k st (last b) s r = st
+  stateTurn k st (again st′) s r = cond (ltb (length r) (length s)) (k st′ r) st
+
+  abbrev pub stateOut : (S → List ℕ → S) → S → Out (Turn S B) → List ℕ → S
+  stateOut k st (done x r) s = stateTurn k st x s r
+  stateOut k st (fault n r) s = st
+  stateOut k st cut s = st
+
+  abbrev pub stateF : (S → Parser (Turn S B)) → ℕ → S → List ℕ → S
+  stateF f zero st s = st
+  stateF f (suc n) st s = stateOut (λ (st′ : S). stateF f n st′) st (f st s) s
+
+  -- the state before the loop's last turn, which gives its value, is at fault or is cut: what all whole turns before it have made
+  unfoldable pub loopState : (S → Parser (Turn S B)) → S → List ℕ → S
+  loopState f st s = stateF f (suc (length s)) st s

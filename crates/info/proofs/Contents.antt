@@ -1,6 +1,5 @@
 -- The content of an element inside Info, and the element around it. Assumes nothing.
 use mathlib.Core.Path.{_≡_, refl, sym, ap, _∙_}
-use mathlib.Core.Bool.{true, false}
 use mathlib.Core.List.{List, []}
 use Prim.Native.Nat.{ℕ, zero, suc, _+_, _-_, _≤_, _<_}
 use native.Mathlib.Omega.{arith}
@@ -17,10 +16,7 @@ use Rattle.xml.specs.CodeLaws.{reads-fewer, reads-then, reads-failed, reads-ret
 use Rattle.xml.specs.declared.Scan.{Scan}
 use Rattle.xml.specs.declared.Scan.the-variants.{At, Fault, Cut}
 use Rattle.tags.specs.Code.{partIn}
-use Rattle.tags.specs.Ended.{EndsAs, tagRead, ends-open, ends-empty, ends-fault, ends-cut}
 use Rattle.tags.proofs.Words.{part-in}
-use Rattle.tags.specs.declared.TagEnd.{TagEnd}
-use Rattle.tags.specs.declared.TagEnd.the-variants as Ends
 use Rattle.info.specs.Code.{infoTurn, PieceIs}
 use Rattle.info.specs.declared.Piece.the-variants.{Passed, End, Child}
 
@@ -96,34 +92,8 @@ module _ {element : G (Unit {0})} {w : List ℕ} {s : List ℕ} {at i : ℕ} (v 
   pub content-child : (e : ℕ) → PieceIs s i Child → Reads 1 (element .run) noValue s i (At e) → ContentInv element w s at e
   content-child e p u = on e (child (At e) p u)
 
--- ---- behind a start tag
-
 abbrev then-rest : G (Unit {0}) → List ℕ → Tag → Parser (Unit {0})
 then-rest element w tag = (infoRest element w tag) .run
-
-module _ (element : G (Unit {0})) (w : List ℕ) (s : List ℕ) (at : ℕ) (end : TagEnd) (v : EndsAs plain s at end) where
-  abbrev Rest : Scan → Type 0
-  Rest r = Reads 1 (bindP ((startTag plain) .run) (then-rest element w)) noValue s at r
-
-  abbrev rest : Tag → Parser (Unit {0})
-  rest = then-rest element w
-
-  pub rest-open : (e : ℕ) (r : Scan) → end ≡ Ends.Open e → Reads 1 ((infoContent element w) .run) noValue s e r → Rest r
-  rest-open e r q u =
-      reads-fewer (bindP ((startTag plain) .run) rest) noValue s at 2 1 r (omega arith)
-      (reads-then ((startTag plain) .run) (λ i. tagRead plain s at end v false) rest noValue s at 1 1 e r (ends-open plain s at end v e q) u)
-
-  pub rest-empty : (e : ℕ) → end ≡ Ends.Empty e → Rest (At e)
-  rest-empty e q =
-      let u : Reads 1 ((startTag plain) .run) (λ i. tagRead plain s at end v true) s at (At e) = ends-empty plain s at end v e q in
-      let z : Reads 0 (retP tt) noValue s e (At e) = record { out = refl; inside = (omega arith, u .inside .1) } in
-      reads-then ((startTag plain) .run) (λ i. tagRead plain s at end v true) rest noValue s at 1 0 e (At e) u z
-
-  pub rest-fault : (k p : ℕ) → end ≡ Ends.Fault k p → Rest (Fault k p)
-  rest-fault k p q = reads-failed ((startTag plain) .run) (λ i. tagRead plain s at end v false) rest noValue s at 1 1 (Fault k p) tt (ends-fault plain s at end v k p q)
-
-  pub rest-cut : end ≡ Ends.Cut → Rest Cut
-  rest-cut q = reads-failed ((startTag plain) .run) (λ i. tagRead plain s at end v false) rest noValue s at 1 1 Cut tt (ends-cut plain s at end v q)
 
 -- Info itself
 pub info-rest : (s : List ℕ) (at : ℕ) (r : Scan) → Reads 1 (bindP ((startTag plain) .run) (then-rest (infoElement 16) (bytes "Info"))) noValue s at r

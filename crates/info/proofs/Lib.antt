@@ -1,3 +1,4 @@
 pub mod Pieces
+pub mod Behind
 pub mod Contents
 pub mod Texts

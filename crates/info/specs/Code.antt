@@ -7,21 +7,9 @@ use Rattle.grammar.specs.Parse.{Parser, Turn, again, last, lookP, strictP}
 use Rattle.grammar.specs.Grammar.{G, ret, _>>_}
 use Rattle.xml.specs.Xml.{endTag}
 use Rattle.xml.specs.Elements.{infoByte}
-use Rattle.xml.specs.Code.{scanOut, Inside, Reads}
-use Rattle.xml.specs.declared.Scan.{Scan}
-use Rattle.tags.specs.Code.{partIn}
-use Rattle.info.specs.declared.TextRead.{TextRead}
+use Rattle.xml.specs.Code.{Reads}
 use Rattle.info.specs.declared.Piece.{Piece}
 use Rattle.info.specs.declared.Piece.the-variants.{Passed, End, Child}
-
--- a text-only element read from `at` on: the answer is p's, whose value is the bytes where the text stands
-pub record TextReads (p : Parser (List ℕ)) (s : List ℕ) (at : ℕ) (r : TextRead) : Type 0 where
-  pub out : scanOut (λ e. partIn s (r .start) (r .end)) s (r .scan) ≡ p (drop at s)
-  pub inside : Inside 1 s at (r .scan)
-
--- this answer, and no text
-abbrev pub noText : Scan → TextRead
-noText r = record { scan = r; start = 0; end = 0 }
 
 -- the next turn inside an element of the name w, with these children
 abbrev pub infoTurn : G (Unit {0}) → List ℕ → Parser (Turn (Unit {0}) (Unit {0}))

@@ -1,19 +1,11 @@
 // Text-only elements and Info: what is passed over.
-ghost use mathlib.Core.Path.{_≡_};
 ghost use Prim.Native.Nat.{_<_};
 ghost use lib.ListN.{length};
 ghost use Rattle.xml.specs.Elements as Elements;
 ghost use Rattle.xml.specs.Code.{Reads, noValue};
-ghost use Rattle.info.specs.Code.{TextReads, noText, PieceIs};
+ghost use Rattle.info.specs.Code.{PieceIs};
 use tags::TagEnd;
 use xml::Scan;
-
-// A text-only element: how it reads, and where its text stands.
-pub struct TextRead {
-    pub scan: Scan,
-    pub start: usize,
-    pub end: usize,
-}
 
 // What stands inside Info, by its first bytes: text, an `&` form or a comment, which are passed; an end tag; or a child.
 enum Piece {
@@ -22,43 +14,27 @@ enum Piece {
     Child,
 }
 
-// The answer of an element without text.
-fn no_text(scan: Scan) -> TextRead
-    ensures { λ r. ⌜ r ≡ noText scan ⌝ }
-{
-    TextRead {
-        scan,
-        start: 0,
-        end: 0,
-    }
-}
-
 // The content of a text-only element of the name w, and its end tag.
-fn text_content(s: &[u8], at: usize, w: &[u8]) -> TextRead
-    ensures { λ r. ⌜ TextReads ((Elements.textContent (now (w .entry))) .run) (now (s .entry)) at r ⌝ }
+fn text_content(s: &[u8], at: usize, w: &[u8]) -> Scan
+    ensures { λ r. ⌜ Reads 1 ((Elements.textContent (now (w .entry))) .run) noValue (now (s .entry)) at r ⌝ }
 {
     let r = xml::text_to(s, at, b'<');
     let Scan::At(e) = r else {
-        return no_text(r);
+        return r;
     };
-    let scan = markup::only_end(s, e, w, 0);
-    TextRead {
-        scan,
-        start: at,
-        end: e,
-    }
+    markup::only_end(s, e, w, 0)
 }
 
-// A text-only element of the name w, behind its name.
-pub fn text_element(s: &[u8], at: usize, w: &[u8]) -> TextRead
-    ensures { λ r. ⌜ TextReads ((Elements.textElement (now (w .entry))) .run) (now (s .entry)) at r ⌝ }
+// A text-only element of the name w, behind its name: it is passed over.
+pub fn text_element(s: &[u8], at: usize, w: &[u8]) -> Scan
+    ensures { λ r. ⌜ Reads 1 ((Elements.textElement (now (w .entry))) .run) noValue (now (s .entry)) at r ⌝ }
 {
     let end = tags::plain_tag(s, at);
     match end {
         TagEnd::Open(q) => text_content(s, q, w),
-        TagEnd::Empty(q) => no_text(Scan::At(q)),
-        TagEnd::Fault(k, p) => no_text(Scan::Fault(k, p)),
-        TagEnd::Cut => no_text(Scan::Cut),
+        TagEnd::Empty(q) => Scan::At(q),
+        TagEnd::Fault(k, p) => Scan::Fault(k, p),
+        TagEnd::Cut => Scan::Cut,
     }
 }
 

@@ -12,7 +12,7 @@ use Rattle.grammar.specs.Grammar.{G, ret, bad, look, judge, blame, eat, seq, _>
 use Rattle.xml.specs.Bytes.{bytes, isNameByte, lessThan}
 use Rattle.xml.specs.Xml.{byte, word}
 use Rattle.clf.specs.Nodes.{NodeRead, NodeName, isMatrix, isLut1d, isRange, isCdl, notCarried, nodeFault, nodeBody}
-use Rattle.clf.specs.Reading.{mostBytes, placeIn}
+use Rattle.clf.specs.Reading.{mostBytes, placeIn, isNumbered}
 
 -- ---- the element alone
 
@@ -49,10 +49,6 @@ element = seq (judge nodeFault start) nodeBody
 pub data Answer : Type 0 where
   replaced : List Element → Answer
   refused : ℕ → ℕ → Answer
-
--- 'node number, from 1'
-abbrev pub isNumbered : ℕ → ℕ → Bool
-isNumbered k count = ltb 0 k && leb k count
 
 -- ---- by the list alone: 'Replacing: 16, 19, 4 (the element alone), then the element's own fault, then 10, 13'. The list is a reading, so 16 does not arise
 

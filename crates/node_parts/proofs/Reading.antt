@@ -4,30 +4,23 @@ use mathlib.Core.Bool.{Bool, true, false, cond}
 use mathlib.Core.List.{List, [], _∷_}
 use Prim.Native.Nat.{ℕ, zero, suc, _+_, _≤_, _<_}
 use native.Mathlib.Omega.{arith}
-use lib.IntN.{ℤ}
 use lib.ListN.{length, drop}
 use Rattle.grammar.specs.Parse.{Out, done, fault, cut, Parser, thenOut, bindP, retP}
-use Rattle.xml.specs.Code.{part, scanOut, Inside, Reads, Failed}
+use Rattle.xml.specs.Code.{scanOut, Inside, Reads, noValue, Failed}
 use Rattle.xml.specs.declared.Scan.{Scan}
 use Rattle.xml.specs.declared.Scan.the-variants.{At, Fault, Cut}
-use Rattle.tags.specs.Code.{partIn, attributesOf}
+use Rattle.room.specs.Room.{Room, clearedFrom}
+use Rattle.tags.specs.Code.{attributesOf}
 use Rattle.tags.specs.declared.Seen.{Seen}
 use Rattle.values.specs.Code.{Laid, NumbersRead}
-use Rattle.info.specs.Code.{TextReads}
-use Rattle.info.specs.declared.TextRead.{TextRead}
 use Rattle.decimal.specs.declared.Decimal.{Decimal}
 use Rattle.clf.specs.Nodes as Nodes
 use Rattle.clf.specs.Nodes.{NodeRead}
-use Rattle.process_list.specs.List.{Element, numbersOf, blankNode, unplaced, nodeOf}
+use Rattle.process_list.specs.List.{numbersOf, nodeOf}
 use Rattle.process_list.specs.declared.Kind.{Kind}
-use Rattle.process_list.specs.declared.Kind.the-variants.{Matrix}
-use Rattle.process_list.specs.declared.Depth.the-variants.{I8}
-use Rattle.node_parts.specs.Code.{AboutIs, aboutText, finishedNode, noNode, noAbout, LaidSome, NumbersIn, NodeReads}
+use Rattle.node_parts.specs.Code.{finishedNode, noNode, NumbersIn, NodeReads}
 use Rattle.node_parts.specs.Held.{Went, ReadsTo}
 use Rattle.node_parts.specs.declared.NodeStep.{NodeStep}
-use Rattle.node_parts.specs.declared.About.{About}
-use Rattle.node_parts.proofs.Laying.{laid-nothing}
-use Rattle.node_parts.proofs.Abouts.{about-text}
 
 -- ---- one after the other
 
@@ -74,83 +67,55 @@ to-part p s at (At e) R F F₂ g v = record { value = v .value; reads = v .reads
 to-part p s at (Fault k e) R F F₂ g v = record { value = v .value; reads = v .reads; left = g (v .left) }
 to-part p s at Cut R F F₂ g v = record { value = v .value; reads = v .reads; left = g (v .left) }
 
+-- what holds where there is no next place
+pub left-failed : (r : Scan) (A F : Type 0) → Failed r → Went r A F → F
+left-failed (At e) A F f z = absurd f
+left-failed (Fault k q) A F f z = z
+left-failed Cut A F f z = z
+
 -- ---- numbers and texts
 
-module _ (p : Parser (List Decimal)) (s : List ℕ) (at n base : ℕ) (c₀ p₀ c₁ p₁ : List ℤ) where
-  pub numbers-to : (r : Scan) → NumbersRead n p s at base r c₀ p₀ c₁ p₁ → ReadsTo p s at r (NumbersIn n base c₀ p₀ c₁ p₁) (LaidSome base c₀ p₀ c₁ p₁)
+module _ (p : Parser (List Decimal)) (s : List ℕ) (at n base : ℕ) (m₀ m₁ : Room) where
+  pub numbers-to : (r : Scan) → NumbersRead n p s at base r m₀ m₁ → ReadsTo p s at r (NumbersIn n base m₀ m₁) (m₁ ≡ clearedFrom base m₀)
   numbers-to (At e) v = record { value = v .xs; reads = record { out = v .out; inside = v .inside }; left = record { counted = v .counted; room = v .room } }
-  numbers-to (Fault k q) v = record { value = v .xs; reads = record { out = v .out; inside = v .inside }; left = (v .xs, v .room) }
-  numbers-to Cut v = record { value = v .xs; reads = record { out = v .out; inside = tt }; left = (v .xs, v .room) }
+  numbers-to (Fault k q) v = record { value = v .xs; reads = record { out = v .out; inside = v .inside }; left = v .room }
+  numbers-to Cut v = record { value = v .xs; reads = record { out = v .out; inside = tt }; left = v .room }
 
-text-any : (p : Parser (List ℕ)) (s : List ℕ) (at : ℕ) (r : Scan) (t : List ℕ) (F : Type 0) → F → Reads 1 p (λ e. t) s at r → ReadsTo p s at r (λ u. t ≡ u) F
-text-any p s at (At e) t F f v = record { value = t; reads = v; left = refl }
-text-any p s at (Fault k q) t F f v = record { value = t; reads = v; left = f }
-text-any p s at Cut t F f v = record { value = t; reads = v; left = f }
-
--- a text-only element
-pub text-to : (p : Parser (List ℕ)) (s : List ℕ) (at : ℕ) (r : TextRead) (F : Type 0) → F → TextReads p s at r
-    → ReadsTo p s at (r .scan) (λ t. partIn s (r .start) (r .end) ≡ t) F
-text-to p s at r F f v = text-any p s at (r .scan) (partIn s (r .start) (r .end)) F f (record { out = v .out; inside = v .inside })
+-- a text-only element, which is passed over
+pub text-to : (p : Parser (Unit {0})) (s : List ℕ) (at : ℕ) (r : Scan) (F : Type 0) → F → Reads 1 p noValue s at r → ReadsTo p s at r (λ u. Unit {0}) F
+text-to p s at (At e) F f v = record { value = tt; reads = v; left = tt }
+text-to p s at (Fault k q) F f v = record { value = tt; reads = v; left = f }
+text-to p s at Cut F f v = record { value = tt; reads = v; left = f }
 
 -- ---- nodes
 
-module _ (s : List ℕ) (base : ℕ) (step : NodeStep) (c₀ p₀ c₁ p₁ : List ℤ) where
+module _ (base : ℕ) (step : NodeStep) (m₀ m₁ : Room) where
   -- the answer's node is v
   pub record NodeIs (v : NodeRead) : Type 0 where
     pub node : step .node ≡ nodeOf (v .element)
-    pub about : aboutText s (step .about) ≡ v .description
     pub all : length (v .element .numbers) ≡ numbersOf (v .element .kind)
-    pub room : Laid base (v .element .numbers) c₀ p₀ c₁ p₁
+    pub room : Laid base (v .element .numbers) m₀ m₁
 
-  -- the answer's node is of some kind, and some numbers are laid
-  pub record NodePart : Type 0 where
-    pub element : Element
-    pub node : step .node ≡ nodeOf element
-    pub room : Laid base (element .numbers) c₀ p₀ c₁ p₁
+  -- a node that has been read
+  pub node-reads : (p : Parser NodeRead) (s : List ℕ) (at e : ℕ) (F : Type 0) → step .scan ≡ At e → ReadsTo p s at (At e) NodeIs F → NodeReads p s at base step m₀ m₁
+  node-reads p s at e F q v = record {
+    value = v .value;
+    out = rw q (v .reads .out);
+    inside = rw q (v .reads .inside);
+    node = rw q (v .left .node);
+    all = rw q (v .left .all);
+    room = rw q (v .left .room);
+  }
 
-  pub node-reads : (p : Parser NodeRead) (at : ℕ) → ReadsTo p s at (step .scan) NodeIs NodePart → NodeReads p s at base step c₀ p₀ c₁ p₁
-  node-reads p at v = go (step .scan) refl (v .value) (v .reads) (v .left)
-    where
-      go : (r : Scan) → step .scan ≡ r → (a : NodeRead) → Reads 1 p (λ q. a) s at r → Went r (NodeIs a) NodePart → NodeReads p s at base step c₀ p₀ c₁ p₁
-      go (At e) q a w l = record {
-        value = a;
-        out = rw q (w .out);
-        inside = rw q (w .inside);
-        node = l .node;
-        about = l .about;
-        all = rw q (l .all);
-        room = l .room;
-      }
-      go (Fault k e) q a w l = record {
-        value = record { element = l .element; description = aboutText s (step .about) };
-        out = rw q (w .out);
-        inside = rw q (w .inside);
-        node = l .node;
-        about = refl;
-        all = rw q tt;
-        room = l .room;
-      }
-      go Cut q a w l = record {
-        value = record { element = l .element; description = aboutText s (step .about) };
-        out = rw q (w .out);
-        inside = rw q tt;
-        node = l .node;
-        about = refl;
-        all = rw q tt;
-        room = l .room;
-      }
+-- the node of these attributes
+pub finished-is : (s : List ℕ) (base : ℕ) (m₀ m₁ : Room) (seen : Seen) (scan : Scan) (kind : Kind) (ns : List Decimal) → length ns ≡ numbersOf kind → Laid base ns m₀ m₁
+    → NodeIs base (finishedNode s seen scan kind) m₀ m₁ (Nodes.nodeOf (attributesOf s seen) kind ns)
+unfolding finishedNode nodeOf
+finished-is s base m₀ m₁ seen scan kind ns n r = record { node = refl; all = n; room = r }
 
-module _ (s : List ℕ) (base : ℕ) (c₀ p₀ c₁ p₁ : List ℤ) (seen : Seen) (scan : Scan) (kind : Kind) (about : About) where
-  -- the node of these attributes
-  pub finished-is : (l : List (List ℕ)) (ns : _) → AboutIs s about l → length ns ≡ numbersOf kind → Laid base ns c₀ p₀ c₁ p₁
-      → NodeIs s base (finishedNode s seen scan kind about) c₀ p₀ c₁ p₁ (Nodes.nodeOf (attributesOf s seen) kind ns l)
-  unfolding finishedNode nodeOf
-  finished-is l ns a n r = record { node = refl; about = about-text s about l a; all = n; room = r }
-
-  pub finished-part : (ns : _) → Laid base ns c₀ p₀ c₁ p₁ → NodePart s base (finishedNode s seen scan kind about) c₀ p₀ c₁ p₁
-  unfolding finishedNode nodeOf
-  finished-part ns r = record { element = (Nodes.nodeOf (attributesOf s seen) kind ns []) .element; node = refl; room = r }
-
-pub none-part : (s : List ℕ) (base : ℕ) (c p : List ℤ) (scan : Scan) → NodePart s base (noNode scan) c p c p
-unfolding nodeOf blankNode
-none-part s base c p scan = record { element = record { kind = Matrix false; input = I8; output = I8; numbers = [] }; node = refl; room = laid-nothing base c p }
+-- no node, where there is no next place
+pub node-failed : (p : Parser NodeRead) (s : List ℕ) (at base : ℕ) (r : Scan) (step : NodeStep) (m₀ m₁ : Room) (R : NodeRead → Type 0) (F : Type 0) → Failed r
+    → step ≡ noNode r → m₁ ≡ clearedFrom base m₀ → ReadsTo p s at r R F → NodeReads p s at base step m₀ m₁
+node-failed p s at base (At e) step m₀ m₁ R F f q z v = absurd f
+node-failed p s at base (Fault k i) step m₀ m₁ R F f q z v = rw q (record { value = v .value; out = v .reads .out; inside = v .reads .inside; node = refl; all = tt; room = z })
+node-failed p s at base Cut step m₀ m₁ R F f q z v = rw q (record { value = v .value; out = v .reads .out; inside = tt; node = refl; all = tt; room = z })

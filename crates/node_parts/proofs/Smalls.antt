@@ -12,34 +12,46 @@ use lib.Seq.{take-suc, take-length}
 use borrow.Author.Tests.{lt-ltb, le-ltb}
 use Rattle.decimal.specs.declared.Decimal.{Decimal}
 use Rattle.decimal.specs.Decimal as Decimals
-use Rattle.room.specs.Room.{roomLength}
+use Rattle.room.specs.Room.{Room, lent, roomLength}
 use Rattle.values.specs.Code.{Laid}
-use Rattle.node_parts.specs.Code.{numberAt, numbersFrom}
-use Rattle.node_parts.proofs.Laying.{laid-then, laid-nothing}
+use Rattle.node_parts.specs.Code.{numberAt, numbersFrom, smallNumbers}
+use Rattle.values.proofs.Stored.{laid-none-yet, laid-then}
 
-pub number-in : (cs ps : List ℤ) (k : ℕ) → k < roomLength cs ps → record { coefficient = getD cs k (pos 0); power = getD ps k (pos 0) } ≡ numberAt cs ps k
-unfolding numberAt
-number-in cs ps k h = sym (ap (λ (b : Bool). cond b (record { coefficient = getD cs k (pos 0); power = getD ps k (pos 0) }) Decimals.zero) (lt-ltb k (roomLength cs ps) h))
+module _ (m : Room) (k : ℕ) where
+  abbrev numberOf : Bool → Decimal
+  numberOf b = cond b (record { coefficient = getD (m .coefficients) k (pos 0); power = getD (m .powers) k (pos 0) }) Decimals.zero
 
-pub number-out : (cs ps : List ℤ) (k : ℕ) → roomLength cs ps ≤ k → Decimals.zero ≡ numberAt cs ps k
-unfolding numberAt
-number-out cs ps k h = sym (ap (λ (b : Bool). cond b (record { coefficient = getD cs k (pos 0); power = getD ps k (pos 0) }) Decimals.zero) (le-ltb k (roomLength cs ps) h))
+  pub number-in : k < roomLength m → record { coefficient = getD (m .coefficients) k (pos 0); power = getD (m .powers) k (pos 0) } ≡ numberAt m k
+  unfolding numberAt
+  number-in h = sym (ap numberOf (lt-ltb k (roomLength m) h))
 
-pub numbers-length : (cs ps : List ℤ) → length (numbersFrom cs ps) ≡ roomLength cs ps
-unfolding roomLength
-numbers-length [] ps = omega arith
-numbers-length (c ∷ cs) [] = omega arith
-numbers-length (c ∷ cs) (p ∷ ps) = omega (arith, numbers-length cs ps)
+  pub number-out : roomLength m ≤ k → Decimals.zero ≡ numberAt m k
+  unfolding numberAt
+  number-out h = sym (ap numberOf (le-ltb k (roomLength m) h))
 
-numbers-get : (cs ps : List ℤ) (k : ℕ) → k < roomLength cs ps → getD (numbersFrom cs ps) k Decimals.zero ≡ record { coefficient = getD cs k (pos 0); power = getD ps k (pos 0) }
-unfolding roomLength
-numbers-get [] ps k h = absurd (omega arith)
-numbers-get (c ∷ cs) [] k h = absurd (omega arith)
-numbers-get (c ∷ cs) (p ∷ ps) zero h = refl
-numbers-get (c ∷ cs) (p ∷ ps) (suc k) h = numbers-get cs ps k (omega arith)
+length-of : (cs ps : List ℤ) → length (numbersFrom cs ps) ≡ min (length cs) (length ps)
+length-of [] ps = omega arith
+length-of (c ∷ cs) [] = omega arith
+length-of (c ∷ cs) (p ∷ ps) = omega (arith, length-of cs ps)
 
-pub numbers-at : (cs ps : List ℤ) (k : ℕ) → k < roomLength cs ps → getD (numbersFrom cs ps) k Decimals.zero ≡ numberAt cs ps k
-numbers-at cs ps k h = numbers-get cs ps k h ∙ number-in cs ps k h
+get-of : (cs ps : List ℤ) (k : ℕ) → k < min (length cs) (length ps)
+    → getD (numbersFrom cs ps) k Decimals.zero ≡ record { coefficient = getD cs k (pos 0); power = getD ps k (pos 0) }
+get-of [] ps k h = absurd (omega arith)
+get-of (c ∷ cs) [] k h = absurd (omega arith)
+get-of (c ∷ cs) (p ∷ ps) zero h = refl
+get-of (c ∷ cs) (p ∷ ps) (suc k) h = get-of cs ps k (omega arith)
+
+module _ (m : Room) where
+  pub numbers-length : length (smallNumbers m) ≡ roomLength m
+  unfolding roomLength
+  numbers-length = length-of (m .coefficients) (m .powers)
+
+  pub numbers-get : (k : ℕ) → k < roomLength m → getD (smallNumbers m) k Decimals.zero ≡ record { coefficient = getD (m .coefficients) k (pos 0); power = getD (m .powers) k (pos 0) }
+  unfolding roomLength
+  numbers-get k h = get-of (m .coefficients) (m .powers) k h
+
+  pub numbers-at : (k : ℕ) → k < roomLength m → getD (smallNumbers m) k Decimals.zero ≡ numberAt m k
+  numbers-at k h = numbers-get k h ∙ number-in m k h
 
 -- a small room that holds these numbers
 pub numbers-map : {A : Type 0} (f : A → Decimal) (l : List A) → numbersFrom (map (λ (a : A). (f a) .coefficient) l) (map (λ (a : A). (f a) .power) l) ≡ map f l
@@ -48,31 +60,29 @@ numbers-map f (a ∷ l) = ap (λ (m : List Decimal). f a ∷ m) (numbers-map f l
 
 -- ---- stored one by one
 
-module _ (cs ps : List ℤ) (base : ℕ) (c₀ p₀ : List ℤ) where
-  pub record StoreInv (n j : ℕ) (c p : List ℤ) : Type 0 where
-    pub all : n ≡ roomLength cs ps
+module _ (small : Room) (base : ℕ) (m₀ : Room) where
+  abbrev ns : List Decimal
+  ns = smallNumbers small
+
+  pub record StoreInv (n j : ℕ) (m : Room) : Type 0 where
+    pub all : n ≡ roomLength small
     pub few : j ≤ n
-    pub room : Laid base (take j (numbersFrom cs ps)) c₀ p₀ c p
+    pub room : Laid base (take j ns) m₀ m
 
-  pub store-start : (n : ℕ) → n ≡ roomLength cs ps → StoreInv n 0 c₀ p₀
-  store-start n q = record { all = q; few = omega arith; room = laid-nothing base c₀ p₀ }
+  pub store-start : (n : ℕ) → n ≡ roomLength small → StoreInv n 0 m₀
+  store-start n q = record { all = q; few = omega arith; room = laid-none-yet base m₀ }
 
-  pub store-more : (n j : ℕ) (c p c₁ p₁ : List ℤ) (d : Decimal) → StoreInv n j c p → j < n → d ≡ numberAt cs ps j → Laid (base + j) (d ∷ []) c p c₁ p₁
-      → StoreInv n (j + 1) c₁ p₁
-  store-more n j c p c₁ p₁ d v h q l =
-      let k : j < roomLength cs ps = omega (arith, v .all) in
-      let m : length (take j (numbersFrom cs ps)) ≡ j = length-take j (numbersFrom cs ps) ∙ omega (arith, numbers-length cs ps) in
-      let e : take (j + 1) (numbersFrom cs ps) ≡ take j (numbersFrom cs ps) ++ (d ∷ []) =
-      ap (λ (i : ℕ). take i (numbersFrom cs ps)) (add-one j) ∙ take-suc (numbersFrom cs ps) j Decimals.zero (omega (arith, numbers-length cs ps))
-      ∙ ap (λ (x : Decimal). take j (numbersFrom cs ps) ++ (x ∷ [])) (numbers-at cs ps j k ∙ sym q) in
-      record {
-        all = v .all;
-        few = omega arith;
-        room = rw e (laid-then base (take j (numbersFrom cs ps)) (d ∷ []) c₀ p₀ c p c₁ p₁ (v .room) (rw m l));
-      }
+  pub store-more : (n j : ℕ) (m m₁ : Room) (d : Decimal) → StoreInv n j m → j < n → d ≡ numberAt small j → Laid (base + j) (d ∷ []) m m₁ → StoreInv n (j + 1) m₁
+  store-more n j m m₁ d v h q l =
+      let k : j < roomLength small = omega (arith, v .all) in
+      let i : length (take j ns) ≡ j = length-take j ns ∙ omega (arith, numbers-length small) in
+      let e : take (j + 1) ns ≡ take j ns ++ (d ∷ []) =
+      ap (λ (i : ℕ). take i ns) (add-one j) ∙ take-suc ns j Decimals.zero (omega (arith, numbers-length small))
+      ∙ ap (λ (x : Decimal). take j ns ++ (x ∷ [])) (numbers-at small j k ∙ sym q) in
+      record { all = v .all; few = omega arith; room = rw e (laid-then base (take j ns) (d ∷ []) m₀ m m₁ (v .room) (rw i l)) }
 
-  pub store-end : (n j : ℕ) (c p : List ℤ) → StoreInv n j c p → n ≤ j → Laid base (numbersFrom cs ps) c₀ p₀ c p
-  store-end n j c p v h =
-      let e : j ≡ length (numbersFrom cs ps) = omega (arith, v .few, v .all, numbers-length cs ps) in
-      let t : take j (numbersFrom cs ps) ≡ numbersFrom cs ps = ap (λ (i : ℕ). take i (numbersFrom cs ps)) e ∙ take-length (numbersFrom cs ps) in
+  pub store-end : (n j : ℕ) (m : Room) → StoreInv n j m → n ≤ j → Laid base ns m₀ m
+  store-end n j m v h =
+      let e : j ≡ length ns = omega (arith, v .few, v .all, numbers-length small) in
+      let t : take j ns ≡ ns = ap (λ (i : ℕ). take i ns) e ∙ take-length ns in
       rw t at (v .room)

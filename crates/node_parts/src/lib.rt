@@ -1,7 +1,8 @@
-// What the nodes share: a Description, depths, the record of a node, and small rooms.
+// What the nodes share: depths, the record of a node, what is left of one at a fault, and small rooms.
 ghost use mathlib.Core.Path.{_≡_};
 ghost use Rattle.xml.specs.Bytes.{same, bytes};
 ghost use Rattle.xml.specs.Xml.{textOf};
+ghost use Rattle.room.specs.Room.{lent, clearedFrom};
 ghost use Rattle.clf.specs.Nodes as Nodes;
 ghost use Rattle.tags.specs.Code.{attributesOf};
 ghost use Rattle.values.specs.Code.{Laid};
@@ -14,42 +15,10 @@ use tags::DepthRead;
 use tags::Seen;
 use xml::Scan;
 
-// The first Description of a node, where its text stands.
-pub struct About {
-    pub found: bool,
-    pub start: usize,
-    pub end: usize,
-}
-
-// A node: how it reads, what the list holds of it but for the position, and its Description.
+// A node: how it reads, and what the list holds of it but for the position.
 pub struct NodeStep {
     pub scan: Scan,
     pub node: Node,
-    pub about: About,
-}
-
-pub fn no_about() -> About
-    ensures { λ r. ⌜ r ≡ Code.noAbout ⌝ }
-{
-    About {
-        found: false,
-        start: 0,
-        end: 0,
-    }
-}
-
-// One Description more: the first one stays.
-pub fn with_about(about: About, start: usize, end: usize) -> About
-    ensures { λ r. ⌜ r ≡ Code.withAbout about start end ⌝ }
-{
-    if about.found {
-        return about;
-    }
-    About {
-        found: true,
-        start,
-        end,
-    }
 }
 
 pub fn depth_at(s: &[u8], seen: Seen, w: &[u8]) -> Depth
@@ -75,13 +44,13 @@ pub fn style_is(s: &[u8], seen: Seen, w: &[u8]) -> bool
 }
 
 // The node of these attributes.
-pub fn finished(s: &[u8], seen: Seen, scan: Scan, kind: Kind, about: About) -> NodeStep
-    ensures { λ r. ⌜ r ≡ Code.finishedNode (now (s .entry)) seen scan kind about ⌝ }
+pub fn finished(s: &[u8], seen: Seen, scan: Scan, kind: Kind) -> NodeStep
+    ensures { λ r. ⌜ r ≡ Code.finishedNode (now (s .entry)) seen scan kind ⌝ }
 {
     let input = depth_at(s, seen, b"inBitDepth");
     let output = depth_at(s, seen, b"outBitDepth");
     let node = process_list::unplaced(kind, input, output);
-    NodeStep { scan, node, about }
+    NodeStep { scan, node }
 }
 
 pub fn no_node(scan: Scan) -> NodeStep
@@ -90,13 +59,21 @@ pub fn no_node(scan: Scan) -> NodeStep
     NodeStep {
         scan,
         node: process_list::blank(),
-        about: no_about(),
     }
+}
+
+// A node that is at fault or cut: none, and the room is zero from `base` on.
+pub fn failed(scan: Scan, coefficients: &mut [i64], powers: &mut [i8], base: usize) -> NodeStep
+    ensures { λ r. ⌜ (r ≡ Code.noNode scan) × (lent (now (coefficients .exit)) (now (powers .exit)) ≡ clearedFrom base (lent (now (coefficients .entry)) (now (powers .entry)))) ⌝ }
+{
+    let length = room::length(coefficients, powers);
+    room::clear(coefficients, powers, base, length);
+    no_node(scan)
 }
 
 // The number of index k of a small room.
 pub fn number_at(coefficients: &[i64], powers: &[i8], k: usize) -> Decimal
-    ensures { λ r. ⌜ r ≡ Code.numberAt (now (coefficients .entry)) (now (powers .entry)) k ⌝ }
+    ensures { λ r. ⌜ r ≡ Code.numberAt (lent (now (coefficients .entry)) (now (powers .entry))) k ⌝ }
 {
     if k < room::length(coefficients, powers) {
         return Decimal {
@@ -118,7 +95,7 @@ pub fn store_all(
     powers: &mut [i8],
     base: usize,
 )
-    ensures { λ _. ⌜ Laid base (Code.numbersFrom (now (small .entry)) (now («small_powers» .entry))) (now (coefficients .entry)) (now (powers .entry)) (now (coefficients .exit)) (now (powers .exit)) ⌝ }
+    ensures { λ _. ⌜ Laid base (Code.smallNumbers (lent (now (small .entry)) (now («small_powers» .entry)))) (lent (now (coefficients .entry)) (now (powers .entry))) (lent (now (coefficients .exit)) (now (powers .exit))) ⌝ }
 {
     let n = room::length(small, small_powers);
     let mut j = 0;

@@ -1,8 +1,10 @@
 // A node by its name.
 ghost use mathlib.Core.Path.{_≡_};
+ghost use Rattle.room.specs.Room.{lent};
 ghost use Rattle.clf.specs.Nodes as Nodes;
 ghost use Rattle.node_parts.specs.Code.{NodeReads};
 ghost use Rattle.nodes.specs.Code.{nameOf, carriedOf};
+use array_node::TableKind;
 use node_parts::NodeStep;
 
 // The nodes that are carried.
@@ -56,11 +58,15 @@ pub fn node_body(
     powers: &mut [i8],
     base: usize,
 ) -> NodeStep
-    ensures { λ r. ⌜ NodeReads ((Nodes.nodeBody (carriedOf name)) .run) (now (s .entry)) at base r (now (coefficients .entry)) (now (powers .entry)) (now (coefficients .exit)) (now (powers .exit)) ⌝ }
+    ensures { λ r. ⌜ NodeReads ((Nodes.nodeBody (carriedOf name)) .run) (now (s .entry)) at base r (lent (now (coefficients .entry)) (now (powers .entry))) (lent (now (coefficients .exit)) (now (powers .exit))) ⌝ }
 {
     match name {
-        CarriedNode::Matrix => array_node::table_node(s, at, false, coefficients, powers, base),
-        CarriedNode::Lut1d => array_node::table_node(s, at, true, coefficients, powers, base),
+        CarriedNode::Matrix => {
+            array_node::table_node(s, at, TableKind::Matrix, coefficients, powers, base)
+        }
+        CarriedNode::Lut1d => {
+            array_node::table_node(s, at, TableKind::Lut1d, coefficients, powers, base)
+        }
         CarriedNode::Range => range_node::read_range(s, at, coefficients, powers, base),
         CarriedNode::Cdl => cdl_node::read_cdl(s, at, coefficients, powers, base),
     }

@@ -1,12 +1,10 @@
 -- What `tableIn` says, and a LUT1D's pixel between the bounds of its columns. Assumes nothing.
 use mathlib.Core.Path.{_≡_, refl, sym, subst}
 use mathlib.Core.Bool.{Bool, true, false, _&&_, _||_}
-use mathlib.Core.List.{List}
 use Prim.Native.Nat.{ℕ, _+_, _*_, _≤_, _<_}
 use native.Mathlib.Omega.{arith}
 use borrow.Author.Tests.{leb-true, eqb-true}
 use lib.Dec.{T, eqb, leb}
-use lib.IntN.{ℤ}
 use lib.Ieee.{Float}
 use Rattle.pixel.specs.declared.Pixel.{Pixel}
 use Rattle.pixel.specs.declared.Fraction.{Fraction}
@@ -14,7 +12,7 @@ use Rattle.pixel.specs.Bounds.{Between}
 use Rattle.pixel.specs.Scale.{toFractions}
 use Rattle.pixel_lut.specs.Lut1d.{lookedUp}
 use Rattle.pixel_lut.specs.Lut1dLaws.{looked-up-between}
-use Rattle.room.specs.Room.{roomLength}
+use Rattle.room.specs.Room.{Room, roomLength}
 use Rattle.pixel_lut.specs.Table.{entryAt, columnOf, tableIn, lookedUpAll, lut1dPixel}
 
 -- a table of the carried shape that a room of this length holds
@@ -46,15 +44,15 @@ held room at n columns h = go (leb 2 n) (leb n 65536) (eqb columns 1 || eqb colu
     go false q r s a b c d t = absurd t
 
 -- ---- a LUT1D's pixel: looked up where the room holds the table, and else left as it is
-pub lut1d-table : (coefficients powers : List ℤ) (at n columns : ℕ) (inScale : Float) (x : Pixel) → tableIn (roomLength coefficients powers) at n columns ≡ true
-    → lut1dPixel coefficients powers at n columns inScale x ≡ lookedUpAll coefficients powers at n columns (toFractions inScale x)
+pub lut1d-table : (m : Room) (at n columns : ℕ) (inScale : Float) (x : Pixel) → tableIn (roomLength m) at n columns ≡ true
+    → lut1dPixel m at n columns inScale x ≡ lookedUpAll m at n columns (toFractions inScale x)
 unfolding lut1dPixel
-lut1d-table coefficients powers at n columns inScale x h = simp h
+lut1d-table m at n columns inScale x h = simp h
 
-pub lut1d-no-table : (coefficients powers : List ℤ) (at n columns : ℕ) (inScale : Float) (x : Pixel) → tableIn (roomLength coefficients powers) at n columns ≡ false
-    → lut1dPixel coefficients powers at n columns inScale x ≡ x
+pub lut1d-no-table : (m : Room) (at n columns : ℕ) (inScale : Float) (x : Pixel) → tableIn (roomLength m) at n columns ≡ false
+    → lut1dPixel m at n columns inScale x ≡ x
 unfolding lut1dPixel
-lut1d-no-table coefficients powers at n columns inScale x h = simp h
+lut1d-no-table m at n columns inScale x h = simp h
 
 -- each component between bounds of the column that serves it
 pub record InColumns (lo hi : ℕ → Float) (x : Pixel) : Type 0 where
@@ -62,14 +60,14 @@ pub record InColumns (lo hi : ℕ → Float) (x : Pixel) : Type 0 where
   pub green : Between (lo 1) (hi 1) (x .g)
   pub blue : Between (lo 2) (hi 2) (x .b)
 
-pub lut1d-between : (coefficients powers : List ℤ) (at n columns : ℕ) (inScale : Float) (x : Pixel) (lo hi : ℕ → Float) → tableIn (roomLength coefficients powers) at n columns ≡ true
-    → ((k i : ℕ) → k < 3 → i < n → Between (lo k) (hi k) (entryAt coefficients powers at columns (columnOf columns k) i))
-    → InColumns lo hi (lut1dPixel coefficients powers at n columns inScale x)
+pub lut1d-between : (m : Room) (at n columns : ℕ) (inScale : Float) (x : Pixel) (lo hi : ℕ → Float) → tableIn (roomLength m) at n columns ≡ true
+    → ((k i : ℕ) → k < 3 → i < n → Between (lo k) (hi k) (entryAt m at columns (columnOf columns k) i))
+    → InColumns lo hi (lut1dPixel m at n columns inScale x)
 unfolding lookedUpAll
-lut1d-between coefficients powers at n columns inScale x lo hi h b =
-    let some : 2 ≤ n = held (roomLength coefficients powers) at n columns h .some in
+lut1d-between m at n columns inScale x lo hi h b =
+    let some : 2 ≤ n = held (roomLength m) at n columns h .some in
     let f = toFractions inScale x in
-    let column : (k : ℕ) (y : Fraction) → k < 3 → Between (lo k) (hi k) (lookedUp (entryAt coefficients powers at columns (columnOf columns k)) n y .0) =
-    λ k y l. looked-up-between (entryAt coefficients powers at columns (columnOf columns k)) n (lo k) (hi k) y (omega arith) (λ i j. b k i l j) in
-    rw (lut1d-table coefficients powers at n columns inScale x h)
+    let column : (k : ℕ) (y : Fraction) → k < 3 → Between (lo k) (hi k) (lookedUp (entryAt m at columns (columnOf columns k)) n y .0) =
+    λ k y l. looked-up-between (entryAt m at columns (columnOf columns k)) n (lo k) (hi k) y (omega arith) (λ i j. b k i l j) in
+    rw (lut1d-table m at n columns inScale x h)
     (record { red = column 0 (f .r) (omega arith); green = column 1 (f .g) (omega arith); blue = column 2 (f .b) (omega arith) })

@@ -5,7 +5,7 @@ ghost use Prim.Native.Nat.{_+_, _*_, _≤_, _<_};
 ghost use lib.Dec.{T, leb};
 ghost use lib.Ieee.{le};
 ghost use Rattle.pixel.specs.F64 as F64;
-ghost use Rattle.room.specs.Room.{roomLength};
+ghost use Rattle.room.specs.Room.{lent, roomLength};
 ghost use Rattle.pixel_lut.specs.Floor as Floor;
 ghost use Rattle.pixel_lut.specs.Lut1d as Lut1d;
 ghost use Rattle.pixel_lut.specs.Table as Table;
@@ -52,10 +52,10 @@ fn entry(
     column: usize,
     i: usize,
 ) -> f64
-    requires { ⌜ at + n * columns ≤ roomLength (now coefficients) (now powers) ⌝ }
+    requires { ⌜ at + n * columns ≤ roomLength (lent (now coefficients) (now powers)) ⌝ }
     requires { ⌜ column < columns ⌝ }
     requires { ⌜ i < n ⌝ }
-    ensures { λ r. ⌜ r ≡ Table.entryAt (now (coefficients .entry)) (now (powers .entry)) at columns column i ⌝ }
+    ensures { λ r. ⌜ r ≡ Table.entryAt (lent (now (coefficients .entry)) (now (powers .entry))) at columns column i ⌝ }
 {
     pixel_room::number_from(coefficients, powers, at, i * columns + column)
 }
@@ -71,9 +71,9 @@ fn looked_up(
 ) -> CodeValue
     requires { ⌜ 2 ≤ n ⌝ }
     requires { ⌜ n ≤ 65536 ⌝ }
-    requires { ⌜ at + n * columns ≤ roomLength (now coefficients) (now powers) ⌝ }
+    requires { ⌜ at + n * columns ≤ roomLength (lent (now coefficients) (now powers)) ⌝ }
     requires { ⌜ column < columns ⌝ }
-    ensures { λ r. ⌜ r ≡ Lut1d.lookedUp (Table.entryAt (now (coefficients .entry)) (now (powers .entry)) at columns column) n x ⌝ }
+    ensures { λ r. ⌜ r ≡ Lut1d.lookedUp (Table.entryAt (lent (now (coefficients .entry)) (now (powers .entry))) at columns column) n x ⌝ }
 {
     let p = position(n, x);
     let i = floor_to(n - 1, p);
@@ -106,8 +106,8 @@ fn looked_up_all(
     columns: usize,
     x: Fractions,
 ) -> Pixel
-    requires { ⌜ Table.tableIn (roomLength (now coefficients) (now powers)) at n columns ≡ true ⌝ }
-    ensures { λ r. ⌜ r ≡ Table.lookedUpAll (now (coefficients .entry)) (now (powers .entry)) at n columns x ⌝ }
+    requires { ⌜ Table.tableIn (roomLength (lent (now coefficients) (now powers))) at n columns ≡ true ⌝ }
+    ensures { λ r. ⌜ r ≡ Table.lookedUpAll (lent (now (coefficients .entry)) (now (powers .entry))) at n columns x ⌝ }
 {
     let red = column_of(columns, 0);
     let green = column_of(columns, 1);
@@ -157,7 +157,7 @@ pub fn lut1d_pixel(
     in_scale: f64,
     x: Pixel,
 ) -> Pixel
-    ensures { λ r. ⌜ r ≡ Table.lut1dPixel (now (coefficients .entry)) (now (powers .entry)) at n columns «in_scale» x ⌝ }
+    ensures { λ r. ⌜ r ≡ Table.lut1dPixel (lent (now (coefficients .entry)) (now (powers .entry))) at n columns «in_scale» x ⌝ }
 {
     let count = room::length(coefficients, powers);
     if table_in(count, at, n, columns) {

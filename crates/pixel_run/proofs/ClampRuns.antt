@@ -3,10 +3,10 @@ use mathlib.Core.Path.{_≡_}
 use mathlib.Core.Bool.{Bool}
 use mathlib.Core.List.{List}
 use lib.Dec.{T}
-use lib.IntN.{ℤ}
 use lib.Ieee.{Float, le}
 use Rattle.pixel.specs.Range.{rangePixel}
 use Rattle.pixel.specs.RangeLaws.{range-within}
+use Rattle.room.specs.Room.{Room}
 use Rattle.pixel_run.specs.declared.Prepared.{Prepared}
 use Rattle.pixel_run.specs.declared.Prepared.the-variants.{Range, Cdl, Matrix, Lut1d}
 use Rattle.pixel_run.specs.Each.{eachPixel, EachWithin}
@@ -21,14 +21,14 @@ pub range-ran : (minIn maxIn lo hi : Float) (clamp : Bool) (xs ys : List Float) 
     → (ys ≡ eachPixel (rangePixel minIn maxIn lo hi clamp) xs) × (T clamp → T (le lo hi) → EachWithin lo hi ys)
 range-ran minIn maxIn lo hi clamp xs ys e = (e, range-held minIn maxIn lo hi clamp xs ys e)
 
-module _ (rows : List (List Float)) (inScale outScale : Float) (coefficients powers : List ℤ) (xs ys : List Float) where
-  held : (p : Prepared) → ys ≡ eachPixel (stepPixel p rows inScale outScale coefficients powers) xs → ClampHolds p ys
+module _ (rows : List (List Float)) (inScale outScale : Float) (m : Room) (xs ys : List Float) where
+  held : (p : Prepared) → ys ≡ eachPixel (stepPixel p rows inScale outScale m) xs → ClampHolds p ys
   unfolding stepPixel ClampHolds
   held (Range minIn maxIn minOut maxOut clamp) e = range-held minIn maxIn minOut maxOut clamp xs ys e
   held (Cdl sr sg sb or og ob pr pg pb sat clamp) e = tt
   held (Matrix at wide) e = tt
   held (Lut1d at n columns) e = tt
 
-  pub node-ran : (p : Prepared) → ys ≡ eachPixel (stepPixel p rows inScale outScale coefficients powers) xs
-      → (ys ≡ eachPixel (stepPixel p rows inScale outScale coefficients powers) xs) × ClampHolds p ys
+  pub node-ran : (p : Prepared) → ys ≡ eachPixel (stepPixel p rows inScale outScale m) xs
+      → (ys ≡ eachPixel (stepPixel p rows inScale outScale m) xs) × ClampHolds p ys
   node-ran p e = (e, held p e)

@@ -1,7 +1,6 @@
 -- A prepared node's step on a pixel. Document 01: 'A prepared node is one of four kinds: Range with four and CDL with ten numbers, each carrying its own f64 parameters; Matrix and LUT1D with where their numbers stand. For a Matrix its three rows of four are handed over by value.'
 use mathlib.Core.List.{List}
 use lib.Dec.{T}
-use lib.IntN.{ℤ}
 use lib.Ieee.{Float, le}
 use Rattle.pixel.specs.declared.Pixel.{Pixel}
 use Rattle.pixel.specs.Range.{rangePixel}
@@ -11,14 +10,16 @@ use Rattle.pixel_lut.specs.Table.{lut1dPixel}
 use Rattle.pixel_run.specs.Each.{EachWithin}
 use Rattle.pixel_run.specs.declared.Prepared.{Prepared}
 use Rattle.pixel_run.specs.declared.Prepared.the-variants.{Range, Cdl, Matrix, Lut1d}
+-- the table room, passed on to those who run nodes
+use Rattle.room.specs.Room.{Room}
 
 -- beside the node: the rows of a Matrix, the scales of its depths, and the table room
-unfoldable pub stepPixel : Prepared → List (List Float) → Float → Float → List ℤ → List ℤ → Pixel → Pixel
-stepPixel (Range minIn maxIn minOut maxOut clamp) rows inScale outScale coefficients powers x = rangePixel minIn maxIn minOut maxOut clamp x
-stepPixel (Cdl slopeR slopeG slopeB offsetR offsetG offsetB powerR powerG powerB sat clamp) rows inScale outScale coefficients powers x =
+unfoldable pub stepPixel : Prepared → List (List Float) → Float → Float → Room → Pixel → Pixel
+stepPixel (Range minIn maxIn minOut maxOut clamp) rows inScale outScale m x = rangePixel minIn maxIn minOut maxOut clamp x
+stepPixel (Cdl slopeR slopeG slopeB offsetR offsetG offsetB powerR powerG powerB sat clamp) rows inScale outScale m x =
     cdlPixel slopeR slopeG slopeB offsetR offsetG offsetB sat clamp inScale outScale x
-stepPixel (Matrix at wide) rows inScale outScale coefficients powers x = matrixPixel rows wide x
-stepPixel (Lut1d at n columns) rows inScale outScale coefficients powers x = lut1dPixel coefficients powers at n columns inScale x
+stepPixel (Matrix at wide) rows inScale outScale m x = matrixPixel rows wide x
+stepPixel (Lut1d at n columns) rows inScale outScale m x = lut1dPixel m at n columns inScale x
 
 -- 'Clamp holds it between minOut and maxOut': what a slice that has gone through a Range of style Clamp keeps, whatever went in, NaN and infinities included
 unfoldable pub ClampHolds : Prepared → List Float → Type 0

@@ -5,32 +5,31 @@ use mathlib.Core.Bool.{true}
 use mathlib.Core.List.{List}
 use Prim.Native.Nat.{ℕ, _<_}
 use lib.Dec.{T}
-use lib.IntN.{ℤ}
 use lib.Ieee.{Float, le, eq}
 use Rattle.pixel.specs.declared.Pixel.{Pixel}
 use Rattle.pixel.specs.F64 as F64
 use Rattle.pixel.specs.Bounds.{Between, Within}
 use Rattle.pixel.specs.RangeLaws.{range-within}
 use Rattle.pixel.specs.CdlLaws.{cdl-within}
-use Rattle.room.specs.Room.{roomLength}
+use Rattle.room.specs.Room.{Room, roomLength}
 use Rattle.pixel_lut.specs.Table.{tableIn, entryAt, columnOf}
 use Rattle.pixel_lut.specs.TableLaws.{InColumns, lut1d-between}
 use Rattle.pixel_run.specs.declared.Prepared.the-variants.{Range, Cdl, Lut1d}
 use Rattle.pixel_run.specs.Step.{stepPixel}
 
-module _ (rows : List (List Float)) (inScale outScale : Float) (coefficients powers : List ℤ) where
+module _ (rows : List (List Float)) (inScale outScale : Float) (m : Room) where
   pub range-clamped : (minIn maxIn minOut maxOut : Float) (x : Pixel) → T (le minOut maxOut)
-      → Within minOut maxOut (stepPixel (Range minIn maxIn minOut maxOut true) rows inScale outScale coefficients powers x)
+      → Within minOut maxOut (stepPixel (Range minIn maxIn minOut maxOut true) rows inScale outScale m x)
   unfolding stepPixel
   range-clamped minIn maxIn minOut maxOut x h = range-within minIn maxIn minOut maxOut true x tt h
 
   pub cdl-clamped : (sr sg sb or og ob pr pg pb sat : Float) (x : Pixel) → eq outScale F64.one ≡ true
-      → Within F64.zero F64.one (stepPixel (Cdl sr sg sb or og ob pr pg pb sat true) rows inScale outScale coefficients powers x)
+      → Within F64.zero F64.one (stepPixel (Cdl sr sg sb or og ob pr pg pb sat true) rows inScale outScale m x)
   unfolding stepPixel
   cdl-clamped sr sg sb or og ob pr pg pb sat x h = cdl-within sr sg sb or og ob sat true inScale outScale x tt h
 
-  pub lut1d-in-columns : (at n columns : ℕ) (x : Pixel) (lo hi : ℕ → Float) → tableIn (roomLength coefficients powers) at n columns ≡ true
-      → ((k i : ℕ) → k < 3 → i < n → Between (lo k) (hi k) (entryAt coefficients powers at columns (columnOf columns k) i))
-      → InColumns lo hi (stepPixel (Lut1d at n columns) rows inScale outScale coefficients powers x)
+  pub lut1d-in-columns : (at n columns : ℕ) (x : Pixel) (lo hi : ℕ → Float) → tableIn (roomLength m) at n columns ≡ true
+      → ((k i : ℕ) → k < 3 → i < n → Between (lo k) (hi k) (entryAt m at columns (columnOf columns k) i))
+      → InColumns lo hi (stepPixel (Lut1d at n columns) rows inScale outScale m x)
   unfolding stepPixel
-  lut1d-in-columns at n columns x lo hi h b = lut1d-between coefficients powers at n columns inScale x lo hi h b
+  lut1d-in-columns at n columns x lo hi h b = lut1d-between m at n columns inScale x lo hi h b

@@ -8,6 +8,7 @@ ghost use lib.Ieee.Scale.{finite};
 ghost use Rattle.pixel.specs.Range as Range;
 ghost use Rattle.pixel.specs.Matrix as Matrix;
 ghost use Rattle.pixel.specs.Cdl as Cdl;
+ghost use Rattle.room.specs.Room.{lent};
 ghost use Rattle.pixel_lut.specs.Table as Table;
 ghost use Rattle.pixel_run.specs.Step as Step;
 ghost use Rattle.pixel_run.specs.Prepare as Prepare;
@@ -53,7 +54,7 @@ pub enum Prepared {
 
 // A Range whose four numbers stand in the room from at on.
 pub fn prepare_range(coefficients: &[i64], powers: &[i8], at: usize, clamp: bool) -> Prepared
-    ensures { λ r. ⌜ r ≡ Prepare.rangeFrom (now (coefficients .entry)) (now (powers .entry)) at clamp ⌝ }
+    ensures { λ r. ⌜ r ≡ Prepare.rangeFrom (lent (now (coefficients .entry)) (now (powers .entry))) at clamp ⌝ }
 {
     Prepared::Range {
         min_in: pixel_room::number_from(coefficients, powers, at, 0),
@@ -66,7 +67,7 @@ pub fn prepare_range(coefficients: &[i64], powers: &[i8], at: usize, clamp: bool
 
 // An ASC_CDL whose ten numbers stand in the room from at on.
 pub fn prepare_cdl(coefficients: &[i64], powers: &[i8], at: usize, clamp: bool) -> Prepared
-    ensures { λ r. ⌜ r ≡ Prepare.cdlFrom (now (coefficients .entry)) (now (powers .entry)) at clamp ⌝ }
+    ensures { λ r. ⌜ r ≡ Prepare.cdlFrom (lent (now (coefficients .entry)) (now (powers .entry))) at clamp ⌝ }
 {
     Prepared::Cdl {
         slope_r: pixel_room::number_from(coefficients, powers, at, 0),
@@ -193,7 +194,7 @@ fn run_lut1d(
     columns: usize,
     in_scale: f64,
 )
-    ensures { λ _. ⌜ now (pixels .exit) ≡ Each.eachPixel (Table.lut1dPixel (now (coefficients .entry)) (now (powers .entry)) at entries columns «in_scale») (now (pixels .entry)) ⌝ }
+    ensures { λ _. ⌜ now (pixels .exit) ≡ Each.eachPixel (Table.lut1dPixel (lent (now (coefficients .entry)) (now (powers .entry))) at entries columns «in_scale») (now (pixels .entry)) ⌝ }
 {
     let mut i = 0usize;
     while pixels.len() - i >= 3 {
@@ -214,7 +215,7 @@ pub fn run_node(
     coefficients: &[i64],
     powers: &[i8],
 )
-    ensures { λ _. ⌜ now (pixels .exit) ≡ Each.eachPixel (Step.stepPixel p rows «in_scale» «out_scale» (now (coefficients .entry)) (now (powers .entry))) (now (pixels .entry)) ⌝ }
+    ensures { λ _. ⌜ now (pixels .exit) ≡ Each.eachPixel (Step.stepPixel p rows «in_scale» «out_scale» (lent (now (coefficients .entry)) (now (powers .entry)))) (now (pixels .entry)) ⌝ }
     ensures { λ _. ⌜ Step.ClampHolds p (now (pixels .exit)) ⌝ }
 {
     match p {

@@ -3,25 +3,22 @@ use mathlib.Core.Path.{_≡_, refl, sym, ap, _∙_}
 use mathlib.Core.Bool.{Bool, true, false, cond}
 use mathlib.Core.List.{List, [], _∷_, map}
 use mathlib.Core.Option.{Option, none, some}
-use Prim.Native.Nat.{ℕ, zero, suc, _≤_, _<_, min}
+use Prim.Native.Nat.{ℕ, zero, suc, _≤_, _<_}
 use native.Mathlib.Omega.{arith}
 use lib.Dec.{ltb}
-use lib.IntN.{ℤ, pos}
-use lib.ListN.{length, getD, set, length-map, length-set, List·getD-map}
+use lib.IntN.{ℤ}
+use lib.ListN.{length, getD, set, length-map, List·getD-map}
 use lib.Seq.{set-out}
 use borrow.Author.Tests.{ltb-false}
 use Rattle.decimal.specs.declared.Decimal.{Decimal}
 use Rattle.decimal.specs.Decimal as Decimals
-use Rattle.decimal_value.specs.Value.{less, atMost}
-use Rattle.room.specs.Room.{roomLength, stored, laid}
-use Rattle.values.specs.Code.{Laid}
-use Rattle.clf.specs.Nodes.{isSome, orElse, oneOf, RangeState, isThere, valueAt, anyThere, allThere, inOrder, rangeFault, rangeIndex}
-use Rattle.node_parts.specs.Code.{numberAt, numbersFrom}
-use Rattle.node_parts.proofs.Smalls.{number-in, numbers-map}
-use Rattle.range_node.specs.Code.{anyOf, allOf, faultOf, orderedIn, missingOf, coefficientOf, powerOf, zeros}
-
-abbrev pair : ℤ → ℤ → Decimal
-pair c p = record { coefficient = c; power = p }
+use Rattle.room.specs.Room.{Room, roomLength, stored, storedIn, laidIn}
+use Rattle.room.proofs.Rooms.{stored-one}
+use Rattle.clf.specs.Nodes.{isSome, orElse, RangeState, isThere, valueAt, allThere, inOrder, rangeFault, rangeIndex}
+use Rattle.node_parts.specs.Code.{numberAt, numbersFrom, smallNumbers}
+use Rattle.node_parts.proofs.Smalls.{numbers-length, numbers-at}
+use Rattle.range_node.specs.Code.{faultOf, orderedIn, missingOf, RangeStands}
+use Rattle.range_node.specs.declared.RangeStep.{RangeStep}
 
 -- ---- one value more
 
@@ -30,55 +27,45 @@ map-set f [] k a = refl
 map-set f (x ∷ l) zero a = refl
 map-set {B = B} f (x ∷ l) (suc k) a = ap (λ (m : List B). f x ∷ m) (map-set f l k a)
 
--- in a room that has the length of the slice, storing is setting
-stored-set : (n k : ℕ) (a : ℤ) (l : List ℤ) → length l ≡ n → stored n k a l ≡ set l k a
-unfolding stored
-stored-set n k a l h = go (ltb k n) refl
+numbers-set : (c p : List ℤ) (k : ℕ) (d : Decimal) → numbersFrom (set c k (d .coefficient)) (set p k (d .power)) ≡ set (numbersFrom c p) k d
+numbers-set [] p k d = refl
+numbers-set (x ∷ c) [] zero d = refl
+numbers-set (x ∷ c) [] (suc k) d = refl
+numbers-set (x ∷ c) (y ∷ p) zero d = refl
+numbers-set (x ∷ c) (y ∷ p) (suc k) d = ap (λ (l : List Decimal). record { coefficient = x; power = y } ∷ l) (numbers-set c p k d)
+
+-- a number stored in a small room takes its place among the room's numbers
+small-stored : (k : ℕ) (d : Decimal) (m : Room) → smallNumbers (storedIn k d m) ≡ set (smallNumbers m) k d
+unfolding storedIn stored
+small-stored k d m = go (ltb k (roomLength m)) refl
   where
-    go : (b : Bool) → ltb k n ≡ b → cond b (set l k a) l ≡ set l k a
-    go true q = refl
-    go false q = sym (set-out l k a (omega (arith, ltb-false k n q)))
+    go : (b : Bool) → ltb k (roomLength m) ≡ b
+        → numbersFrom (cond b (set (m .coefficients) k (d .coefficient)) (m .coefficients)) (cond b (set (m .powers) k (d .power)) (m .powers)) ≡ set (smallNumbers m) k d
+    go true q = numbers-set (m .coefficients) (m .powers) k d
+    go false q = sym (set-out (smallNumbers m) k d (omega (arith, ltb-false k (roomLength m) q, numbers-length m)))
 
-laid-set : (n k : ℕ) (a : ℤ) (l : List ℤ) → length l ≡ n → laid n k (a ∷ []) l ≡ set l k a
-unfolding laid
-laid-set n k a l h = stored-set n k a l h
-
-module _ (k : ℕ) (d : Decimal) (c p c₁ p₁ : List ℤ) (e : length c ≡ length p) (h : Laid k (d ∷ []) c p c₁ p₁) where
-  whole : roomLength c p ≡ length c
-  unfolding roomLength
-  whole = omega arith
-
-  pub one-coefficient : c₁ ≡ set c k (d .coefficient)
-  one-coefficient = h .coefficients ∙ laid-set (roomLength c p) k (d .coefficient) c (sym whole)
-
-  pub one-power : p₁ ≡ set p k (d .power)
-  one-power = h .powers ∙ laid-set (roomLength c p) k (d .power) p (sym e ∙ sym whole)
+pub small-one : (k : ℕ) (d : Decimal) (m : Room) → smallNumbers (laidIn k (d ∷ []) m) ≡ set (smallNumbers m) k d
+small-one k d m = ap smallNumbers (sym (stored-one k d m)) ∙ small-stored k d m
 
 -- ---- what the flags and the room say of the values
 
-module _ (l : List Bool) (c p : List ℤ) (st : RangeState) (f : l ≡ map isSome (st .values)) (g : c ≡ map coefficientOf (st .values)) (h : p ≡ map powerOf (st .values))
-    (n : length (st .values) ≡ 4) where
-  there : (k : ℕ) → getD l k false ≡ isThere k st
-  there k = ap (λ (m : List Bool). getD m k false) f ∙ List·getD-map isSome (st .values) k none
+module _ (m : Room) (r : RangeStep) (st : RangeState) (v : RangeStands m r st) where
+  there : (k : ℕ) → getD (r .found) k false ≡ isThere k st
+  there k = ap (λ (l : List Bool). getD l k false) (v .found) ∙ List·getD-map isSome (st .values) k none
 
-  pub faults : (w : List ℕ) → faultOf l w ≡ rangeFault st w
+  pub faults : (w : List ℕ) → faultOf (r .found) w ≡ rangeFault st w
   unfolding faultOf
   faults w = rw (there 0, there 1, there 2, there 3, there (rangeIndex w))
 
-  room : roomLength c p ≡ 4
-  unfolding roomLength
-  room = omega (arith, ap length g ∙ length-map (st .values) coefficientOf, ap length h ∙ length-map (st .values) powerOf)
+  room : roomLength m ≡ 4
+  room = sym (numbers-length m) ∙ ap length (v .numbers) ∙ length-map (st .values) (orElse Decimals.zero) ∙ v .four
 
-  pub sizes : length c ≡ length p
-  sizes = ap length g ∙ length-map (st .values) coefficientOf ∙ sym (length-map (st .values) powerOf) ∙ sym (ap length h)
+  number : (k : ℕ) → k < 4 → numberAt m k ≡ valueAt k st
+  number k h =
+      sym (numbers-at m k (omega (arith, room))) ∙ ap (λ (l : List Decimal). getD l k Decimals.zero) (v .numbers)
+      ∙ List·getD-map (orElse Decimals.zero) (st .values) k none
 
-  number : (k : ℕ) → k < 4 → numberAt c p k ≡ valueAt k st
-  number k m =
-      let x : getD c k (pos 0) ≡ coefficientOf (getD (st .values) k none) = ap (λ (y : List ℤ). getD y k (pos 0)) g ∙ List·getD-map coefficientOf (st .values) k none in
-      let z : getD p k (pos 0) ≡ powerOf (getD (st .values) k none) = ap (λ (y : List ℤ). getD y k (pos 0)) h ∙ List·getD-map powerOf (st .values) k none in
-      sym (number-in c p k (omega (arith, room))) ∙ ap (λ (y : ℤ). pair y (getD p k (pos 0))) x ∙ ap (λ (y : ℤ). pair (coefficientOf (getD (st .values) k none)) y) z
-
-  pub lacking : missingOf l c p ≡ cond (allThere st) (cond (inOrder st) 0 21) 5
+  pub lacking : missingOf (r .found) m ≡ cond (allThere st) (cond (inOrder st) 0 21) 5
   unfolding missingOf orderedIn
   lacking = rw (there 0, there 1, there 2, there 3, number 0 (omega arith), number 1 (omega arith), number 2 (omega arith), number 3 (omega arith))
 
@@ -91,7 +78,5 @@ module _ (l : List Bool) (c p : List ℤ) (st : RangeState) (f : l ≡ map isSom
   four-numbers (a ∷ b ∷ d ∷ e ∷ []) q = refl
   four-numbers (a ∷ b ∷ d ∷ e ∷ x ∷ vs) q = absurd (omega arith)
 
-  pub numbers : numbersFrom c p ≡ valueAt 0 st ∷ valueAt 1 st ∷ valueAt 2 st ∷ valueAt 3 st ∷ []
-  numbers =
-      ap (λ (m : List ℤ). numbersFrom m p) g ∙ ap (λ (m : List ℤ). numbersFrom (map coefficientOf (st .values)) m) h
-      ∙ numbers-map (orElse Decimals.zero) (st .values) ∙ four-numbers (st .values) n
+  pub numbers : smallNumbers m ≡ valueAt 0 st ∷ valueAt 1 st ∷ valueAt 2 st ∷ valueAt 3 st ∷ []
+  numbers = v .numbers ∙ four-numbers (st .values) (v .four)

@@ -2,10 +2,8 @@
 use mathlib.Core.Path.{_≡_}
 use mathlib.Core.Bool.{Bool, true, false, cond, _&&_, _||_}
 use mathlib.Core.List.{List, [], _∷_, map}
-use mathlib.Core.Option.{Option}
 use Prim.Native.Nat.{ℕ}
 use lib.Dec.{ltb}
-use lib.IntN.{ℤ, pos}
 use lib.ListN.{length, getD}
 use Rattle.decimal.specs.declared.Decimal.{Decimal}
 use Rattle.decimal.specs.Decimal as Decimals
@@ -13,8 +11,9 @@ use Rattle.decimal_value.specs.Value.{less, atMost}
 use Rattle.xml.specs.Bytes.{bytes, same}
 use Rattle.xml.specs.declared.Scan.{Scan}
 use Rattle.xml.specs.declared.Scan.the-variants.{At}
+use Rattle.room.specs.Room.{Room}
 use Rattle.clf.specs.Nodes.{isSome, orElse, rangeIndex, RangeState}
-use Rattle.node_parts.specs.Code.{AboutIs, noAbout, numberAt}
+use Rattle.node_parts.specs.Code.{numberAt, smallNumbers}
 use Rattle.range_node.specs.declared.RangeStep.{RangeStep}
 
 -- of four flags
@@ -30,35 +29,28 @@ faultOf l w =
     cond (same w (bytes "Description")) (cond (anyOf l) 5 0)
     (cond (ltb (rangeIndex w) 4) (cond (getD l (rangeIndex w) false) 5 0) 5)
 
--- the rule on two values, and what is missing, by the flags and the small room
-unfoldable pub orderedIn : List ℤ → List ℤ → Bool
-orderedIn c p = less (numberAt c p 0) (numberAt c p 1) && atMost (numberAt c p 2) (numberAt c p 3)
+-- 'maxIn > minIn; maxOut ≥ minOut', of the numbers of a small room
+unfoldable pub orderedIn : Room → Bool
+orderedIn m = less (numberAt m 0) (numberAt m 1) && atMost (numberAt m 2) (numberAt m 3)
 
-unfoldable pub missingOf : List Bool → List ℤ → List ℤ → ℕ
-missingOf l c p = cond (allOf l) (cond (orderedIn c p) 0 21) 5
+-- what is missing at the end tag: a value that is not there is 5, values out of order are 21
+unfoldable pub missingOf : List Bool → Room → ℕ
+missingOf l m = cond (allOf l) (cond (orderedIn m) 0 21) 5
 
--- the parts of a value; zero where it is not there
-abbrev pub coefficientOf : Option Decimal → ℤ
-coefficientOf o = (orElse Decimals.zero o) .coefficient
-
-abbrev pub powerOf : Option Decimal → ℤ
-powerOf o = (orElse Decimals.zero o) .power
-
-abbrev pub zeros : List ℤ
-zeros = pos 0 ∷ pos 0 ∷ pos 0 ∷ pos 0 ∷ []
+-- four zeros
+abbrev pub fourZeros : List Decimal
+fourZeros = Decimals.zero ∷ Decimals.zero ∷ Decimals.zero ∷ Decimals.zero ∷ []
 
 -- the state with another answer
 abbrev pub withScan : RangeStep → Scan → RangeStep
-withScan r scan = record { scan = scan; about = r .about; found = r .found }
+withScan r scan = record { scan = scan; found = r .found }
 
 -- nothing found yet
 abbrev pub noneFound : ℕ → RangeStep
-noneFound at = record { scan = At at; about = noAbout; found = false ∷ false ∷ false ∷ false ∷ [] }
+noneFound at = record { scan = At at; found = false ∷ false ∷ false ∷ false ∷ [] }
 
--- the code's state r and the small room stand for the state st
-pub record RangeStands (s : List ℕ) (c p : List ℤ) (r : RangeStep) (st : RangeState) : Type 0 where
-  pub about : AboutIs s (r .about) (st .about)
+-- the code's state r and the small room stand for the state st: a value that is not there yet is zero in the room
+pub record RangeStands (m : Room) (r : RangeStep) (st : RangeState) : Type 0 where
   pub found : r .found ≡ map isSome (st .values)
-  pub coefficients : c ≡ map coefficientOf (st .values)
-  pub powers : p ≡ map powerOf (st .values)
+  pub numbers : smallNumbers m ≡ map (orElse Decimals.zero) (st .values)
   pub four : length (st .values) ≡ 4

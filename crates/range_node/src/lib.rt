@@ -4,22 +4,21 @@ ghost use mathlib.Core.Bool.{true};
 ghost use Prim.Native.Nat.{_+_, _≤_};
 ghost use lib.ListN.{length, set};
 ghost use Rattle.xml.specs.Elements.{held};
+ghost use Rattle.room.specs.Room.{lent};
 ghost use Rattle.clf.specs.Nodes as Nodes;
-ghost use Rattle.node_parts.specs.Code.{NodeReads};
+ghost use Rattle.node_parts.specs.Code.{smallNumbers, NodeReads};
 ghost use Rattle.node_parts.specs.Held.{Goes, ReadsTo};
 ghost use Rattle.range_node.specs.Code as Code;
 use markup::Lead;
-use node_parts::About;
 use node_parts::NodeStep;
 use process_list::Kind;
 use tags::TagKind;
 use values::Rule;
 use xml::Scan;
 
-// The content of a Range so far: its Description, and which of its four values were there.
+// The content of a Range so far: which of its four values were there.
 pub struct RangeStep {
     pub scan: Scan,
-    pub about: About,
     pub found: [bool; 4],
 }
 
@@ -73,7 +72,7 @@ fn range_all(found: [bool; 4]) -> bool
 
 // Whether the rule on two values is kept, by the numbers of a small room.
 fn in_order(coefficients: &[i64], powers: &[i8]) -> bool
-    ensures { λ r. ⌜ r ≡ Code.orderedIn (now (coefficients .entry)) (now (powers .entry)) ⌝ }
+    ensures { λ r. ⌜ r ≡ Code.orderedIn (lent (now (coefficients .entry)) (now (powers .entry))) ⌝ }
 {
     let a = node_parts::number_at(coefficients, powers, 0);
     let b = node_parts::number_at(coefficients, powers, 1);
@@ -86,7 +85,7 @@ fn in_order(coefficients: &[i64], powers: &[i8]) -> bool
 }
 
 fn range_missing(found: [bool; 4], coefficients: &[i64], powers: &[i8]) -> u8
-    ensures { λ r. ⌜ r ≡ Code.missingOf found (now (coefficients .entry)) (now (powers .entry)) ⌝ }
+    ensures { λ r. ⌜ r ≡ Code.missingOf found (lent (now (coefficients .entry)) (now (powers .entry))) ⌝ }
 {
     if range_all(found) {
         if in_order(coefficients, powers) {
@@ -132,9 +131,8 @@ fn with_found(found: [bool; 4], k: usize) -> [bool; 4]
 fn range_with(state: RangeStep, scan: Scan) -> RangeStep
     ensures { λ r. ⌜ r ≡ Code.withScan state scan ⌝ }
 {
-    let about = state.about;
     let found = state.found;
-    RangeStep { scan, about, found }
+    RangeStep { scan, found }
 }
 
 // A child of a Range, of the name w, behind its name. Its number goes into a room of four.
@@ -146,28 +144,16 @@ fn range_body(
     coefficients: &mut [i64],
     powers: &mut [i8],
 ) -> RangeStep
-    ensures { λ r. ⌜ ((st : Nodes.RangeState) → Code.RangeStands (now (s .entry)) (now (coefficients .entry)) (now (powers .entry)) state st → ReadsTo ((Nodes.rangeBody st (now (w .entry))) .run) (now (s .entry)) at (r .scan) (Code.RangeStands (now (s .entry)) (now (coefficients .exit)) (now (powers .exit)) r) (Unit {0})) ⌝ }
+    ensures { λ r. ⌜ ((st : Nodes.RangeState) → Code.RangeStands (lent (now (coefficients .entry)) (now (powers .entry))) state st → ReadsTo ((Nodes.rangeBody st (now (w .entry))) .run) (now (s .entry)) at (r .scan) (Code.RangeStands (lent (now (coefficients .exit)) (now (powers .exit))) r) (Unit {0})) ⌝ }
 {
-    let about = state.about;
-    let found = state.found;
     if xml::same(w, b"Description") {
-        let t = info::text_element(s, at, w);
-        let more = node_parts::with_about(about, t.start, t.end);
-        let scan = t.scan;
-        return RangeStep {
-            scan,
-            about: more,
-            found,
-        };
+        return range_with(state, info::text_element(s, at, w));
     }
+    let found = state.found;
     let k = range_index(w);
     let scan = values::value_element(s, at, w, 1, Rule::Any, coefficients, powers, k);
     let next = with_found(found, k);
-    RangeStep {
-        scan,
-        about,
-        found: next,
-    }
+    RangeStep { scan, found: next }
 }
 
 // A child of a Range: its `<` stands at `at`, and its name ends at e.
@@ -180,7 +166,7 @@ fn range_child(
     powers: &mut [i8],
 ) -> RangeStep
     requires { ⌜ (at + 2 ≤ e) × (e ≤ length (now s)) ⌝ }
-    ensures { λ r. ⌜ ((st : Nodes.RangeState) → Code.RangeStands (now (s .entry)) (now (coefficients .entry)) (now (powers .entry)) state st → Goes Nodes.rangeHolder st (now (s .entry)) at e (r .scan) (Code.RangeStands (now (s .entry)) (now (coefficients .exit)) (now (powers .exit)) r) (Unit {0})) ⌝ }
+    ensures { λ r. ⌜ ((st : Nodes.RangeState) → Code.RangeStands (lent (now (coefficients .entry)) (now (powers .entry))) state st → Goes Nodes.rangeHolder st (now (s .entry)) at e (r .scan) (Code.RangeStands (lent (now (coefficients .exit)) (now (powers .exit))) r) (Unit {0})) ⌝ }
 {
     let w = tags::part(s, at + 1, e);
     let found = state.found;
@@ -196,15 +182,14 @@ fn no_values(at: usize) -> RangeStep
 {
     RangeStep {
         scan: Scan::At(at),
-        about: node_parts::no_about(),
         found: [false; 4],
     }
 }
 
 // The content of a Range, and its end tag. Its numbers go into a room of four zeros.
 fn range_content(s: &[u8], at: usize, coefficients: &mut [i64], powers: &mut [i8]) -> RangeStep
-    requires { ⌜ (now coefficients ≡ Code.zeros) × (now powers ≡ Code.zeros) ⌝ }
-    ensures { λ r. ⌜ ReadsTo ((held Nodes.rangeHolder Nodes.noValues) .run) (now (s .entry)) at (r .scan) (Code.RangeStands (now (s .entry)) (now (coefficients .exit)) (now (powers .exit)) r) (Unit {0}) ⌝ }
+    requires { ⌜ smallNumbers (lent (now coefficients) (now powers)) ≡ Code.fourZeros ⌝ }
+    ensures { λ r. ⌜ ReadsTo ((held Nodes.rangeHolder Nodes.noValues) .run) (now (s .entry)) at (r .scan) (Code.RangeStands (lent (now (coefficients .exit)) (now (powers .exit))) r) (Unit {0}) ⌝ }
 {
     let mut state = no_values(at);
     let mut i = at;
@@ -247,21 +232,23 @@ pub fn read_range(
     powers: &mut [i8],
     base: usize,
 ) -> NodeStep
-    ensures { λ r. ⌜ NodeReads (Nodes.range .run) (now (s .entry)) at base r (now (coefficients .entry)) (now (powers .entry)) (now (coefficients .exit)) (now (powers .exit)) ⌝ }
+    ensures { λ r. ⌜ NodeReads (Nodes.range .run) (now (s .entry)) at base r (lent (now (coefficients .entry)) (now (powers .entry))) (lent (now (coefficients .exit)) (now (powers .exit))) ⌝ }
 {
     let tag = tags::start_tag(s, at, TagKind::Range);
     let end = tag.end;
     let seen = tag.seen;
     let r = tags::behind(end);
     let Scan::At(q) = r else {
-        return node_parts::no_node(r);
+        return node_parts::failed(r, coefficients, powers, base);
     };
     let mut small = [0i64; 4];
     let mut small_powers = [0i8; 4];
     let c = range_content(s, q, &mut small, &mut small_powers);
-    node_parts::store_all(&small, &small_powers, coefficients, powers, base);
     let scan = c.scan;
-    let about = c.about;
+    let Scan::At(e) = scan else {
+        return node_parts::failed(scan, coefficients, powers, base);
+    };
+    node_parts::store_all(&small, &small_powers, coefficients, powers, base);
     let clamp = !node_parts::style_is(s, seen, b"noClamp");
-    node_parts::finished(s, seen, scan, Kind::Range { clamp }, about)
+    node_parts::finished(s, seen, scan, Kind::Range { clamp })
 }

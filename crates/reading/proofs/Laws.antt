@@ -1,41 +1,46 @@
 -- Reading, from what a text's code answered. Assumes nothing.
 use mathlib.Core.Path.{_≡_, refl, sym, ap, _∙_, subst}
 use mathlib.Core.Bool.{Bool, true, false, cond, _&&_}
-use mathlib.Core.List.{List, [], _∷_, _++_, map}
-use Prim.Native.Nat.{ℕ, zero, suc, _+_, _-_, _≤_, _<_, min}
+use mathlib.Core.List.{List, [], _∷_}
+use Prim.Native.Nat.{ℕ, suc, _+_, _-_, _≤_, _<_, min}
 use native.Mathlib.Omega.{arith}
 use lib.Dec.{ltb, leb}
 use lib.IntN.{ℤ, pos}
-use lib.ListN.{length, drop, length-drop}
-use borrow.Author.Tests.{lt-ltb, le-ltb, ltb-true, ltb-false}
+use lib.ListN.{length, take, drop, length-drop, length-take, length-map}
+use lib.Seq.{take-all}
+use borrow.Author.Tests.{lt-ltb, le-ltb, ltb-true, ltb-false, leb-true}
+use denote.Ref.{RefT}
 use Rattle.decimal.specs.declared.Decimal.{Decimal}
 use Rattle.grammar.specs.Parse.{Out, done, fault, cut, thenOut}
 use Rattle.grammar.specs.Laws.{nope}
 use Rattle.process_list.specs.declared.Verdict.{Verdict}
 use Rattle.process_list.specs.declared.Verdict.the-variants as Verdicts
 use Rattle.process_list.specs.List as Lists
-use Rattle.process_list.proofs.Laws.{capped-exact}
-use Rattle.process_list.proofs.Lists.{list-placed, verdict-list, accepted-fine, Fine, list-count}
-use Rattle.room.specs.Room.{roomLength, laid, cleared, filled}
-use Rattle.room.proofs.Contents.{cleared-whole, laid-cleared, filled-length}
-use Rattle.values.specs.Code.{Laid}
-use Rattle.node_parts.specs.Code.{aboutText}
+use Rattle.process_list.proofs.Lists.{list-placed, verdict-list, accepted-fine, accepted-number, Fine, list-count}
+use Rattle.room.specs.Room.{Room, roomLength, filled, clearedIn, filledWith, coefficientParts, powerParts}
+use Rattle.room.proofs.Contents.{SliceFrom, filled-length, filled-behind}
+use Rattle.room.proofs.Rooms.{RoomFrom, from-refl, length-at-most, cleared-nothing, filled-room, filled-again}
 use Rattle.xml.specs.declared.Scan.{Scan}
 use Rattle.xml.specs.declared.Scan.the-variants as Scans
 use Rattle.xml.specs.Code.{scanOut, Inside}
 use Rattle.clf.specs.Nodes.{NodeRead}
 use Rattle.clf.specs.List.{Document, document, tail}
-use Rattle.clf.specs.Reading.{Reading, accepted, faulty, unfit, mostBytes, numberOf, placeNumber, nodesIn, nodesOf, elementsOf, numbersIn, placeIn, byVerdict, listReading, tailReading, textReading, readText, read, readAlone, described, descriptionOf, askedFor, descriptionAsked}
+use Rattle.clf.specs.Places.{nodeSpan}
+use Rattle.clf.specs.Reading.{Reading, accepted, faulty, unfit, mostBytes, nodesIn, nodesOf, elementsOf, numbersIn, placeIn, byVerdict, listReading, tailReading, textReading, readText, read, readAlone, askedFor, descriptionAsked}
+use Rattle.clf.specs.Whole.{wholeNodes, wholePlace}
+use Rattle.clf.specs.Description.{noPart, partFrom, partAsked, descriptionPart}
+use Rattle.clf.proofs.Whole.{document-whole, place-whole}
+use Rattle.describing.specs.declared.Part.{Part}
+use Rattle.describing.specs.Code.{noPlace, IsPlace, IsPart}
+use Rattle.describing.proofs.Texts.{none-found}
 use Rattle.file_text.specs.declared.ListState.{ListState}
 use Rattle.file_text.specs.declared.ListStep.{ListStep}
-use Rattle.file_text.specs.Code.{bare, WhenAt, Outside, Holds, ListReads, textNodes, afterRoot}
+use Rattle.file_text.specs.Code.{bare, stateWith, stateFrom, stateOf, fitting, ListReads, textNodes, afterRoot}
 use Rattle.file_text.proofs.Nodes.{bare-length}
-use Rattle.reading.specs.declared.Answer.{Answer}
-use Rattle.reading.specs.declared.Checked.{Checked}
 use Rattle.reading.specs.declared.Judged.{Judged}
 use Rattle.reading.specs.declared.Judged.the-variants.{Accepted, Refused}
 use Rattle.reading.specs.Code as Code
-use Rattle.reading.specs.Code.{checkedOf, answerOf, coefficientsAfter, powersAfter, ReadsInto, judgedScan, judgedStep, refusedAnswer, acceptedAnswer, judgedOf, checkedBy, askedBy, TextAlone}
+use Rattle.reading.specs.Code.{checkedOf, answerOf, ReadsInto, judgedScan, judgedStep, refusedAnswer, acceptedAnswer, judgedOf, checkedBy, askedBy, TextAlone}
 
 -- ---- reading by the nodes of the text
 
@@ -74,26 +79,43 @@ elements-length : (l : List NodeRead) → length (elementsOf l) ≡ length l
 elements-length [] = refl
 elements-length (n ∷ l) = ap suc (elements-length l)
 
-module _ (wanted : ℕ) (s : List ℕ) (r : ListStep) (c₀ p₀ c₁ p₁ : List ℤ) (h : ListReads wanted s r c₀ p₀ c₁ p₁) (room : ℕ) where
-  -- the verdict that the code sees is the list's
-  seen : (st : ListState) → Holds wanted s (h .nodes) st c₀ p₀ c₁ p₁ → cond (st .over) Verdicts.TooManyNodes (Lists.judged room (Lists.nodesOf (st .list))) ≡ Lists.verdict room (elementsOf (h .nodes))
-  seen st v =
-      ap (λ (b : Bool). cond b Verdicts.TooManyNodes (Lists.judged room (Lists.nodesOf (st .list)))) (v .over ∙ ap (ltb 32) (sym (elements-length (h .nodes))))
-      ∙ ap (λ (x : _). cond (ltb 32 (length (elementsOf (h .nodes)))) Verdicts.TooManyNodes (Lists.judged room (Lists.nodesOf x))) (v .list)
-      ∙ sym (verdict-list room (elementsOf (h .nodes)))
+-- ---- what the state of a text says
 
-  judged-go : (x : Scan) (st : ListState) → scanOut (λ e. h .nodes) s x ≡ textNodes s → Inside 0 s 0 x → WhenAt x (Holds wanted s (h .nodes) st c₀ p₀ c₁ p₁)
-      → judgedScan (length s) x (Code.byVerdict (cond (st .over) Verdicts.TooManyNodes (Lists.judged room (Lists.nodesOf (st .list))))) ≡ judgedOf (readText room s)
+module _ (wanted : ℕ) (s : List ℕ) (st : ListState) (e : st ≡ stateOf wanted s) where
+  state-list : st .list ≡ Lists.listOf (bare (wholeNodes s))
+  unfolding stateOf stateFrom stateWith
+  state-list = ap (λ (x : ListState). x .list) e
+
+  state-over : st .over ≡ ltb 32 (length (wholeNodes s))
+  unfolding stateOf stateFrom stateWith
+  state-over = ap (λ (x : ListState). x .over) e
+
+  state-start : st .start ≡ wholePlace wanted s
+  unfolding stateOf stateFrom stateWith wholePlace
+  state-start = ap (λ (x : ListState). x .start) e
+
+  -- the verdict that the code sees is the list's
+  seen : (room : ℕ) → cond (st .over) Verdicts.TooManyNodes (Lists.judged room (Lists.nodesOf (st .list))) ≡ Lists.verdict room (elementsOf (wholeNodes s))
+  seen room =
+      ap (λ (b : Bool). cond b Verdicts.TooManyNodes (Lists.judged room (Lists.nodesOf (st .list)))) (state-over ∙ ap (ltb 32) (sym (elements-length (wholeNodes s))))
+      ∙ ap (λ (x : _). cond (ltb 32 (length (elementsOf (wholeNodes s)))) Verdicts.TooManyNodes (Lists.judged room (Lists.nodesOf x))) state-list
+      ∙ sym (verdict-list room (elementsOf (wholeNodes s)))
+
+-- ---- what is to be said of a text
+
+module _ (wanted : ℕ) (s : List ℕ) (r : ListStep) (m₀ m₁ : Room) (h : ListReads wanted s r m₀ m₁) (room : ℕ) where
+  judged-go : (x : Scan) → scanOut (λ e. wholeNodes s) s x ≡ textNodes s → Inside 0 s 0 x
+      → judgedScan (length s) x (Code.byVerdict (cond (r .state .over) Verdicts.TooManyNodes (Lists.judged room (Lists.nodesOf (r .state .list))))) ≡ judgedOf (readText room s)
   unfolding listReading
-  judged-go (Scans.At e) st q b v =
-      ap Code.byVerdict (seen st v) ∙ sym (ap judgedOf (text-by room s ∙ ap (byNodes room s) (sym q)) ∙ list-judged (h .nodes) (Lists.verdict room (elementsOf (h .nodes))))
-  judged-go (Scans.Fault k p) st q b v =
-      sym (ap judgedOf (text-by room s ∙ ap (byNodes room s) (sym q)) ∙ ap (Refused k) (place-back s p (b .1)))
-  judged-go Scans.Cut st q b v = sym (ap judgedOf (text-by room s ∙ ap (byNodes room s) (sym q)))
+  judged-go (Scans.At e) q b =
+      ap Code.byVerdict (seen wanted s (r .state) (h .state) room)
+      ∙ sym (ap judgedOf (text-by room s ∙ ap (byNodes room s) (sym q)) ∙ list-judged (wholeNodes s) (Lists.verdict room (elementsOf (wholeNodes s))))
+  judged-go (Scans.Fault k p) q b = sym (ap judgedOf (text-by room s ∙ ap (byNodes room s) (sym q)) ∙ ap (Refused k) (place-back s p (b .1)))
+  judged-go Scans.Cut q b = sym (ap judgedOf (text-by room s ∙ ap (byNodes room s) (sym q)))
 
   pub judged-is : judgedStep (length s) r room ≡ judgedOf (readText room s)
   unfolding judgedStep
-  judged-is = judged-go (r .scan) (r .state) (h .out) (h .inside) (h .holds)
+  judged-is = judged-go (r .scan) (h .out) (h .inside)
 
 -- ---- an accepted text
 
@@ -104,46 +126,53 @@ verdict-accepted l Verdicts.TooManyNodes q = nope cc
 verdict-accepted l (Verdicts.DepthDiffers k) q = nope cc
 verdict-accepted l Verdicts.TooManyNumbers q = nope cc
 
-pub record Sound (wanted : ℕ) (s : List ℕ) (r : ListStep) (c₀ : List ℤ) (p₀ : List ℤ) (c₁ : List ℤ) (p₁ : List ℤ) (room : ℕ) : Type 0 where
-  pub nodes : List NodeRead
-  pub reading : readText room s ≡ accepted nodes
-  pub holds : Holds wanted s nodes (r .state) c₀ p₀ c₁ p₁
-  pub few : length nodes ≤ 32
-  pub fits : Lists.total (bare nodes) ≤ min room Lists.mostNumbers
+-- its nodes are those that stand whole
+record Sound (s : List ℕ) (room : ℕ) : Type 0 where
+  reading : readText room s ≡ accepted (wholeNodes s)
+  few : length (wholeNodes s) ≤ 32
+  fits : Lists.total (bare (wholeNodes s)) ≤ min room Lists.mostNumbers
+  text : Document
+  behind : List ℕ
+  found : document .run s ≡ done text behind
 
-module _ (wanted : ℕ) (s : List ℕ) (r : ListStep) (c₀ p₀ c₁ p₁ : List ℤ) (h : ListReads wanted s r c₀ p₀ c₁ p₁) (room : ℕ) where
-  sound-go : (x : Scan) → scanOut (λ e. h .nodes) s x ≡ textNodes s → WhenAt x (Holds wanted s (h .nodes) (r .state) c₀ p₀ c₁ p₁)
-      → judgedOf (readText room s) ≡ Accepted → Sound wanted s r c₀ p₀ c₁ p₁ room
+module _ (s : List ℕ) (room : ℕ) where
+  by-list : (d : Document) (u : List ℕ) → document .run s ≡ done d u → (l : List NodeRead) → l ≡ wholeNodes s → readText room s ≡ listReading room l
+      → judgedOf (readText room s) ≡ Accepted → Sound s room
   unfolding listReading Lists.verdict
-  sound-go (Scans.At e) q v j =
-      let t : readText room s ≡ listReading room (h .nodes) = text-by room s ∙ ap (byNodes room s) (sym q) in
-      let a : (listReading room (h .nodes) ≡ accepted (h .nodes)) × (Lists.verdict room (elementsOf (h .nodes)) ≡ Verdicts.Accepted) =
-      verdict-accepted (h .nodes) (Lists.verdict room (elementsOf (h .nodes))) (ap judgedOf (sym t) ∙ j) in
-      let f : Fine room (bare (h .nodes)) = accepted-fine room (bare (h .nodes)) (a .1) in
-      record { nodes = h .nodes; reading = t ∙ a .0; holds = v; few = omega (arith, f .few, bare-length (h .nodes)); fits = f .holds }
-  sound-go (Scans.Fault k p) q v j =
-      let t : judgedOf (readText room s) ≡ Refused k (placeIn s (drop p s)) = ap judgedOf (text-by room s ∙ ap (byNodes room s) (sym q)) in
-      nope cc
-  sound-go Scans.Cut q v j =
-      let t : judgedOf (readText room s) ≡ Refused 1 (length s) = ap judgedOf (text-by room s ∙ ap (byNodes room s) (sym q)) in
-      nope cc
+  by-list d u e l n t j =
+      let v : readText room s ≡ listReading room (wholeNodes s) = t ∙ ap (listReading room) n in
+      let a = verdict-accepted (wholeNodes s) (Lists.verdict room (elementsOf (wholeNodes s))) (ap judgedOf (sym v) ∙ j) in
+      let f : Fine room (bare (wholeNodes s)) = accepted-fine room (bare (wholeNodes s)) (a .1) in
+      record { reading = v ∙ a .0; few = omega (arith, f .few, bare-length (wholeNodes s)); fits = f .holds; text = d; behind = u; found = e }
 
-  pub sound : judgedOf (readText room s) ≡ Accepted → Sound wanted s r c₀ p₀ c₁ p₁ room
-  sound j = sound-go (r .scan) (h .out) (h .holds) j
+  sound : judgedOf (readText room s) ≡ Accepted → Sound s room
+  unfolding readText
+  sound j = by (document .run s) refl j
+    where
+      by : (o : Out Document) → document .run s ≡ o → judgedOf (textReading room s o) ≡ Accepted → Sound s room
+      by (done d u) e z = behind (tail u) refl z
+        where
+          behind : (t : Out (Unit {0})) → tail u ≡ t → judgedOf (tailReading room s d t) ≡ Accepted → Sound s room
+          behind (done x q) w y =
+              by-list d u e (nodesOf (d .parts)) ((document-whole s d u e) .nodes) (ap (textReading room s) e ∙ ap (tailReading room s d) w) j
+          behind (fault k q) w y = nope cc
+          behind cut w y = nope cc
+      by (fault k u) e z = nope cc
+      by cut e z = nope cc
 
 -- ---- reading into the room
 
-map-length : {A B : Type 0} (g : A → B) (l : List A) → length (map g l) ≡ length l
-map-length g [] = refl
-map-length g (x ∷ l) = ap suc (map-length g l)
-
-room-min : (c p : List ℤ) → (roomLength c p ≤ length c) × (roomLength c p ≤ length p)
-unfolding roomLength
-room-min c p = (omega arith, omega arith)
-
-room-kept : (c₀ p₀ c₁ p₁ : List ℤ) → Outside c₀ p₀ c₁ p₁ → roomLength c₁ p₁ ≡ roomLength c₀ p₀
-unfolding roomLength
-room-kept c₀ p₀ c₁ p₁ o = ap (λ (n : ℕ). min n (length p₁)) (o .coefficients) ∙ ap (λ (n : ℕ). min (length c₀) n) (o .powers)
+-- a room that holds numbers is of the same slices' lengths
+pub filled-from : (xs : List Decimal) (m : Room) → length xs ≤ roomLength m → RoomFrom 0 m (filledWith xs m)
+unfolding filledWith
+filled-from xs m h =
+    let l = length-at-most m in
+    let a : length (coefficientParts xs) ≡ length xs = length-map xs (λ (x : Decimal). x .coefficient) in
+    let b : length (powerParts xs) ≡ length xs = length-map xs (λ (x : Decimal). x .power) in
+    record { coefficients = slice (coefficientParts xs) (m .coefficients) (omega arith) (l .0); powers = slice (powerParts xs) (m .powers) (omega arith) (l .1) }
+  where
+    slice : (ys t : List ℤ) → length ys ≤ roomLength m → roomLength m ≤ length t → SliceFrom (roomLength m) 0 t (filled (roomLength m) (pos 0) ys t)
+    slice ys t u v = record { size = filled-length (roomLength m) (pos 0) ys t u v; front = refl; behind = filled-behind (roomLength m) (pos 0) ys t u }
 
 -- a refused reading: an empty list, the room zeroed
 refusal-answer : (k p : ℕ) (x : Reading) → judgedOf x ≡ Refused k p → (refusedAnswer k p ≡ answerOf x) × (numbersIn (nodesIn x) ≡ [])
@@ -152,67 +181,69 @@ refusal-answer k p (accepted l) q = nope cc
 refusal-answer k p (faulty j i) q = let a : j ≡ k = cc in let b : i ≡ p = cc in (ap (λ (n : ℕ). refusedAnswer n p) (sym a) ∙ ap (refusedAnswer j) (sym b), refl)
 refusal-answer k p (unfit j i) q = let a : j ≡ k = cc in let b : i ≡ p = cc in (ap (λ (n : ℕ). refusedAnswer n p) (sym a) ∙ ap (refusedAnswer j) (sym b), refl)
 
-module _ (x : Reading) (k p : ℕ) (j : judgedOf x ≡ Refused k p) (c₀ p₀ c₁ p₁ : List ℤ) (o : Outside c₀ p₀ c₁ p₁) where
-  abbrev n : ℕ
-  n = roomLength c₀ p₀
+-- the whole room cleared, whatever numbers it held
+cleared-all : (xs : List Decimal) (m₀ m₁ m₂ : Room) (n : ℕ) → length xs ≤ roomLength m₀ → m₁ ≡ filledWith xs m₀ → n ≡ roomLength m₀ → m₂ ≡ clearedIn 0 n m₁ → m₂ ≡ filledWith [] m₀
+cleared-all xs m₀ m₁ m₂ n l e q z =
+    let k : roomLength m₁ ≡ roomLength m₀ = ap roomLength e ∙ filled-room xs m₀ l in
+    z ∙ ap (λ (a : ℕ). clearedIn 0 a m₁) (q ∙ sym k) ∙ cleared-nothing m₁ m₁ (from-refl 0 m₁) ∙ ap (filledWith []) e ∙ filled-again [] xs m₀ l
 
-  -- the rooms of now and then are of one length, so what clears the one clears the other
-  pub read-refused : (c₂ p₂ : List ℤ) (m : ℕ) → m ≡ n → c₂ ≡ cleared (roomLength c₁ p₁) (pos 0) 0 m c₁ → p₂ ≡ cleared (roomLength c₁ p₁) (pos 0) 0 m p₁
-      → ReadsInto x (refusedAnswer k p) c₀ p₀ c₂ p₂
-  unfolding coefficientsAfter powersAfter
-  read-refused c₂ p₂ m e q t = record {
-    answer = (refusal-answer k p x j) .0;
-    coefficients = q ∙ ap (λ (a : ℕ). cleared a (pos 0) 0 m c₁) (room-kept c₀ p₀ c₁ p₁ o) ∙ ap (λ (a : ℕ). cleared n (pos 0) 0 a c₁) e ∙ cleared-whole n (pos 0) c₁ c₀ (o .behind)
-        ∙ ap (λ (l : List Decimal). filled n (pos 0) (map (λ (d : Decimal). d .coefficient) l) c₀) (sym ((refusal-answer k p x j) .1));
-    powers = t ∙ ap (λ (a : ℕ). cleared a (pos 0) 0 m p₁) (room-kept c₀ p₀ c₁ p₁ o) ∙ ap (λ (a : ℕ). cleared n (pos 0) 0 a p₁) e ∙ cleared-whole n (pos 0) p₁ p₀ (o .beyond)
-        ∙ ap (λ (l : List Decimal). filled n (pos 0) (map (λ (d : Decimal). d .power) l) p₀) (sym ((refusal-answer k p x j) .1));
-  }
+refused-into : (x : Reading) (k p : ℕ) (m₀ m₂ : Room) → judgedOf x ≡ Refused k p → m₂ ≡ filledWith [] m₀ → ReadsInto x (refusedAnswer k p) m₀ m₂
+refused-into x k p m₀ m₂ j e = record {
+  answer = (refusal-answer k p x j) .0;
+  room = e ∙ ap (λ (xs : List Decimal). filledWith xs m₀) (sym ((refusal-answer k p x j) .1));
+}
 
--- an accepted reading: the numbers, and zeros behind them
-module _ (wanted : ℕ) (s : List ℕ) (r : ListStep) (c₀ p₀ c₁ p₁ : List ℤ) (v : Sound wanted s r c₀ p₀ c₁ p₁ (roomLength c₀ p₀)) where
-  abbrev room : ℕ
-  room = roomLength c₀ p₀
+none-size : (m₀ m₂ : Room) → m₂ ≡ filledWith [] m₀ → RoomFrom 0 m₀ m₂
+none-size m₀ m₂ e = subst (λ (m : Room). RoomFrom 0 m₀ m) (sym e) (filled-from [] m₀ (omega arith))
 
-  abbrev xs : List Decimal
-  xs = numbersIn (v .nodes)
+fitting-less : (n : ℕ) (xs : List Decimal) → length (fitting n xs) ≤ n
+fitting-less n xs = simp length-take (omega arith)
 
-  small : Lists.total (bare (v .nodes)) ≤ Lists.mostNumbers
-  small = omega (arith, v .fits)
+module _ (s : List ℕ) (r : ListStep) (m₀ m₁ : Room) (h : ListReads 0 s r m₀ m₁) (n : ℕ) (e : n ≡ roomLength m₀) where
+  text-judged : (j : Judged) → judgedStep (length s) r n ≡ j → judgedOf (readText (roomLength m₀) s) ≡ j
+  text-judged j q = ap (λ (k : ℕ). judgedOf (readText k s)) (sym e) ∙ sym (judged-is 0 s r m₀ m₁ h n) ∙ q
 
-  used-is : r .state .used ≡ length xs
-  used-is = v .holds .used ∙ capped-exact (Lists.total (bare (v .nodes))) small ∙ sym (v .holds .counts)
+  module _ (k p : ℕ) (q : judgedStep (length s) r n ≡ Refused k p) (m₂ : Room) (z : m₂ ≡ clearedIn 0 n m₁) where
+    zeroed : m₂ ≡ filledWith [] m₀
+    zeroed = cleared-all (fitting (roomLength m₀) (numbersIn (wholeNodes s))) m₀ m₁ m₂ n (fitting-less (roomLength m₀) (numbersIn (wholeNodes s))) (h .room) e z
 
-  inside : length xs ≤ room
-  inside = omega (arith, v .fits, v .holds .counts)
+    pub text-refused : ReadsInto (readText (roomLength m₀) s) (refusedAnswer k p) m₀ m₂
+    text-refused = refused-into (readText (roomLength m₀) s) k p m₀ m₂ (text-judged (Refused k p) q) zeroed
 
-  laid-all : Laid 0 xs c₀ p₀ c₁ p₁
-  laid-all = v .holds .room small
+    pub refused-size : RoomFrom 0 m₀ m₂
+    refused-size = none-size m₀ m₂ zeroed
 
-  filled-go : (f : Decimal → ℤ) (s₀ s₁ : List ℤ) → room ≤ length s₀ → s₁ ≡ laid room 0 (map f xs) s₀ → (u : ℕ) → u ≡ length xs → cleared room (pos 0) u room s₁ ≡ filled room (pos 0) (map f xs) s₀
-  filled-go f s₀ s₁ l e u q =
-      ap (λ (a : List ℤ). cleared room (pos 0) u room a) e ∙ ap (λ (a : ℕ). cleared room (pos 0) a room (laid room 0 (map f xs) s₀)) (q ∙ sym (map-length f xs))
-      ∙ laid-cleared room (pos 0) (map f xs) s₀ (omega (arith, map-length f xs, inside)) l
+  -- an accepted reading: the numbers, and zeros behind them
+  module _ (q : judgedStep (length s) r n ≡ Accepted) where
+    well : Sound s (roomLength m₀)
+    well = sound s (roomLength m₀) (text-judged Accepted q)
 
-  answer-go : acceptedAnswer (r .state) ≡ answerOf (accepted (v .nodes))
-  unfolding answerOf
-  answer-go =
-      ap (λ (l : _). record { number = 0; place = 0; list = Lists.placedList l }) (v .holds .list)
-      ∙ ap (λ (l : _). record { number = 0; place = 0; list = l }) (list-placed (elementsOf (v .nodes)) (omega (arith, v .few, elements-length (v .nodes))) small)
+    all-fit : length (numbersIn (wholeNodes s)) ≤ min (roomLength m₀) Lists.mostNumbers
+    all-fit = omega (arith, well .fits, h .counted)
 
-  pub read-accepted : (c₂ p₂ : List ℤ) (m : ℕ) → m ≡ room → c₂ ≡ cleared (roomLength c₁ p₁) (pos 0) (r .state .used) m c₁ → p₂ ≡ cleared (roomLength c₁ p₁) (pos 0) (r .state .used) m p₁
-      → ReadsInto (readText room s) (acceptedAnswer (r .state)) c₀ p₀ c₂ p₂
-  unfolding coefficientsAfter powersAfter
-  read-accepted c₂ p₂ m e q t =
-      let k : roomLength c₁ p₁ ≡ room = room-kept c₀ p₀ c₁ p₁ (v .holds .outside) in
-      subst (λ (x : Reading). ReadsInto x (acceptedAnswer (r .state)) c₀ p₀ c₂ p₂) (sym (v .reading)) (record {
-        answer = answer-go;
-        coefficients = q ∙ ap (λ (a : ℕ). cleared a (pos 0) (r .state .used) m c₁) k ∙ ap (λ (a : ℕ). cleared room (pos 0) (r .state .used) a c₁) e
-            ∙ filled-go (λ d. d .coefficient) c₀ c₁ ((room-min c₀ p₀) .0) (laid-all .coefficients) (r .state .used) used-is;
-        powers = t ∙ ap (λ (a : ℕ). cleared a (pos 0) (r .state .used) m p₁) k ∙ ap (λ (a : ℕ). cleared room (pos 0) (r .state .used) a p₁) e
-            ∙ filled-go (λ d. d .power) p₀ p₁ ((room-min c₀ p₀) .1) (laid-all .powers) (r .state .used) used-is;
-      })
+    held : m₁ ≡ filledWith (numbersIn (wholeNodes s)) m₀
+    held = h .room ∙ ap (λ (xs : List Decimal). filledWith xs m₀) (take-all (min (roomLength m₀) Lists.mostNumbers) (numbersIn (wholeNodes s)) all-fit)
+
+    answer-go : acceptedAnswer (r .state) ≡ answerOf (accepted (wholeNodes s))
+    unfolding answerOf
+    answer-go =
+        ap (λ (l : _). record { number = 0; place = 0; list = Lists.placedList l }) (state-list 0 s (r .state) (h .state))
+        ∙ ap (λ (l : _). record { number = 0; place = 0; list = l })
+        (list-placed (elementsOf (wholeNodes s)) (omega (arith, well .few, elements-length (wholeNodes s))) (omega (arith, well .fits)))
+
+    pub text-accepted : ReadsInto (readText (roomLength m₀) s) (acceptedAnswer (r .state)) m₀ m₁
+    text-accepted = subst (λ (x : Reading). ReadsInto x (acceptedAnswer (r .state)) m₀ m₁) (sym (well .reading)) (record { answer = answer-go; room = held })
+
+    pub accepted-size : RoomFrom 0 m₀ m₁
+    accepted-size = subst (λ (m : Room). RoomFrom 0 m₀ m) (sym held) (filled-from (numbersIn (wholeNodes s)) m₀ (omega (arith, all-fit)))
 
 -- ---- the limit of 16 MiB
+
+pub over-limit : (s : List ℕ) (b : Bool) → b ≡ ltb mostBytes (length s) → b ≡ true → mostBytes < length s
+over-limit s b e q = ltb-true mostBytes (length s) (sym e ∙ q)
+
+pub within-limit : (s : List ℕ) (b : Bool) → b ≡ ltb mostBytes (length s) → b ≡ false → length s ≤ mostBytes
+within-limit s b e q = ltb-false mostBytes (length s) (sym e ∙ q)
 
 pub read-large : (room : ℕ) (s : List ℕ) → mostBytes < length s → read room s ≡ faulty 4 0
 unfolding read
@@ -222,136 +253,132 @@ pub read-small : (room : ℕ) (s : List ℕ) → length s ≤ mostBytes → read
 unfolding read
 read-small room s h = ap (λ (b : Bool). cond b (faulty 4 0) (readText room s)) (le-ltb mostBytes (length s) h)
 
--- ---- without room
+-- a file over 16 MiB
+module _ (s : List ℕ) (m₀ m₂ : Room) (n : ℕ) (e : n ≡ roomLength m₀) (z : m₂ ≡ clearedIn 0 n m₀) where
+  emptied : m₂ ≡ filledWith [] m₀
+  emptied = z ∙ ap (λ (a : ℕ). clearedIn 0 a m₀) e ∙ cleared-nothing m₀ m₀ (from-refl 0 m₀)
 
-none-described : (k : ℕ) → [] ≡ described k []
-unfolding described
-none-described zero = refl
-none-described (suc k) = refl
+  pub large-refused : mostBytes < length s → ReadsInto (read (roomLength m₀) s) (refusedAnswer 4 0) m₀ m₂
+  large-refused g = refused-into (read (roomLength m₀) s) 4 0 m₀ m₂ (ap judgedOf (read-large (roomLength m₀) s g)) emptied
+
+  pub large-size : RoomFrom 0 m₀ m₂
+  large-size = none-size m₀ m₂ emptied
+
+-- ---- without room
 
 checked-is : (x : Reading) → checkedBy (judgedOf x) ≡ checkedOf x
 checked-is (accepted l) = refl
 checked-is (faulty k p) = refl
 checked-is (unfit k p) = refl
 
-pub checked-large : (s : List ℕ) → mostBytes < length s → checkedBy (Refused 4 0) ≡ checkedOf (readAlone s)
-checked-large s h = ap checkedOf (sym (read-large Lists.mostNumbers s h))
+pub checked-large : (room : ℕ) (s : List ℕ) → mostBytes < length s → checkedBy (Refused 4 0) ≡ checkedOf (read room s)
+checked-large room s h = ap checkedOf (sym (read-large room s h))
 
 module _ (wanted : ℕ) (s : List ℕ) (r : ListStep) (t : TextAlone wanted s r) (small : length s ≤ mostBytes) where
-  alone : judgedStep (length s) r 262144 ≡ judgedOf (readAlone s)
-  alone = judged-is wanted s r (t .c₀) (t .p₀) (t .c₁) (t .p₁) (t .reads) 262144 ∙ ap judgedOf (sym (read-small Lists.mostNumbers s small))
+  alone : (room : ℕ) → judgedStep (length s) r room ≡ judgedOf (read room s)
+  alone room = judged-is wanted s r (t .m₀) (t .m₁) (t .reads) room ∙ ap judgedOf (sym (read-small room s small))
 
-  pub checked-small : checkedBy (judgedStep (length s) r 262144) ≡ checkedOf (readAlone s)
-  checked-small = ap checkedBy alone ∙ checked-is (readAlone s)
+  pub checked-small : (room : ℕ) → checkedBy (judgedStep (length s) r room) ≡ checkedOf (read room s)
+  checked-small room = ap checkedBy (alone room) ∙ checked-is (read room s)
 
   -- the nodes of an accepted file
-  pub sound-alone : judgedStep (length s) r 262144 ≡ Accepted → Sound wanted s r (t .c₀) (t .p₀) (t .c₁) (t .p₁) 262144
-  sound-alone q = sound wanted s r (t .c₀) (t .p₀) (t .c₁) (t .p₁) (t .reads) 262144 (sym (judged-is wanted s r (t .c₀) (t .p₀) (t .c₁) (t .p₁) (t .reads) 262144) ∙ q)
+  sound-alone : judgedStep (length s) r 262144 ≡ Accepted → Sound s 262144
+  sound-alone q = sound s 262144 (sym (judged-is wanted s r (t .m₀) (t .m₁) (t .reads) 262144) ∙ q)
 
-  asked-go : (k : ℕ) (j : Judged) → judgedStep (length s) r 262144 ≡ j → checkedBy (askedBy j k (r .state .list .count)) ≡ checkedOf (descriptionAsked k s)
+  count-is : length (wholeNodes s) ≤ 32 → r .state .list .count ≡ length (wholeNodes s)
+  count-is h =
+      ap (λ (l : _). l .count) (state-list wanted s (r .state) (t .reads .state)) ∙ list-count (bare (wholeNodes s)) (omega (arith, bare-length (wholeNodes s))) ∙ bare-length (wholeNodes s)
+
+  asked-go : (k : ℕ) (j : Judged) → judgedStep (length s) r 262144 ≡ j → askedBy j k (r .state .list .count) ≡ judgedOf (descriptionAsked k s)
   unfolding descriptionAsked
   asked-go k Accepted q =
-      let v : Sound wanted s r (t .c₀) (t .p₀) (t .c₁) (t .p₁) 262144 = sound-alone q in
-      let a : readAlone s ≡ accepted (v .nodes) = read-small Lists.mostNumbers s small ∙ v .reading in
-      let n : r .state .list .count ≡ length (v .nodes) =
-      ap (λ (l : _). l .count) (v .holds .list) ∙ list-count (bare (v .nodes)) (omega (arith, v .few, bare-length (v .nodes))) ∙ bare-length (v .nodes) in
-      ap (λ (x : ℕ). checkedBy (cond (ltb 0 k && leb k x) Accepted (Refused 19 0))) n ∙ by (ltb 0 k && leb k (length (v .nodes))) (v .nodes) ∙ sym (ap (λ (x : Reading). checkedOf (askedFor k x)) a)
+      let v : Sound s 262144 = sound-alone q in
+      let a : readAlone s ≡ accepted (wholeNodes s) = read-small Lists.mostNumbers s small ∙ v .reading in
+      ap (λ (x : ℕ). cond (ltb 0 k && leb k x) Accepted (Refused 19 0)) (count-is (v .few)) ∙ by (ltb 0 k && leb k (length (wholeNodes s)))
+      ∙ sym (ap (λ (x : Reading). judgedOf (askedFor k x)) a)
     where
-      by : (b : Bool) (l : List NodeRead) → checkedBy (cond b Accepted (Refused 19 0)) ≡ checkedOf (cond b (accepted l) (faulty 19 0))
-      by true l = refl
-      by false l = refl
-  asked-go k (Refused m p) q = let e : Refused m p ≡ judgedOf (readAlone s) = sym q ∙ alone in by (readAlone s) e
+      by : (b : Bool) → cond b Accepted (Refused 19 0) ≡ judgedOf (cond b (accepted (wholeNodes s)) (faulty 19 0))
+      by true = refl
+      by false = refl
+  asked-go k (Refused m p) q = let e : Refused m p ≡ judgedOf (readAlone s) = sym q ∙ alone Lists.mostNumbers in by (readAlone s) e
     where
-      by : (x : Reading) → Refused m p ≡ judgedOf x → checkedBy (Refused m p) ≡ checkedOf (askedFor k x)
+      by : (x : Reading) → Refused m p ≡ judgedOf x → Refused m p ≡ judgedOf (askedFor k x)
       by (accepted l) e = nope cc
-      by (faulty j i) e = ap checkedBy e
-      by (unfit j i) e = ap checkedBy e
+      by (faulty j i) e = e
+      by (unfit j i) e = e
+
+  asked-is : (k : ℕ) → askedBy (judgedStep (length s) r 262144) k (r .state .list .count) ≡ judgedOf (descriptionAsked k s)
+  asked-is k = asked-go k (judgedStep (length s) r 262144) refl
 
   pub asked-small : (k : ℕ) → checkedBy (askedBy (judgedStep (length s) r 262144) k (r .state .list .count)) ≡ checkedOf (descriptionAsked k s)
-  asked-small k = asked-go k (judgedStep (length s) r 262144) refl
-
-  pub described-well : judgedStep (length s) r 262144 ≡ Accepted → aboutText s (r .state .about) ≡ descriptionOf wanted s
-  unfolding descriptionOf
-  described-well q =
-      let v : Sound wanted s r (t .c₀) (t .p₀) (t .c₁) (t .p₁) 262144 = sound-alone q in
-      v .holds .about (v .few) ∙ ap (λ (x : Reading). described wanted (nodesIn x)) (sym (read-small Lists.mostNumbers s small ∙ v .reading))
-
-  pub described-refused : (m p : ℕ) → judgedStep (length s) r 262144 ≡ Refused m p → [] ≡ descriptionOf wanted s
-  unfolding descriptionOf
-  described-refused m p q = by (readAlone s) (sym q ∙ alone)
-    where
-      by : (x : Reading) → Refused m p ≡ judgedOf x → [] ≡ described wanted (nodesIn x)
-      by (accepted l) e = nope cc
-      by (faulty j i) e = none-described wanted
-      by (unfit j i) e = none-described wanted
+  asked-small k = ap checkedBy (asked-is k) ∙ checked-is (descriptionAsked k s)
 
 pub asked-large : (k : ℕ) (s : List ℕ) → mostBytes < length s → checkedBy (Refused 4 0) ≡ checkedOf (descriptionAsked k s)
 unfolding descriptionAsked
 asked-large k s h = ap (λ (x : Reading). checkedOf (askedFor k x)) (sym (read-large Lists.mostNumbers s h))
 
-pub described-large : (k : ℕ) (s : List ℕ) → mostBytes < length s → [] ≡ descriptionOf k s
-unfolding descriptionOf
-described-large k s h = none-described k ∙ ap (λ (x : Reading). described k (nodesIn x)) (sym (read-large Lists.mostNumbers s h))
+-- ---- where a Description stands
 
--- ---- a text read into the room, as the code goes: m is the room's length
+pub part-large : (k : ℕ) (s : List ℕ) (r : Part) → r ≡ noPlace → mostBytes < length s → IsPlace s (descriptionPart k s) r
+unfolding descriptionPart descriptionAsked
+part-large k s r h g = none-found s (descriptionPart k s) r h (ap (λ (x : Reading). partAsked k s (askedFor k x)) (read-large Lists.mostNumbers s g))
 
--- both slices keep their lengths
-pub record Lengths (c₀ : List ℤ) (p₀ : List ℤ) (c₁ : List ℤ) (p₁ : List ℤ) : Type 0 where
-  pub coefficients : length c₁ ≡ length c₀
-  pub powers : length p₁ ≡ length p₀
+refused-part : (k : ℕ) (s : List ℕ) (x : Reading) (m p : ℕ) → judgedOf x ≡ Refused m p → partAsked k s x ≡ noPart
+refused-part k s (accepted l) m p q = nope cc
+refused-part k s (faulty j i) m p q = refl
+refused-part k s (unfit j i) m p q = refl
 
-filled-none : (s₀ : List ℤ) (k : ℕ) → k ≤ length s₀ → length (filled k (pos 0) [] s₀) ≡ length s₀
-filled-none s₀ k h = filled-length k (pos 0) [] s₀ (omega arith) h
+accepted-part : (k : ℕ) (s : List ℕ) (x : Reading) → judgedOf x ≡ Accepted → partAsked k s x ≡ partFrom (nodeSpan s (k - 1) .0) s
+accepted-part k s (accepted l) q = refl
+accepted-part k s (faulty j i) q = nope cc
+accepted-part k s (unfit j i) q = nope cc
 
-pub refused-lengths : (x : Reading) (r : Answer) (k p : ℕ) → judgedOf x ≡ Refused k p → (c₀ p₀ c₂ p₂ : List ℤ) → ReadsInto x r c₀ p₀ c₂ p₂ → Lengths c₀ p₀ c₂ p₂
-unfolding coefficientsAfter powersAfter
-refused-lengths x r k p j c₀ p₀ c₂ p₂ h =
-    let e : numbersIn (nodesIn x) ≡ [] = (refusal-answer k p x j) .1 in
-    record {
-      coefficients = ap length (h .coefficients) ∙ ap (λ (l : List Decimal). length (filled (roomLength c₀ p₀) (pos 0) (map (λ (d : Decimal). d .coefficient) l) c₀)) e
-          ∙ filled-none c₀ (roomLength c₀ p₀) ((room-min c₀ p₀) .0);
-      powers = ap length (h .powers) ∙ ap (λ (l : List Decimal). length (filled (roomLength c₀ p₀) (pos 0) (map (λ (d : Decimal). d .power) l) p₀)) e
-          ∙ filled-none p₀ (roomLength c₀ p₀) ((room-min c₀ p₀) .1);
-    }
+-- a node that is asked for is numbered
+numbered : (j : Judged) (k n : ℕ) → askedBy j k n ≡ Accepted → (j ≡ Accepted) × (0 < k) × (k ≤ n)
+numbered (Refused m p) k n q = nope cc
+numbered Accepted k n q = by (ltb 0 k) (leb k n) refl refl q
+  where
+    by : (a b : Bool) → ltb 0 k ≡ a → leb k n ≡ b → cond (a && b) Accepted (Refused 19 0) ≡ Accepted → (Accepted ≡ Accepted) × (0 < k) × (k ≤ n)
+    by true true x y z = (refl, ltb-true 0 k x, leb-true k n y)
+    by true false x y z = nope cc
+    by false b x y z = nope cc
 
-module _ (wanted : ℕ) (s : List ℕ) (r : ListStep) (c₀ p₀ c₁ p₁ : List ℤ) (h : ListReads wanted s r c₀ p₀ c₁ p₁) (m : ℕ) (e : m ≡ roomLength c₀ p₀) (c₂ p₂ : List ℤ) where
-  text-judged : (j : Judged) → judgedStep (length s) r m ≡ j → judgedOf (readText (roomLength c₀ p₀) s) ≡ j
-  text-judged j q = ap (λ (n : ℕ). judgedOf (readText n s)) (sym e) ∙ sym (judged-is wanted s r c₀ p₀ c₁ p₁ h m) ∙ q
+module _ (k : ℕ) (s : List ℕ) (r : ListStep) (t : TextAlone k s r) (small : length s ≤ mostBytes) where
+  pub part-refused : (m p : ℕ) (d : Part) → d ≡ noPlace → askedBy (judgedStep (length s) r 262144) k (r .state .list .count) ≡ Refused m p → IsPlace s (descriptionPart k s) d
+  unfolding descriptionPart
+  part-refused m p d h q = none-found s (descriptionPart k s) d h (refused-part k s (descriptionAsked k s) m p (sym (asked-is k s r t small k) ∙ q))
 
-  module _ (k p : ℕ) (q : judgedStep (length s) r m ≡ Refused k p) (x : c₂ ≡ cleared (roomLength c₁ p₁) (pos 0) 0 m c₁) (y : p₂ ≡ cleared (roomLength c₁ p₁) (pos 0) 0 m p₁) where
-    pub text-refused : ReadsInto (readText (roomLength c₀ p₀) s) (refusedAnswer k p) c₀ p₀ c₂ p₂
-    text-refused = read-refused (readText (roomLength c₀ p₀) s) k p (text-judged (Refused k p) q) c₀ p₀ c₁ p₁ (h .outside) c₂ p₂ m e x y
+  start-is : askedBy (judgedStep (length s) r 262144) k (r .state .list .count) ≡ Accepted → r .state .start ≡ nodeSpan s (k - 1) .0
+  start-is q =
+      let i = numbered (judgedStep (length s) r 262144) k (r .state .list .count) q in
+      let v : Sound s 262144 = sound-alone k s r t small (i .0) in
+      let c : r .state .list .count ≡ length (wholeNodes s) = count-is k s r t small (v .few) in
+      let n : length (nodesOf (v .text .parts)) ≡ length (wholeNodes s) = ap length ((document-whole s (v .text) (v .behind) (v .found)) .nodes) in
+      state-start k s (r .state) (t .reads .state) ∙ place-whole s (v .text) (v .behind) k (v .found) (i .1) (omega (arith, i .2)) (omega (arith, v .few))
 
-    pub text-refused-lengths : Lengths c₀ p₀ c₂ p₂
-    text-refused-lengths = refused-lengths (readText (roomLength c₀ p₀) s) (refusedAnswer k p) k p (text-judged (Refused k p) q) c₀ p₀ c₂ p₂ text-refused
+  pub part-found : (d : Part) → askedBy (judgedStep (length s) r 262144) k (r .state .list .count) ≡ Accepted → IsPlace s (partFrom (r .state .start) s) d → IsPlace s (descriptionPart k s) d
+  unfolding descriptionPart
+  part-found d q h =
+      let e : partFrom (r .state .start) s ≡ partAsked k s (descriptionAsked k s) =
+      ap (λ (a : ℕ). partFrom a s) (start-is q) ∙ sym (accepted-part k s (descriptionAsked k s) (sym (asked-is k s r t small k) ∙ q)) in
+      subst (λ (w : ℕ × ℕ). IsPlace s w d) e h
 
-  module _ (q : judgedStep (length s) r m ≡ Accepted) (x : c₂ ≡ cleared (roomLength c₁ p₁) (pos 0) (r .state .used) m c₁)
-      (y : p₂ ≡ cleared (roomLength c₁ p₁) (pos 0) (r .state .used) m p₁) where
-    abbrev well : Sound wanted s r c₀ p₀ c₁ p₁ (roomLength c₀ p₀)
-    well = sound wanted s r c₀ p₀ c₁ p₁ h (roomLength c₀ p₀) (text-judged Accepted q)
+-- the verdict as the code takes it apart
+pub verdict-fine : (v : Verdict) → Lists.refusalOf v ≡ 0 → Accepted ≡ Code.byVerdict v
+verdict-fine v q = sym (ap Code.byVerdict (accepted-number v q))
 
-    pub text-accepted : ReadsInto (readText (roomLength c₀ p₀) s) (acceptedAnswer (r .state)) c₀ p₀ c₂ p₂
-    text-accepted = read-accepted wanted s r c₀ p₀ c₁ p₁ well c₂ p₂ m e x y
+pub verdict-refused : (v : Verdict) → (Lists.refusalOf v ≡ 0 → ⊥) → Refused (Lists.refusalOf v) (Lists.placeOf v) ≡ Code.byVerdict v
+verdict-refused Verdicts.Accepted q = absurd (q refl)
+verdict-refused Verdicts.NoNode q = refl
+verdict-refused Verdicts.TooManyNodes q = refl
+verdict-refused (Verdicts.DepthDiffers k) q = refl
+verdict-refused Verdicts.TooManyNumbers q = refl
 
-    pub text-accepted-lengths : Lengths c₀ p₀ c₂ p₂
-    unfolding coefficientsAfter powersAfter
-    text-accepted-lengths =
-        let i : length (numbersIn (well .nodes)) ≤ roomLength c₀ p₀ = inside wanted s r c₀ p₀ c₁ p₁ well in
-        let z : numbersIn (nodesIn (readText (roomLength c₀ p₀) s)) ≡ numbersIn (well .nodes) = ap (λ (x : Reading). numbersIn (nodesIn x)) (well .reading) in
-        record {
-          coefficients = ap length (text-accepted .coefficients) ∙ filled-length (roomLength c₀ p₀) (pos 0) (map (λ (d : Decimal). d .coefficient) (numbersIn (nodesIn (readText (roomLength c₀ p₀) s)))) c₀
-              (omega (arith, map-length (λ (d : Decimal). d .coefficient) (numbersIn (nodesIn (readText (roomLength c₀ p₀) s))), ap length z)) ((room-min c₀ p₀) .0);
-          powers = ap length (text-accepted .powers) ∙ filled-length (roomLength c₀ p₀) (pos 0) (map (λ (d : Decimal). d .power) (numbersIn (nodesIn (readText (roomLength c₀ p₀) s)))) p₀
-              (omega (arith, map-length (λ (d : Decimal). d .power) (numbersIn (nodesIn (readText (roomLength c₀ p₀) s))), ap length z)) ((room-min c₀ p₀) .1);
-        }
-
--- a file over 16 MiB
-module _ (s : List ℕ) (c₀ p₀ c₂ p₂ : List ℤ) (m : ℕ) (e : m ≡ roomLength c₀ p₀) (x : c₂ ≡ cleared (roomLength c₀ p₀) (pos 0) 0 m c₀) (y : p₂ ≡ cleared (roomLength c₀ p₀) (pos 0) 0 m p₀)
-    (g : mostBytes < length s) where
-  pub large-refused : ReadsInto (read (roomLength c₀ p₀) s) (refusedAnswer 4 0) c₀ p₀ c₂ p₂
-  large-refused =
-      subst (λ (a : Reading). ReadsInto a (refusedAnswer 4 0) c₀ p₀ c₂ p₂) (sym (read-large (roomLength c₀ p₀) s g))
-      (read-refused (faulty 4 0) 4 0 refl c₀ p₀ c₀ p₀ (record { coefficients = refl; behind = refl; powers = refl; beyond = refl }) c₂ p₂ m e x y)
-
-  pub large-lengths : Lengths c₀ p₀ c₂ p₂
-  large-lengths = refused-lengths (read (roomLength c₀ p₀) s) (refusedAnswer 4 0) 4 0 (ap judgedOf (read-large (roomLength c₀ p₀) s g)) c₀ p₀ c₂ p₂ large-refused
+-- the part itself, of which the code knows its place
+pub part-is : (file result : RefT (List ℕ)) (w : ℕ × ℕ) (p : Part) → IsPlace (file .now) w p → result .ptr .0 ≡ file .ptr .0 → result .ptr .1 ≡ file .ptr .1 + p .start
+    → result .now ≡ take (p .length) (drop (p .start) (file .now)) → IsPart file result w
+part-is file result w p h a b c = record {
+  memory = a;
+  place = b ∙ ap (λ (n : ℕ). file .ptr .1 + n) (h .start);
+  bytes = c ∙ ap (λ (n : ℕ). take n (drop (p .start) (file .now))) (h .length) ∙ ap (λ (n : ℕ). take (w .1) (drop n (file .now))) (h .start);
+}

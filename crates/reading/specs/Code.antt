@@ -1,15 +1,13 @@
 -- What reading, the file check and the Description answer, for the code's records.
 use mathlib.Core.Path.{_≡_}
-use mathlib.Core.Bool.{Bool, true, false, cond, _&&_}
-use mathlib.Core.List.{List, [], _∷_, map}
+use mathlib.Core.Bool.{cond, _&&_}
+use mathlib.Core.List.{List, []}
 use Prim.Native.Nat.{ℕ}
 use lib.Dec.{ltb, leb}
-use lib.IntN.{ℤ, pos}
-use Rattle.decimal.specs.declared.Decimal.{Decimal}
 use Rattle.process_list.specs.declared.Verdict.{Verdict}
 use Rattle.process_list.specs.declared.Verdict.the-variants as Verdicts
 use Rattle.process_list.specs.List as Lists
-use Rattle.room.specs.Room.{roomLength, filled}
+use Rattle.room.specs.Room.{Room, filledWith}
 use Rattle.xml.specs.declared.Scan.{Scan}
 use Rattle.xml.specs.declared.Scan.the-variants as Scans
 use Rattle.clf.specs.Reading.{Reading, accepted, faulty, unfit, numberOf, placeNumber, nodesIn, elementsOf, numbersIn}
@@ -31,18 +29,10 @@ checkedOf r = record { number = numberOf r; place = placeNumber r }
 unfoldable pub answerOf : Reading → Answer
 answerOf r = record { number = numberOf r; place = placeNumber r; list = Lists.listOf (Lists.placed (elementsOf (nodesIn r))) }
 
--- the room of length n afterwards: the numbers in node order, 'the unused rest of the room is zero'; all of it where the reading is refused
-unfoldable pub coefficientsAfter : ℕ → Reading → List ℤ → List ℤ
-coefficientsAfter n r c = filled n (pos 0) (map (λ (d : Decimal). d .coefficient) (numbersIn (nodesIn r))) c
-
-unfoldable pub powersAfter : ℕ → Reading → List ℤ → List ℤ
-powersAfter n r p = filled n (pos 0) (map (λ (d : Decimal). d .power) (numbersIn (nodesIn r))) p
-
--- the answer of a reading, and the whole of the lent slices after it
-pub record ReadsInto (reading : Reading) (r : Answer) (c₀ : List ℤ) (p₀ : List ℤ) (c₁ : List ℤ) (p₁ : List ℤ) : Type 0 where
+-- the answer of a reading, and the whole of the lent room after it: the numbers in node order, 'the unused rest of the room is zero'; all of it where the reading is refused
+pub record ReadsInto (reading : Reading) (r : Answer) (m₀ m₁ : Room) : Type 0 where
   pub answer : r ≡ answerOf reading
-  pub coefficients : c₁ ≡ coefficientsAfter (roomLength c₀ p₀) reading c₀
-  pub powers : p₁ ≡ powersAfter (roomLength c₀ p₀) reading p₀
+  pub room : m₁ ≡ filledWith (numbersIn (nodesIn reading)) m₀
 
 -- ---- what the small steps of the code do
 
@@ -84,8 +74,6 @@ askedBy (Refused n p) k count = Refused n p
 
 -- a text read without room: some room of one number was lent
 pub record TextAlone (wanted : ℕ) (s : List ℕ) (r : ListStep) : Type 0 where
-  pub c₀ : List ℤ
-  pub p₀ : List ℤ
-  pub c₁ : List ℤ
-  pub p₁ : List ℤ
-  pub reads : ListReads wanted s r c₀ p₀ c₁ p₁
+  pub m₀ : Room
+  pub m₁ : Room
+  pub reads : ListReads wanted s r m₀ m₁

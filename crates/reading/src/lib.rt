@@ -1,13 +1,15 @@
 // Reading a CLF file: its list and its numbers, its check without room, and a node's Description.
 ghost use mathlib.Core.Path.{_≡_};
-ghost use Rattle.room.specs.Room.{roomLength};
+ghost use Rattle.room.specs.Room.{roomLength, lent};
 ghost use Rattle.clf.specs.Reading as Reading;
+ghost use Rattle.clf.specs.Description.{descriptionPart};
+ghost use Rattle.describing.specs.Code.{IsPlace, IsPart};
+ghost use lib.Dec.{ltb};
 ghost use lib.ListN.{length};
-ghost use Rattle.node_parts.specs.Code.{aboutText};
 ghost use Rattle.reading.specs.Code.{ReadsInto, checkedOf, TextAlone, byVerdict, judgedStep, refusedAnswer, acceptedAnswer, checkedBy, askedBy};
+use describing::Part;
 use file_text::ListState;
 use file_text::ListStep;
-use node_parts::About;
 use process_list::ProcessList;
 use process_list::Verdict;
 use xml::Scan;
@@ -31,17 +33,22 @@ pub enum Judged {
     Refused(u8, usize),
 }
 
+// Whether a file is over 16 MiB.
+fn too_long(file: &[u8]) -> bool
+    ensures { λ r. ⌜ r ≡ ltb Reading.mostBytes (length (now (file .entry))) ⌝ }
+{
+    16777216 < file.len()
+}
+
 // What the verdict over the finished list says.
 fn by_verdict(v: Verdict) -> Judged
     ensures { λ r. ⌜ r ≡ byVerdict v ⌝ }
 {
-    match v {
-        Verdict::Accepted => Judged::Accepted,
-        Verdict::NoNode => Judged::Refused(12, 0),
-        Verdict::TooManyNodes => Judged::Refused(11, 33),
-        Verdict::DepthDiffers(k) => Judged::Refused(10, k),
-        Verdict::TooManyNumbers => Judged::Refused(13, 0),
+    let number = process_list::refusal(v);
+    if number == 0 {
+        return Judged::Accepted;
     }
+    Judged::Refused(number, process_list::place(v))
 }
 
 // What is to be said of a text that reads so, for a room of this length.
@@ -84,7 +91,7 @@ fn accepted(state: ListState) -> Answer
 
 // Reads a text into the table room.
 fn read_text(file: &[u8], coefficients: &mut [i64], powers: &mut [i8]) -> Answer
-    ensures { λ r. ⌜ ReadsInto (Reading.readText (roomLength (now (coefficients .entry)) (now (powers .entry))) (now (file .entry))) r (now (coefficients .entry)) (now (powers .entry)) (now (coefficients .exit)) (now (powers .exit)) ⌝ }
+    ensures { λ r. ⌜ ReadsInto (Reading.readText (roomLength (lent (now (coefficients .entry)) (now (powers .entry)))) (now (file .entry))) r (lent (now (coefficients .entry)) (now (powers .entry))) (lent (now (coefficients .exit)) (now (powers .exit))) ⌝ }
 {
     let length = room::length(coefficients, powers);
     let step = file_text::file_list(file, 0, coefficients, powers);
@@ -95,18 +102,15 @@ fn read_text(file: &[u8], coefficients: &mut [i64], powers: &mut [i8]) -> Answer
             room::clear(coefficients, powers, 0, length);
             refused(k, p)
         }
-        Judged::Accepted => {
-            room::clear(coefficients, powers, state.used, length);
-            accepted(state)
-        }
+        Judged::Accepted => accepted(state),
     }
 }
 
 // Reads a file into the table room.
 pub fn read(file: &[u8], coefficients: &mut [i64], powers: &mut [i8]) -> Answer
-    ensures { λ r. ⌜ ReadsInto (Reading.read (roomLength (now (coefficients .entry)) (now (powers .entry))) (now (file .entry))) r (now (coefficients .entry)) (now (powers .entry)) (now (coefficients .exit)) (now (powers .exit)) ⌝ }
+    ensures { λ r. ⌜ ReadsInto (Reading.read (roomLength (lent (now (coefficients .entry)) (now (powers .entry)))) (now (file .entry))) r (lent (now (coefficients .entry)) (now (powers .entry))) (lent (now (coefficients .exit)) (now (powers .exit))) ⌝ }
 {
-    if 16777216 < file.len() {
+    if too_long(file) {
         let length = room::length(coefficients, powers);
         room::clear(coefficients, powers, 0, length);
         return refused(4, 0);
@@ -114,7 +118,7 @@ pub fn read(file: &[u8], coefficients: &mut [i64], powers: &mut [i8]) -> Answer
     read_text(file, coefficients, powers)
 }
 
-// The text of a file without room: what is to be said of it, and what it holds, with the Description of the node that is wanted.
+// The text of a file without room: how it reads, and what it holds, with the place of the node that is wanted.
 fn text_alone(file: &[u8], wanted: usize) -> ListStep
     ensures { λ r. ⌜ TextAlone wanted (now (file .entry)) r ⌝ }
 {
@@ -138,14 +142,21 @@ fn to_checked(j: Judged) -> Checked
     }
 }
 
+// Checks a file for a room of this length, without the room.
+pub fn check_within(file: &[u8], room: usize) -> Checked
+    ensures { λ r. ⌜ r ≡ checkedOf (Reading.read room (now (file .entry))) ⌝ }
+{
+    if too_long(file) {
+        return to_checked(Judged::Refused(4, 0));
+    }
+    to_checked(judge_text(file, text_alone(file, 0), room))
+}
+
 // Checks a file without room: 13 means over 262,144 numbers.
 pub fn check(file: &[u8]) -> Checked
     ensures { λ r. ⌜ r ≡ checkedOf (Reading.readAlone (now (file .entry))) ⌝ }
 {
-    if 16777216 < file.len() {
-        return to_checked(Judged::Refused(4, 0));
-    }
-    to_checked(judge_text(file, text_alone(file, 0), 262144))
+    check_within(file, 262144)
 }
 
 // Whether an accepted file has a node of the number k.
@@ -180,39 +191,34 @@ fn ask(file: &[u8], step: ListStep, k: usize) -> Judged
 pub fn description_number(file: &[u8], k: usize) -> Checked
     ensures { λ r. ⌜ r ≡ checkedOf (Reading.descriptionAsked k (now (file .entry))) ⌝ }
 {
-    if 16777216 < file.len() {
+    if too_long(file) {
         return to_checked(Judged::Refused(4, 0));
     }
     to_checked(ask(file, text_alone(file, 0), k))
 }
 
-// The first Description inside node k: the part of the file between its tags, empty where there is none or the call is refused.
-pub fn description(file: &[u8], k: usize) -> &[u8]
-    ensures { λ r. ⌜ now r ≡ Reading.descriptionOf k (now (file .entry)) ⌝ }
+// Where the first Description inside node k stands.
+fn description_part(file: &[u8], k: usize) -> Part
+    ensures { λ r. ⌜ IsPlace (now (file .entry)) (descriptionPart k (now (file .entry))) r ⌝ }
 {
-    if 16777216 < file.len() {
-        return &file[0..0];
+    if too_long(file) {
+        return describing::no_part();
     }
     let step = text_alone(file, k);
     let state = step.state;
-    let j = judge_text(file, step, 262144);
+    let j = ask(file, step, k);
     match j {
-        Judged::Refused(n, p) => &file[0..0],
-        Judged::Accepted => {
-            let about = state.about;
-            about_part(file, about)
-        }
+        Judged::Refused(n, p) => describing::no_part(),
+        Judged::Accepted => describing::text_part(file, state.start),
     }
 }
 
-// The bytes of a Description.
-fn about_part(file: &[u8], about: About) -> &[u8]
-    ensures { λ r. ⌜ now r ≡ aboutText (now (file .entry)) about ⌝ }
+// The first Description inside node k: the part of the file between its tags, empty where there is none or the call is refused.
+pub fn description(file: &[u8], k: usize) -> &[u8]
+    ensures { λ r. ⌜ IsPart (file .entry) r (descriptionPart k (now (file .entry))) ⌝ }
 {
-    let a = about.start;
-    let e = about.end;
-    if about.found {
-        return tags::part(file, a, e);
-    }
-    &file[0..0]
+    let part = description_part(file, k);
+    let a = part.start;
+    let e = a + part.length;
+    &file[a..e]
 }

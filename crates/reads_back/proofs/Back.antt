@@ -2,18 +2,18 @@
 use mathlib.Core.Path.{_≡_, refl, sym, ap, _∙_, subst}
 use mathlib.Core.Bool.{Bool, true, false, cond}
 use mathlib.Core.List.{List, [], _∷_, map}
-use Prim.Native.Nat.{ℕ, _≤_, min}
+use Prim.Native.Nat.{ℕ, _≤_}
 use native.Mathlib.Omega.{arith}
 use lib.Dec.{ltb}
-use lib.IntN.{ℤ, pos}
-use lib.ListN.{length, drop, length-map, drop-of-length-le}
+use lib.ListN.{length}
 use borrow.Author.Tests.{le-ltb}
-use Rattle.decimal.specs.declared.Decimal.{Decimal}
+use Rattle.process_list.specs.declared.ProcessList.{ProcessList}
 use Rattle.process_list.specs.declared.Verdict.the-variants.{Accepted}
-use Rattle.process_list.specs.List.{Element, nodeOf, allNumbers, placed, coefficientsOf, powersOf, verdict}
+use Rattle.process_list.specs.List.{Element, nodeOf, allNumbers, placed, verdict}
+use Rattle.process_list.specs.File.{fileList, file-list}
 use Rattle.process_list.proofs.Lists.{list-length, heads-length, Fine, accepted-fine, fine-accepted}
-use Rattle.room.specs.Room.{roomLength}
-use Rattle.room.proofs.Contents.{filled-length, filled-behind, filled-over}
+use Rattle.room.specs.Room.{filledWith}
+use Rattle.room.proofs.Rooms.{filled-room, filled-equal, filled-beyond}
 use Rattle.valid.specs.Valid.{every, sound, isValid, elementsOf}
 use Rattle.valid.proofs.Readings.{all-length, parts}
 use Rattle.valid.proofs.Readings as Readings
@@ -32,7 +32,7 @@ use Rattle.claims.proofs.Rules.{WholeElements, read-short, text-elements}
 use Rattle.claims.proofs.Look.{held-valid}
 use Rattle.written_form.specs.Written.{refused, written, isIdByte, idRight, nodesText, headText, listText, fitting, writeOf}
 use Rattle.written_form.proofs.Short.{elements-short}
-use Rattle.reads_back.specs.Back.{Allowed, ReadAs, HasPlaces, Valid, held, writing, EqualRoom, Leaves, WrittenReadsBack, Refusal16, ExactlyAllowed}
+use Rattle.reads_back.specs.Back.{Allowed, ReadAs, HasPlaces, Valid, held, writing, EqualRoom, asRead, Leaves, LeavesIn, WrittenReadsBack, WrittenReadsIn, Refusal16, ExactlyAllowed}
 use Rattle.reads_back.proofs.Nodes.{readAs}
 use Rattle.reads_back.proofs.Items.{Item, items-from, line-item, Read, nodes-read}
 use Rattle.reads_back.proofs.Heads.{Id, id-parts, rootAttributes, head-reads}
@@ -147,24 +147,41 @@ exactly-allowed room es = (λ a. (listText (bytes "a") es, list-reads-back room 
 
 module _ (x : Look) (p : HasPlaces x) (v : Valid x) where
   -- what a valid list and room are: the reading of their elements
-  reading : Readings.Reading (x .list) (x .coefficients) (x .powers) (held x)
-  reading = parts (x .list) (x .coefficients) (x .powers) p v
+  reading : Readings.Reading (x .list) (x .room) (held x)
+  reading = parts (x .list) (x .room) p v
 
   held-allowed : Allowed (roomOf x) (held x)
   held-allowed = verdict-allowed (roomOf x) (held x) (reading .sounds) (reading .accepted)
 
-  holding-self : holding x (held x) ≡ x
+  holding-self : holding x (held x) ≡ asRead x
   unfolding holding
-  holding-self = λ i. record { list = sym (reading .list) i; coefficients = sym (reading .coefficients) i; powers = sym (reading .powers) i }
+  holding-self = λ i. record { list = (sym (reading .list) ∙ sym (file-list (x .list))) i; room = sym (reading .room) i }
+
+  -- in a room that holds the numbers
+  module _ (y : Look) (h : length (allNumbers (held x)) ≤ roomOf y) where
+    allowed-in : Allowed (roomOf y) (held x)
+    allowed-in = let a = held-allowed in record { some = a .some; few = a .few; chained = a .chained; holds = omega (arith, a .holds); nodes = a .nodes }
+
+    holding-in : (holding y (held x) .list ≡ fileList (x .list)) × (holding y (held x) .room ≡ filledWith (allNumbers (held x)) (y .room))
+    unfolding holding
+    holding-in = (sym (reading .list) ∙ sym (file-list (x .list)), refl)
+
+    pub valid-reads-in : (id : List ℕ) → idRight id ≡ true → LeavesIn y (listText id (held x)) x
+    valid-reads-in id i =
+        let r : ReadAs (roomOf y) (listText id (held x)) (held x) = list-reads-back (roomOf y) id (held x) i allowed-in in
+        let q : readInto y (listText id (held x)) ≡ holding y (held x) = ap (λ (z : Reading.Reading). holding y (Reading.elementsOf (nodesIn z))) (r .accepted) ∙ ap (holding y) (r .elements) in
+        record {
+          nodes = r .nodes;
+          accepted = r .accepted;
+          list = ap (λ (z : Look). z .list) q ∙ holding-in .0;
+          room = ap (λ (z : Look). z .room) q ∙ holding-in .1;
+        }
 
   -- what the room held before does not matter
   module _ (y : Look) (e : EqualRoom x y) where
     holding-equal : (es : List Element) → holding y es ≡ holding x es
     unfolding holding
-    holding-equal es =
-        let a = filled-over (roomOf x) (pos 0) (coefficientsOf es) (y .coefficients) (x .coefficients) (e .coefficients) in
-        let b = filled-over (roomOf x) (pos 0) (powersOf es) (y .powers) (x .powers) (e .powers) in
-        rw (e .room, a, b)
+    holding-equal es = rw (filled-equal (allNumbers es) (x .room) (y .room) (e .room) (e .behind)) refl
 
     -- the text of a valid list and room, under any right id
     pub valid-reads-back : (id : List ℕ) → idRight id ≡ true → Leaves y (listText id (held x)) x
@@ -185,9 +202,9 @@ record Wrote (x : Look) (id text : List ℕ) : Type 0 where
 
 wrote : (x : Look) (id : List ℕ) (out : ℕ) (text : List ℕ) → writing x id out ≡ written text → Wrote x id text
 unfolding writeOf fitting
-wrote x id out text e = go (isValid (x .list) (x .coefficients) (x .powers)) (idRight id) (ltb out (length (listText id (held x)))) refl refl e
+wrote x id out text e = go (isValid (x .list) (x .room)) (idRight id) (ltb out (length (listText id (held x)))) refl refl e
   where
-    go : (a b c : Bool) → isValid (x .list) (x .coefficients) (x .powers) ≡ a → idRight id ≡ b
+    go : (a b c : Bool) → isValid (x .list) (x .room) ≡ a → idRight id ≡ b
         → cond a (cond b (cond c (refused 17) (written (listText id (held x)))) (refused 18)) (refused 16) ≡ written text → Wrote x id text
     go true true true q r z = nope cc
     go true true false q r z = record { valid = q; right = r; is = cc }
@@ -200,37 +217,34 @@ written-reads-back x p id out text e y room =
     let w : Wrote x id text = wrote x id out text e in
     subst (λ (t : List ℕ). Leaves y t x) (w .is) (valid-reads-back x p (w .valid) y room id (w .right))
 
+-- and in every room that holds the numbers
+pub written-reads-in : (x : Look) → HasPlaces x → WrittenReadsIn x
+written-reads-in x p id out text e y h =
+    let w : Wrote x id text = wrote x id out text e in
+    subst (λ (t : List ℕ). LeavesIn y t x) (w .is) (valid-reads-in x p (w .valid) y h id (w .right))
+
 -- ---- refusal 16
+
+-- all that list and room hold is of the file
+pub read-self : (x : Look) → asRead x ≡ x
+read-self x = ap (λ (l : ProcessList). record { list = l; room = x .room }) (file-list (x .list))
 
 -- what an accepted reading leaves, whatever list and room held before, is valid
 pub left-valid : (y : Look) (file : List ℕ) (x : Look) → Leaves y file x → Valid x
 left-valid y file x l =
     let es : List Element = Reading.elementsOf (l .nodes) in
     let w : WholeElements (roomOf y) es = accepted-whole (roomOf y) file (l .nodes) (l .accepted) in
-    let q : holding y es ≡ x = ap (λ (z : Reading.Reading). holding y (Reading.elementsOf (nodesIn z))) (sym (l .accepted)) ∙ l .look in
+    let q : holding y es ≡ x = ap (λ (z : Reading.Reading). holding y (Reading.elementsOf (nodesIn z))) (sym (l .accepted)) ∙ l .look ∙ read-self x in
     subst Valid q (held-valid y es w)
 
 itself : (x : Look) → EqualRoom x x
-itself x = record { room = refl; coefficients = refl; powers = refl }
+itself x = record { room = refl; behind = refl }
 
 -- REFUSAL 16: 'list and room are no accepted reading of any file into that room'
 pub refusal-16 : (x : Look) → HasPlaces x → Refusal16 x
 refusal-16 x p = (λ v. (listText (bytes "a") (held x), valid-reads-back x p v x (itself x) (bytes "a") plain-id), λ f. left-valid x (f .0) x (f .1))
 
--- ---- which rooms are equal, and which lists have 32 places
-
-all-dropped : (n : ℕ) (s t : List ℤ) → length s ≤ n → length t ≤ n → drop n s ≡ drop n t
-all-dropped n s t h k = drop-of-length-le s h ∙ sym (drop-of-length-le t k)
-
--- slices of one length
-pub same-lengths : (n : ℕ) (x y : Look) → length (x .coefficients) ≡ n → length (x .powers) ≡ n → length (y .coefficients) ≡ n → length (y .powers) ≡ n → EqualRoom x y
-unfolding roomLength
-same-lengths n x y a b c d =
-    record {
-      room = omega arith;
-      coefficients = all-dropped (roomOf x) (y .coefficients) (x .coefficients) (omega arith) (omega arith);
-      powers = all-dropped (roomOf x) (y .powers) (x .powers) (omega arith) (omega arith);
-    }
+-- ---- which lists have 32 places, and which rooms are equal
 
 -- every list that a reading leaves, a refused one too
 pub read-places : (y : Look) (file : List ℕ) → HasPlaces (readInto y file)
@@ -250,30 +264,9 @@ read-few room file = go (read room file) refl
     go (faulty k p) e = omega arith
     go (unfit k p) e = omega arith
 
-module _ (y : Look) (es : List Element) (h : length (allNumbers es) ≤ roomOf y) where
-  few-coefficients : length (coefficientsOf es) ≤ roomOf y
-  unfolding coefficientsOf
-  few-coefficients = omega (arith, length-map (allNumbers es) (λ (d : Decimal). d .coefficient))
-
-  few-powers : length (powersOf es) ≤ roomOf y
-  unfolding powersOf
-  few-powers = omega (arith, length-map (allNumbers es) (λ (d : Decimal). d .power))
-
-  room-kept : roomOf y ≡ roomOf (holding y es)
-  unfolding holding roomLength
-  room-kept =
-      let n : ℕ = min (length (y .coefficients)) (length (y .powers)) in
-      let a = filled-length n (pos 0) (coefficientsOf es) (y .coefficients) few-coefficients (omega arith) in
-      let b = filled-length n (pos 0) (powersOf es) (y .powers) few-powers (omega arith) in
-      omega arith
-
-  pub holding-room : EqualRoom (holding y es) y
-  unfolding holding
-  holding-room = record {
-    room = room-kept;
-    coefficients = rw (← room-kept) (sym (filled-behind (roomOf y) (pos 0) (coefficientsOf es) (y .coefficients) few-coefficients));
-    powers = rw (← room-kept) (sym (filled-behind (roomOf y) (pos 0) (powersOf es) (y .powers) few-powers));
-  }
+pub holding-room : (y : Look) (es : List Element) → length (allNumbers es) ≤ roomOf y → EqualRoom (holding y es) y
+unfolding holding
+holding-room y es h = record { room = sym (filled-room (allNumbers es) (y .room) h); behind = sym (filled-beyond (allNumbers es) (y .room) h) }
 
 -- so: read any file, write the list out under any id, read that text into the same room: list and room are the same
 pub read-written-read : (y : Look) (file id : List ℕ) (out : ℕ) (text : List ℕ) → writing (readInto y file) id out ≡ written text → Leaves y text (readInto y file)

@@ -102,10 +102,10 @@ module _ (v : Decimal) where
 -- ---- ASC_CDL
 
 abbrev withSop : List Decimal → CdlState
-withSop l = record { about = []; sop = some l; sat = none }
+withSop l = record { sop = some l; sat = none }
 
 abbrev withBoth : List Decimal → List Decimal → CdlState
-withBoth l m = record { about = []; sop = some l; sat = some m }
+withBoth l m = record { sop = some l; sat = some m }
 
 sop-fine : cdlHolder .fault noCdl (bytes "SOPNode") ≡ 0
 unfolding same
@@ -180,7 +180,7 @@ module _ (s1 s2 s3 o1 o2 o3 p1 p2 p3 v : Decimal) (k : Ten s1 s2 s3 o1 o2 o3 p1 
     pub cdl-reads : (clamp : Bool) (t : List ℕ)
         → ascCdl .run (bytes " inBitDepth=\"" ++ (depthText i ++ (bytes "\" outBitDepth=\"" ++ (depthText o ++ (bytes "\"" ++ (bytes " style=\"" ++ (fwdText clamp ++ (bytes "\">\n" ++
         sopText ten (satText ten (bytes "</ASC_CDL>" ++ t))))))))))
-        ≡ done (record { element = record { kind = Cdl clamp; input = i; output = o; numbers = ten }; description = [] }) t
+        ≡ done (record { element = record { kind = Cdl clamp; input = i; output = o; numbers = ten } }) t
     unfolding ascCdl
     cdl-reads clamp t =
         let r : List ℕ = 10 ∷ sopText ten (satText ten (bytes "</ASC_CDL>" ++ t)) in
@@ -188,5 +188,5 @@ module _ (s1 s2 s3 o1 o2 o3 p1 p2 p3 v : Decimal) (k : Ten s1 s2 s3 o1 o2 o3 p1 
         ap (λ (x : Out Tag). thenOut x (λ tag u. thenOut ((cdlContent tag) .run u) (λ st. retP (cdlNode (tag .attributes) st))))
         (style-tag cdlRules cdl-rules i o (fwdText clamp) r (style-quoted clamp) (style-right clamp))
         ∙ ap (λ (x : Out CdlState). thenOut x (λ st. retP (cdlNode l st))) (content-reads t)
-        ∙ ap (λ (u : Bool). done (nodeOf l (Cdl u) ten []) t) (kind-said clamp)
+        ∙ ap (λ (u : Bool). done (nodeOf l (Cdl u) ten) t) (kind-said clamp)
         ∙ ap (λ (x : NodeRead). done x t) (node-is i o (record { name = bytes "style"; text = fwdText clamp } ∷ []) (Cdl clamp) ten)

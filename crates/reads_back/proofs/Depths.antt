@@ -42,7 +42,7 @@ withDepths input output more = record { name = bytes "inBitDepth"; text = depthT
 
 -- the node of these attributes is the element
 pub node-is : (input output : Depth) (more : List Attribute) (kind : Kind) (ns : List Decimal)
-    → nodeOf (withDepths input output more) kind ns [] ≡ record { element = record { kind = kind; input = input; output = output; numbers = ns }; description = [] }
+    → nodeOf (withDepths input output more) kind ns ≡ record { element = record { kind = kind; input = input; output = output; numbers = ns } }
 unfolding textOf same
 node-is input output more kind ns = rw (depth-said input, depth-said output)
 

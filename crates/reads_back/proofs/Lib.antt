@@ -14,3 +14,4 @@ pub mod Nodes
 pub mod Items
 pub mod Heads
 pub mod Back
+pub mod Calls

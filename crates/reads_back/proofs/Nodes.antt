@@ -28,7 +28,7 @@ use Rattle.reads_back.proofs.Sound.{any-kept, Four, four, range-order, 
 
 -- the node that is read: the element, without a Description
 abbrev pub readAs : Element → NodeRead
-readAs e = record { element = e; description = [] }
+readAs e = record { element = e }
 
 -- ---- a child of each of the four names
 

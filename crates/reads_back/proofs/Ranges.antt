@@ -24,7 +24,7 @@ use Rattle.reads_back.proofs.Values.{value-child}
 use Rattle.reads_back.proofs.Depths.{withDepths, node-is, NodeRules, style-tag}
 
 abbrev values : Option Decimal → Option Decimal → Option Decimal → Option Decimal → RangeState
-values a b c d = record { about = []; values = a ∷ b ∷ c ∷ d ∷ [] }
+values a b c d = record { values = a ∷ b ∷ c ∷ d ∷ [] }
 
 -- one value
 one-value : (st st′ : RangeState) (w : List ℕ) (d : Decimal) (t : List ℕ) → isName w ≡ true → Kept anyNumber d → rangeHolder .fault st w ≡ 0
@@ -106,7 +106,7 @@ module _ (i o : Depth) where
     pub range-reads : (clamp : Bool) (t : List ℕ) → Each (Kept anyNumber) (a ∷ b ∷ c ∷ d ∷ []) → (less a b && atMost c d) ≡ true
         → range .run (bytes " inBitDepth=\"" ++ (depthText i ++ (bytes "\" outBitDepth=\"" ++ (depthText o ++ (bytes "\"" ++ (bytes " style=\"" ++ (clampText clamp ++ (bytes "\">\n" ++
         rangeText (a ∷ b ∷ c ∷ d ∷ []) (bytes "</Range>" ++ t)))))))))
-        ≡ done (record { element = record { kind = Range clamp; input = i; output = o; numbers = a ∷ b ∷ c ∷ d ∷ [] }; description = [] }) t
+        ≡ done (record { element = record { kind = Range clamp; input = i; output = o; numbers = a ∷ b ∷ c ∷ d ∷ [] } }) t
     unfolding range
     range-reads clamp t k e =
         let r : List ℕ = 10 ∷ rangeText (a ∷ b ∷ c ∷ d ∷ []) (bytes "</Range>" ++ t) in
@@ -114,5 +114,5 @@ module _ (i o : Depth) where
         ap (λ (x : Out Tag). thenOut x (λ tag u. thenOut ((held rangeHolder noValues) .run u) (λ st. retP (rangeNode (tag .attributes) st))))
         (style-tag (nodeRules (λ w. 0) rangeTexts) range-rules i o (clampText clamp) r (style-quoted clamp) (style-right clamp))
         ∙ ap (λ (x : Out RangeState). thenOut x (λ st. retP (rangeNode l st))) (content-reads a b c d t k e)
-        ∙ ap (λ (v : Bool). done (nodeOf l (Range v) (a ∷ b ∷ c ∷ d ∷ []) []) t) (kind-said clamp)
+        ∙ ap (λ (v : Bool). done (nodeOf l (Range v) (a ∷ b ∷ c ∷ d ∷ [])) t) (kind-said clamp)
         ∙ ap (λ (x : NodeRead). done x t) (node-is i o (record { name = bytes "style"; text = clampText clamp } ∷ []) (Range clamp) (a ∷ b ∷ c ∷ d ∷ []))

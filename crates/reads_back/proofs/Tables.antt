@@ -34,7 +34,7 @@ space-name = refl
 
 module _ (w : List ℕ) (shape : List ℕ → Option Kind) (named : isName w ≡ true) where
   abbrev tabled : Table → ArrayState
-  tabled t = record { about = []; table = some t }
+  tabled t = record { table = some t }
 
   array-fine : (arrayHolder w shape) .fault noArray (bytes "Array") ≡ 0
   unfolding same
@@ -70,7 +70,7 @@ matrix-rules = record { rest = λ w t. 0; texts = refl; opened = refl; in-free =
 module _ (i o : Depth) where
   pub matrix-reads : (wide : Bool) (ds : List Decimal) (t : List ℕ) → Each (Kept anyNumber) ds → length ds ≡ 3 * cond wide 4 3 → numbersOf (Matrix wide) ≡ length ds
       → matrix .run (bytes " inBitDepth=\"" ++ (depthText i ++ (bytes "\" outBitDepth=\"" ++ (depthText o ++ (bytes "\"" ++ (bytes ">\n" ++ arrayText 3 (cond wide 4 3) ds (bytes "</Matrix>" ++ t)))))))
-      ≡ done (record { element = record { kind = Matrix wide; input = i; output = o; numbers = ds }; description = [] }) t
+      ≡ done (record { element = record { kind = Matrix wide; input = i; output = o; numbers = ds } }) t
   unfolding matrix
   matrix-reads wide ds t each c n =
       let r : List ℕ = 10 ∷ arrayText 3 (cond wide 4 3) ds (bytes "</Matrix>" ++ t) in
@@ -94,7 +94,7 @@ module _ (i o : Depth) where
   pub lut-reads : (entries columns : ℕ) (ds : List Decimal) (t : List ℕ) → tableRight entries columns ≡ true → Each (Kept anyNumber) ds → length ds ≡ entries * columns
       → numbersOf (Lut1d entries columns) ≡ length ds
       → lut1d .run (bytes " inBitDepth=\"" ++ (depthText i ++ (bytes "\" outBitDepth=\"" ++ (depthText o ++ (bytes "\"" ++ (bytes ">\n" ++ arrayText entries columns ds (bytes "</LUT1D>" ++ t)))))))
-      ≡ done (record { element = record { kind = Lut1d entries columns; input = i; output = o; numbers = ds }; description = [] }) t
+      ≡ done (record { element = record { kind = Lut1d entries columns; input = i; output = o; numbers = ds } }) t
   unfolding lut1d
   lut-reads entries columns ds t right each c n =
       let r : List ℕ = 10 ∷ arrayText entries columns ds (bytes "</LUT1D>" ++ t) in

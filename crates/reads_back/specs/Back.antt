@@ -4,8 +4,10 @@ use mathlib.Core.Logic.{_↔_}
 use mathlib.Core.Bool.{true}
 use mathlib.Core.List.{List, map}
 use Prim.Native.Nat.{ℕ, _≤_, _<_, min}
-use lib.ListN.{length, drop}
+use lib.ListN.{length}
+use Rattle.process_list.specs.File.{fileList}
 use Rattle.process_list.specs.List.{Element, mostNodes, mostNumbers, nodeOf, allNumbers, firstDiffers}
+use Rattle.room.specs.Room.{beyond, filledWith}
 use Rattle.valid.specs.Valid.{every, sound, isValid, elementsOf}
 use Rattle.clf.specs.Nodes.{NodeRead}
 use Rattle.clf.specs.Reading.{accepted, read}
@@ -42,27 +44,37 @@ HasPlaces x = length (x .list .nodes) ≡ mostNodes
 
 -- 16 is not given
 abbrev pub Valid : Look → Type 0
-Valid x = isValid (x .list) (x .coefficients) (x .powers) ≡ true
+Valid x = isValid (x .list) (x .room) ≡ true
 
 -- the elements that list and room hold
 abbrev pub held : Look → List Element
-held x = elementsOf (x .list) (x .coefficients) (x .powers)
+held x = elementsOf (x .list) (x .room)
 
 -- what writing answers for list and room, under an id, for an output of this length
 abbrev pub writing : Look → List ℕ → ℕ → Writing
-writing x id out = writeOf (x .list) (x .coefficients) (x .powers) id out
+writing x id out = writeOf (x .list) (x .room) id out
 
 -- 'into equal room': of the same length, and the same behind it where one slice is longer than the other; list and room itself may hold anything
 pub record EqualRoom (x y : Look) : Type 0 where
   pub room : roomOf y ≡ roomOf x
-  pub coefficients : drop (roomOf x) (y .coefficients) ≡ drop (roomOf x) (x .coefficients)
-  pub powers : drop (roomOf x) (y .powers) ≡ drop (roomOf x) (x .powers)
+  pub behind : beyond (y .room) ≡ beyond (x .room)
 
--- reading the file into y is accepted, and leaves the list and room x
+-- what a file says of list and room
+abbrev pub asRead : Look → Look
+asRead x = record { list = fileList (x .list); room = x .room }
+
+-- reading the file into y is accepted, and leaves the list and room x, by what a file says of them
 pub record Leaves (y : Look) (file : List ℕ) (x : Look) : Type 0 where
   pub nodes : List NodeRead
   pub accepted : read (roomOf y) file ≡ accepted nodes
-  pub look : readInto y file ≡ x
+  pub look : readInto y file ≡ asRead x
+
+-- reading the file into y, a room that may be longer or shorter, is accepted, and leaves the list of x and its numbers in that room
+pub record LeavesIn (y : Look) (file : List ℕ) (x : Look) : Type 0 where
+  pub nodes : List NodeRead
+  pub accepted : read (roomOf y) file ≡ accepted nodes
+  pub list : readInto y file .list ≡ fileList (x .list)
+  pub room : readInto y file .room ≡ filledWith (allNumbers (held x)) (y .room)
 
 -- 'list and room are [an] accepted reading of [some] file into that room'
 abbrev pub SomeReading : Look → Type 0
@@ -71,6 +83,10 @@ SomeReading x = (file : List ℕ) × Leaves x file x
 -- DEMAND 2, its last part. Whatever text writing answers for list and room is accepted, and leaves this very list and room, when it is read into equal room
 abbrev pub WrittenReadsBack : Look → Type 0
 WrittenReadsBack x = (id : List ℕ) (out : ℕ) (text : List ℕ) → writing x id out ≡ written text → (y : Look) → EqualRoom x y → Leaves y text x
+
+-- the same in every room that holds the numbers: the same list, and its numbers
+abbrev pub WrittenReadsIn : Look → Type 0
+WrittenReadsIn x = (id : List ℕ) (out : ℕ) (text : List ℕ) → writing x id out ≡ written text → (y : Look) → length (allNumbers (held x)) ≤ roomOf y → LeavesIn y text x
 
 -- REFUSAL 16, both ways: list and room pass exactly if they are the accepted reading of some file into that room
 abbrev pub Refusal16 : Look → Type 0

@@ -5,7 +5,6 @@ use mathlib.Core.List.{List, [], _∷_}
 use Prim.Native.Nat.{ℕ, _-_, _≤_, _<_}
 use native.Mathlib.Omega.{arith}
 use lib.Dec.{ltb, leb}
-use lib.IntN.{ℤ}
 use lib.ListN.{length, drop, length-drop, length-map}
 use borrow.Author.Tests.{lt-ltb, le-ltb, ltb-true, ltb-false, le-leb, lt-leb, leb-true}
 use Rattle.grammar.specs.Parse.{done, fault}
@@ -13,7 +12,7 @@ use Rattle.grammar.specs.Laws.{nope}
 use Rattle.process_list.specs.declared.ProcessList.{ProcessList}
 use Rattle.process_list.specs.List as Lists
 use Rattle.process_list.specs.List.{Element}
-use Rattle.room.specs.Room.{roomLength}
+use Rattle.room.specs.Room.{Room, roomLength}
 use Rattle.valid.specs.Valid.{isValid}
 use Rattle.valid.specs.Valid as Valid
 use Rattle.valid.proofs.Elements.{both-true}
@@ -21,20 +20,20 @@ use Rattle.xml.specs.declared.Scan.{Scan}
 use Rattle.xml.specs.declared.Scan.the-variants as Scans
 use Rattle.xml.specs.Code.{scanOut, Inside}
 use Rattle.clf.specs.Nodes.{NodeRead}
-use Rattle.clf.specs.Reading.{mostBytes, placeIn}
+use Rattle.clf.specs.Reading.{mostBytes, placeIn, isNumbered}
 use Rattle.node_parts.specs.declared.NodeStep.{NodeStep}
-use Rattle.node_parts.specs.Code.{AllNumbers}
+use Rattle.node_parts.specs.Code.{AllNumbers, nodeAfter}
 use Rattle.reading.specs.declared.Judged.the-variants.{Accepted, Refused}
-use Rattle.look.specs.Replacing.{element, isNumbered, byElement, replace}
+use Rattle.look.specs.Replacing.{element, byElement, replace}
 use Rattle.look.specs.Replacing as Replacing
 use Rattle.look.specs.Look.{Look, replaceIn}
 use Rattle.replacing.specs.Code.{answerOf, Leaves, lookOf, Replaced, refusedAnswer, callFault, CallFault, ElementAlone, judgedScan, Callable, Fits}
 
 -- 'Any other refusal changes nothing'
-pub leaves-refused : (l : ProcessList) (c p : List ℤ) (a : Replacing.Answer) (n i : ℕ) → a ≡ Replacing.refused n i → Leaves (lookOf l c p) a (refusedAnswer n i l) c p
+pub leaves-refused : (l : ProcessList) (m : Room) (a : Replacing.Answer) (n i : ℕ) → a ≡ Replacing.refused n i → Leaves (lookOf l m) a (refusedAnswer n i l) m
 unfolding answerOf
-leaves-refused l c p a n i e =
-    subst (λ (b : Replacing.Answer). Leaves (lookOf l c p) b (refusedAnswer n i l) c p) (sym e) (record { answer = refl; coefficients = refl; powers = refl })
+leaves-refused l m a n i e =
+    subst (λ (b : Replacing.Answer). Leaves (lookOf l m) b (refusedAnswer n i l) m) (sym e) (record { answer = refl; room = refl })
 
 -- ---- 16, 19, 4
 
@@ -68,19 +67,19 @@ module _ (valid : Bool) (count k n : ℕ) where
       unfolding callFault
       fault-well g = rw (v, numbered, le-ltb _ _ g) refl
 
-module _ (l : ProcessList) (c p : List ℤ) where
+module _ (l : ProcessList) (m : Room) where
   abbrev x : Look
-  x = lookOf l c p
+  x = lookOf l m
 
   abbrev room : ℕ
-  room = roomLength c p
+  room = roomLength m
 
   abbrev es : List Element
-  es = Valid.elementsOf l c p
+  es = Valid.elementsOf l m
 
   pub elements-length : length es ≡ length (Lists.nodesOf l)
   unfolding Valid.elementsOf
-  elements-length = length-map (Lists.nodesOf l) (Valid.elementOf c p)
+  elements-length = length-map (Lists.nodesOf l) (Valid.elementOf m)
 
   module _ (k : ℕ) (e : List ℕ) where
     abbrev said : Bool → Bool → Bool → Replacing.Answer
@@ -89,14 +88,14 @@ module _ (l : ProcessList) (c p : List ℤ) where
     abbrev N : Bool
     N = isNumbered k (length (Lists.nodesOf l))
 
-    said-is : replaceIn x k e ≡ said (isValid l c p) N (ltb mostBytes (length e))
+    said-is : replaceIn x k e ≡ said (isValid l m) N (ltb mostBytes (length e))
     unfolding replaceIn replace
-    said-is = ap (λ (n : ℕ). said (isValid l c p) (isNumbered k n) (ltb mostBytes (length e))) elements-length
+    said-is = ap (λ (n : ℕ). said (isValid l m) (isNumbered k n) (ltb mostBytes (length e))) elements-length
 
     -- a call that is refused before its element is read
-    pub call-refused : (r : ℕ) → CallFault l c p k (length e) r → (r ≡ 0 → ⊥) → Replaced l c p k e (refusedAnswer r 0 l) c p
+    pub call-refused : (r : ℕ) → CallFault l m k (length e) r → (r ≡ 0 → ⊥) → Replaced l m k e (refusedAnswer r 0 l) m
     unfolding callFault
-    call-refused r h z = leaves-refused l c p (replaceIn x k e) r 0 (said-is ∙ by (isValid l c p) N (ltb mostBytes (length e)) (h .number))
+    call-refused r h z = leaves-refused l m (replaceIn x k e) r 0 (said-is ∙ by (isValid l m) N (ltb mostBytes (length e)) (h .number))
       where
         by : (v n g : Bool) → r ≡ cond v (cond n (cond g 4 0) 19) 16 → said v n g ≡ Replacing.refused r 0
         by true true true q = ap (λ (n : ℕ). Replacing.refused n 0) (sym q)
@@ -105,11 +104,11 @@ module _ (l : ProcessList) (c p : List ℤ) where
         by false n g q = ap (λ (n : ℕ). Replacing.refused n 0) (sym q)
 
     -- and one that is not
-    pub call-well : (r : ℕ) → CallFault l c p k (length e) r → r ≡ 0 → Callable l c p k e
+    pub call-well : (r : ℕ) → CallFault l m k (length e) r → r ≡ 0 → Callable l m k e
     unfolding callFault
-    call-well r h z = by (isValid l c p) N (ltb mostBytes (length e)) refl refl refl (sym z ∙ h .number)
+    call-well r h z = by (isValid l m) N (ltb mostBytes (length e)) refl refl refl (sym z ∙ h .number)
       where
-        by : (v n g : Bool) → isValid l c p ≡ v → N ≡ n → ltb mostBytes (length e) ≡ g → _≡_ {A = ℕ} 0 (cond v (cond n (cond g 4 0) 19) 16) → Callable l c p k e
+        by : (v n g : Bool) → isValid l m ≡ v → N ≡ n → ltb mostBytes (length e) ≡ g → _≡_ {A = ℕ} 0 (cond v (cond n (cond g 4 0) 19) 16) → Callable l m k e
         by true true true qv qn qg q = absurd (omega arith)
         by true true false qv qn qg q =
             let b = both-true (ltb 0 k) (leb k (length (Lists.nodesOf l))) qn in
@@ -118,7 +117,7 @@ module _ (l : ProcessList) (c p : List ℤ) where
         by false n g qv qn qg q = absurd (omega arith)
 
     -- it answers by its element
-    pub by-element : Callable l c p k e → replaceIn x k e ≡ byElement room es k e (element .run e)
+    pub by-element : Callable l m k e → replaceIn x k e ≡ byElement room es k e (element .run e)
     by-element h =
         let n : N ≡ true = simp (lt-ltb 0 k (h .first), le-leb k (length (Lists.nodesOf l)) (h .last)) in
         said-is ∙ ap (λ (b : Bool). said b N (ltb mostBytes (length e))) (h .valid) ∙ ap (λ (b : Bool). said true b (ltb mostBytes (length e))) n
@@ -151,14 +150,14 @@ module _ (l : ProcessList) (c p : List ℤ) where
         let o : length e ≡ i = cc in
         ap (Replacing.refused 1) o ∙ ap (λ (a : ℕ). Replacing.refused a i) a
 
-    pub element-refused : (h : Callable l c p k e) (r : NodeStep) → ElementAlone e r → (n i : ℕ) → judgedScan (length e) (r .scan) ≡ Refused n i → Replaced l c p k e (refusedAnswer n i l) c p
+    pub element-refused : (h : Callable l m k e) (r : NodeStep) → ElementAlone e r → (n i : ℕ) → judgedScan (length e) (r .scan) ≡ Refused n i → Replaced l m k e (refusedAnswer n i l) m
     element-refused h r a n i j =
-        leaves-refused l c p (replaceIn x k e) n i
+        leaves-refused l m (replaceIn x k e) n i
         (by-element h ∙ ap (byElement room es k e) (sym (a .reads .out)) ∙ judged-ill (a .reads .value) (r .scan) n i (a .reads .inside) j)
 
     judged-done : (v : NodeRead) (y : Scan) → judgedScan (length e) y ≡ Accepted → AllNumbers y v
-        → (scanOut (λ q. v) e y ≡ done v []) × (length (v .element .numbers) ≡ Lists.numbersOf (v .element .kind))
-    judged-done v (Scans.At q) j n = (by (ltb q (length e)) refl j, n)
+        → (scanOut (λ q. v) e y ≡ done v []) × (length (v .element .numbers) ≡ Lists.numbersOf (v .element .kind)) × (nodeAfter y v ≡ Lists.nodeOf (v .element))
+    judged-done v (Scans.At q) j n = (by (ltb q (length e)) refl j, n, refl)
       where
         none : (r : List ℕ) → length r ≡ 0 → r ≡ []
         none [] h = refl
@@ -170,7 +169,7 @@ module _ (l : ProcessList) (c p : List ℤ) where
     judged-done v (Scans.Fault m q) j n = nope cc
     judged-done v Scans.Cut j n = nope cc
 
-    pub element-well : Callable l c p k e → (r : NodeStep) → ElementAlone e r → judgedScan (length e) (r .scan) ≡ Accepted → Fits l c p k (r .node) e
+    pub element-well : Callable l m k e → (r : NodeStep) → ElementAlone e r → judgedScan (length e) (r .scan) ≡ Accepted → Fits l m k (r .node) e
     element-well h r a j =
         let d = judged-done (a .reads .value) (r .scan) j (a .reads .all) in
-        record { callable = h; value = a .reads .value; out = sym (a .reads .out) ∙ d .0; is = a .reads .node; all = d .1 }
+        record { callable = h; value = a .reads .value; out = sym (a .reads .out) ∙ d .0; is = a .reads .node ∙ d .2; all = d .1 }

@@ -1,15 +1,12 @@
 -- The element in the place of node k: the verdict over the list, and list and room afterwards. Assumes nothing.
 use mathlib.Core.Path.{_≡_, refl, sym, ap, _∙_, subst}
-use mathlib.Core.Bool.{Bool, true, false, cond, _&&_}
-use mathlib.Core.List.{List, [], _∷_, _++_, map}
-use Prim.Native.Nat.{ℕ, zero, suc, _+_, _-_, _≤_, _<_, min}
+use mathlib.Core.Bool.{false}
+use mathlib.Core.List.{List, [], _∷_, map}
+use Prim.Native.Nat.{ℕ, zero, suc, _+_, _-_, _≤_, _<_}
 use native.Mathlib.Omega.{arith}
 use native.Mathlib.Nat.{zero-add}
-use lib.IntN.{ℤ, pos}
-use lib.ListN.{length, take, drop, set, getD, replicate, length-append, length-take, length-drop, length-replicate, length-set}
+use lib.ListN.{length, take, set, getD, length-set}
 use lib.Seq.{getD-set-same}
-use borrow.Author.Tests.{leb-true}
-use lib.Dec.{leb}
 use Rattle.decimal.specs.declared.Decimal.{Decimal}
 use Rattle.grammar.specs.Parse.{done}
 use Rattle.grammar.specs.Laws.{nope}
@@ -19,58 +16,26 @@ use Rattle.process_list.specs.declared.Node.{Node}
 use Rattle.process_list.specs.declared.ProcessList.{ProcessList}
 use Rattle.process_list.specs.declared.Verdict.{Verdict}
 use Rattle.process_list.specs.declared.Verdict.the-variants.{Accepted, NoNode, TooManyNodes, DepthDiffers, TooManyNumbers}
-use Rattle.process_list.specs.List.{Element, mostNodes, numbersOf, nodeOf, standing, total, placed, allNumbers, coefficientsOf, powersOf, blankNode, listOf, nodesOf, nodeAt, replacedAt, placedList, capped, judged, verdict, refusalOf, placeOf}
+use Rattle.process_list.specs.List.{Element, mostNodes, numbersOf, nodeOf, standing, total, placed, allNumbers, blankNode, listOf, nodesOf, nodeAt, replacedAt, placedList, capped, judged, verdict, refusalOf, placeOf}
 use Rattle.process_list.proofs.Laws.{capped-exact, total-take, total-take-le}
 use Rattle.process_list.proofs.Lists.{Fine, accepted-fine, accepted-number, heads-length, placed-length, list-nodes, place-at, total-place, replaced-verdict, replaced-list}
-use Rattle.room.specs.Room.{roomLength, laid, filled, resizable, gapped, resized}
-use Rattle.room.proofs.Contents.{filled-length}
+use Rattle.room.specs.Room.{Room, roomLength, laidIn, filledWith, resizedIn}
 use Rattle.valid.specs.Valid as Valid
-use Rattle.valid.proofs.Elements.{both-true}
 use Rattle.valid.proofs.Readings.{head-kind, stands-at, stands-kind}
 use Rattle.valid.proofs.Readings as Readings
-use Rattle.valid.proofs.Replacing.{replaced-room}
+use Rattle.valid.proofs.Replacing.{replaced-in}
 use Rattle.xml.specs.declared.Scan.{Scan}
 use Rattle.xml.specs.declared.Scan.the-variants as Scans
 use Rattle.xml.specs.Code.{scanOut}
 use Rattle.clf.specs.Nodes.{NodeRead}
 use Rattle.node_parts.specs.declared.NodeStep.{NodeStep}
+use Rattle.values.specs.Code.{roomAfter}
 use Rattle.node_parts.specs.Code.{NodeReads}
 use Rattle.look.specs.Replacing.{element, byElement, byVerdict, listed}
 use Rattle.look.specs.Replacing as Replacing
 use Rattle.look.specs.Look.{Look, holding, replaceIn}
 use Rattle.replacing.specs.Code.{answerOf, Leaves, lookOf, Replaced, refusedAnswer, madeWay, Stores, Fits}
 use Rattle.replacing.proofs.Calls.{leaves-refused, elements-length, by-element}
-
--- ---- a room that is resized keeps its length
-
-module _ {A : Type 0} (n : ℕ) (z : A) (at old new used : ℕ) (s : List A) (m : n ≤ length s) where
-  resized-by : (b : Bool) → resizable n at old new used ≡ b → length (cond b (gapped n z at old new used s) s) ≡ length s
-  unfolding resizable gapped
-  resized-by true e =
-      let p = both-true (leb (at + old) used && leb used n) (leb (used - old + new) n) e in
-      let q = both-true (leb (at + old) used) (leb used n) (p .0) in
-      let a = leb-true (at + old) used (q .0) in
-      let b = leb-true used n (q .1) in
-      let c = leb-true (used - old + new) n (p .1) in
-      filled-length n z (take at s ++ replicate new z ++ take (used - (at + old)) (drop (at + old) s)) s
-      (simp (length-append, length-take, length-drop, length-replicate) (omega arith)) m
-  resized-by false e = refl
-
-  resized-length : length (resized n z at old new used s) ≡ length s
-  unfolding resized
-  resized-length = resized-by (resizable n at old new used) refl
-
-made-length : (l : ProcessList) (i : ℕ) (node : Node) (n : ℕ) (s : List ℤ) → n ≤ length s → length (madeWay l i node n s) ≡ length s
-unfolding madeWay
-made-length l i node n s m =
-    resized-length n (pos 0) (nodeAt l i .at) (capped (numbersOf (nodeAt l i .kind))) (capped (numbersOf (node .kind))) (capped (total (nodesOf l))) s m
-
-made-room : (l : ProcessList) (i : ℕ) (node : Node) (c p : List ℤ) → roomLength (madeWay l i node (roomLength c p) c) (madeWay l i node (roomLength c p) p) ≡ roomLength c p
-unfolding roomLength
-made-room l i node c p =
-    let a = made-length l i node (min (length c) (length p)) c (omega arith) in
-    let b = made-length l i node (min (length c) (length p)) p (omega arith) in
-    omega arith
 
 -- ---- nodes of elements
 
@@ -107,21 +72,27 @@ verdict-refused es TooManyNodes z = refl
 verdict-refused es (DepthDiffers k) z = refl
 verdict-refused es TooManyNumbers z = refl
 
+-- the room after an answer without fault
+room-done : (e : List ℕ) (base : ℕ) (xs : List Decimal) (v w : NodeRead) (y : Scan) (r : List ℕ) (m : Room) → scanOut (λ q. v) e y ≡ done w r → roomAfter base y xs m ≡ laidIn base xs m
+room-done e base xs v w (Scans.At q) r m h = refl
+room-done e base xs v w (Scans.Fault k q) r m h = nope cc
+room-done e base xs v w Scans.Cut r m h = nope cc
+
 -- the value of an answer without fault
 value-is : (e : List ℕ) (v w : NodeRead) (y : Scan) (r : List ℕ) → scanOut (λ q. v) e y ≡ done w r → v ≡ w
 value-is e v w (Scans.At q) r h = cc
 value-is e v w (Scans.Fault k q) r h = nope cc
 value-is e v w Scans.Cut r h = nope cc
 
-module _ (l : ProcessList) (c₀ p₀ : List ℤ) (k : ℕ) (node : Node) (e : List ℕ) (f : Fits l c₀ p₀ k node e) where
+module _ (l : ProcessList) (m₀ : Room) (k : ℕ) (node : Node) (e : List ℕ) (f : Fits l m₀ k node e) where
   abbrev x : Look
-  x = lookOf l c₀ p₀
+  x = lookOf l m₀
 
   abbrev room : ℕ
-  room = roomLength c₀ p₀
+  room = roomLength m₀
 
   abbrev es : List Element
-  es = Valid.elementsOf l c₀ p₀
+  es = Valid.elementsOf l m₀
 
   abbrev el : Element
   el = f .value .element
@@ -135,8 +106,8 @@ module _ (l : ProcessList) (c₀ p₀ : List ℤ) (k : ℕ) (node : Node) (e : L
   abbrev new : List Element
   new = set es i el
 
-  reading : Readings.Reading l c₀ p₀ es
-  reading = Readings.parts l c₀ p₀ (f .callable .array) (f .callable .valid)
+  reading : Readings.Reading l m₀ es
+  reading = Readings.parts l m₀ (f .callable .array) (f .callable .valid)
 
   fine : Fine room (map nodeOf es)
   unfolding verdict
@@ -146,7 +117,7 @@ module _ (l : ProcessList) (c₀ p₀ : List ℤ) (k : ℕ) (node : Node) (e : L
   few = omega (arith, fine .few, heads-length es)
 
   inside : i < length es
-  inside = omega (arith, f .callable .first, f .callable .last, elements-length l c₀ p₀)
+  inside = omega (arith, f .callable .first, f .callable .last, elements-length l m₀)
 
   next-is : next ≡ replacedAt (listOf (placed es)) i (nodeOf el)
   next-is = ap (λ (a : ProcessList). replacedAt a i node) (reading .list) ∙ ap (λ (a : Node). replacedAt (listOf (placed es)) i a) (f .is)
@@ -157,11 +128,11 @@ module _ (l : ProcessList) (c₀ p₀ : List ℤ) (k : ℕ) (node : Node) (e : L
   -- what the call answers: 10 or 13, or the new element is in its place
   answer-is : replaceIn x k e ≡ byVerdict new (verdict room new)
   unfolding listed
-  answer-is = by-element l c₀ p₀ k e (f .callable) ∙ ap (byElement room es k e) (f .out)
+  answer-is = by-element l m₀ k e (f .callable) ∙ ap (byElement room es k e) (f .out)
 
-  pub node-refused : (v : Verdict) → v ≡ judged room (nodesOf next) → (refusalOf v ≡ 0 → ⊥) → Replaced l c₀ p₀ k e (refusedAnswer (refusalOf v) (placeOf v) l) c₀ p₀
+  pub node-refused : (v : Verdict) → v ≡ judged room (nodesOf next) → (refusalOf v ≡ 0 → ⊥) → Replaced l m₀ k e (refusedAnswer (refusalOf v) (placeOf v) l) m₀
   node-refused v q z =
-      leaves-refused l c₀ p₀ (replaceIn x k e) (refusalOf v) (placeOf v)
+      leaves-refused l m₀ (replaceIn x k e) (refusalOf v) (placeOf v)
       (answer-is ∙ ap (byVerdict new) (sym (q ∙ verdict-is)) ∙ verdict-refused new v z)
 
   -- ---- accepted
@@ -204,66 +175,52 @@ module _ (l : ProcessList) (c₀ p₀ : List ℤ) (k : ℕ) (node : Node) (e : L
         ap (λ (ns : List Node). capped (total ns)) nodes-are ∙ ap capped (total-place 0 (map nodeOf es))
         ∙ capped-exact (total (map nodeOf es)) (omega (arith, fine .holds))
 
-    -- one slice of the room, with one part g of each number
-    slice-is : (g : Decimal → ℤ) (s₀ s₁ : List ℤ) → room ≤ length s₀ → s₀ ≡ filled room (pos 0) (map g (allNumbers es)) s₀
-        → s₁ ≡ laid room (nodeAt l i .at) (map g (el .numbers)) (madeWay l i node room s₀) → s₁ ≡ filled room (pos 0) (map g (allNumbers new)) s₀
+    -- the room: the old numbers have given way, and the new ones are laid
+    room-is : (m₁ : Room) → m₁ ≡ laidIn (nodeAt l i .at) (el .numbers) (madeWay l i node m₀) → m₁ ≡ filledWith (allNumbers new) m₀
     unfolding madeWay
-    slice-is g s₀ s₁ m q r =
-        let w : List ℤ → List ℤ =
-        λ s. laid room (total (take i (map nodeOf es))) (map g (el .numbers))
-        (resized room (pos 0) (total (take i (map nodeOf es))) (numbersOf (getD es i none .kind)) (numbersOf (el .kind)) (total (map nodeOf es)) s) in
-        let b : s₁ ≡ w s₀ = rw (at-is, old-is, new-is, used-is) at r in
-        b ∙ ap w q
-        ∙ replaced-room es i none inside (reading .sounds) g room el s₀ (f .all) m (omega (arith, fine .holds)) (omega (arith, fine-new .holds))
+    room-is m₁ r =
+        let w : Room → Room =
+        λ m. laidIn (total (take i (map nodeOf es))) (el .numbers) (resizedIn (total (take i (map nodeOf es))) (numbersOf (getD es i none .kind)) (numbersOf (el .kind)) (total (map nodeOf es)) m) in
+        let b : m₁ ≡ w m₀ = rw (at-is, old-is, new-is, used-is) at r in
+        b ∙ ap w (reading .room) ∙ replaced-in es i none inside (reading .sounds) el m₀ (f .all) (omega (arith, fine .holds)) (omega (arith, fine-new .holds))
 
-    module _ (c₁ p₁ : List ℤ) (h : Stores l i node e c₀ p₀ c₁ p₁) where
+    module _ (m₁ : Room) (h : Stores l i node e m₀ m₁) where
       numbers-are : h .reads .value .element .numbers ≡ el .numbers
       numbers-are = ap (λ (v : NodeRead). v .element .numbers) (value-is e (h .reads .value) (f .value) (h .step .scan) [] (h .reads .out ∙ f .out))
 
-      laid-as : (g : Decimal → ℤ) (s₀ s₁ : List ℤ)
-          → s₁ ≡ laid (roomLength (madeWay l i node room c₀) (madeWay l i node room p₀)) (nodeAt l i .at) (map g (h .reads .value .element .numbers)) (madeWay l i node room s₀)
-          → s₁ ≡ laid room (nodeAt l i .at) (map g (el .numbers)) (madeWay l i node room s₀)
-      laid-as g s₀ s₁ q =
-          q ∙ ap (λ (n : ℕ). laid n (nodeAt l i .at) (map g (h .reads .value .element .numbers)) (madeWay l i node room s₀)) (made-room l i node c₀ p₀)
-          ∙ ap (λ (xs : List Decimal). laid room (nodeAt l i .at) (map g xs) (madeWay l i node room s₀)) numbers-are
+      laid-as : m₁ ≡ laidIn (nodeAt l i .at) (el .numbers) (madeWay l i node m₀)
+      laid-as =
+          h .reads .room
+          ∙ room-done e (nodeAt l i .at) (h .reads .value .element .numbers) (h .reads .value) (f .value) (h .step .scan) [] (madeWay l i node m₀) (h .reads .out ∙ f .out)
+          ∙ ap (λ (xs : List Decimal). laidIn (nodeAt l i .at) xs (madeWay l i node m₀)) numbers-are
 
-      inside-room : (room ≤ length c₀) × (room ≤ length p₀)
-      unfolding roomLength
-      inside-room = (omega arith, omega arith)
+      held : Leaves x (Replacing.replaced new) (record { number = 0; place = 0; list = placedList next }) m₁
+      unfolding answerOf holding
+      held = record { answer = ap (λ (a : ProcessList). record { number = 0; place = 0; list = a }) list-is; room = room-is m₁ laid-as }
 
-      held : Leaves x (Replacing.replaced new) (record { number = 0; place = 0; list = placedList next }) c₁ p₁
-      unfolding answerOf holding coefficientsOf powersOf
-      held = record {
-        answer = ap (λ (a : ProcessList). record { number = 0; place = 0; list = a }) list-is;
-        coefficients = slice-is (λ d. d .coefficient) c₀ c₁ (inside-room .0) (reading .coefficients) (laid-as (λ d. d .coefficient) c₀ c₁ (h .reads .room .coefficients));
-        powers = slice-is (λ d. d .power) p₀ p₁ (inside-room .1) (reading .powers) (laid-as (λ d. d .power) p₀ p₁ (h .reads .room .powers));
-      }
-
-  pub node-replaced : (v : Verdict) → v ≡ judged room (nodesOf next) → refusalOf v ≡ 0 → (c₁ p₁ : List ℤ) → Stores l i node e c₀ p₀ c₁ p₁ → (r : ProcessList) → r ≡ placedList next
-      → Replaced l c₀ p₀ k e (record { number = 0; place = 0; list = r }) c₁ p₁
-  node-replaced v q z c₁ p₁ h r t =
+  pub node-replaced : (v : Verdict) → v ≡ judged room (nodesOf next) → refusalOf v ≡ 0 → (m₁ : Room) → Stores l i node e m₀ m₁ → (r : ProcessList) → r ≡ placedList next
+      → Replaced l m₀ k e (record { number = 0; place = 0; list = r }) m₁
+  node-replaced v q z m₁ h r t =
       let a : verdict room new ≡ Accepted = sym (q ∙ verdict-is) ∙ accepted-number v z in
       let b : replaceIn x k e ≡ Replacing.replaced new = answer-is ∙ ap (byVerdict new) a in
-      rw t (subst (λ (y : Replacing.Answer). Leaves x y (record { number = 0; place = 0; list = placedList next }) c₁ p₁) (sym b) (held a c₁ p₁ h))
+      rw t (subst (λ (y : Replacing.Answer). Leaves x y (record { number = 0; place = 0; list = placedList next }) m₁) (sym b) (held a m₁ h))
 
 -- ---- as the code goes
 
 -- the old numbers give way, and the element is read in their place
-pub stores : (l : ProcessList) (i : ℕ) (node : Node) (e : List ℕ) (c₀ p₀ c p c₁ p₁ : List ℤ) (old : Node) (a b u : ℕ) → old ≡ nodeAt l i → a ≡ capped (numbersOf (old .kind)) → b ≡ capped (numbersOf (node .kind))
-    → u ≡ capped (total (nodesOf l)) → c ≡ resized (roomLength c₀ p₀) (pos 0) (old .at) a b u c₀ → p ≡ resized (roomLength c₀ p₀) (pos 0) (old .at) a b u p₀
-    → (step : NodeStep) → NodeReads (element .run) e 0 (old .at) step c p c₁ p₁ → Stores l i node e c₀ p₀ c₁ p₁
+pub stores : (l : ProcessList) (i : ℕ) (node : Node) (e : List ℕ) (m₀ m m₁ : Room) (old : Node) (a b u : ℕ) → old ≡ nodeAt l i → a ≡ capped (numbersOf (old .kind)) → b ≡ capped (numbersOf (node .kind))
+    → u ≡ capped (total (nodesOf l)) → m ≡ resizedIn (old .at) a b u m₀ → (step : NodeStep) → NodeReads (element .run) e 0 (old .at) step m m₁ → Stores l i node e m₀ m₁
 unfolding madeWay
-stores l i node e c₀ p₀ c p c₁ p₁ old a b u qo qa qb qu qc qp step r =
-    record { step = step; reads = rw (← qo, ← qa, ← qb, ← qu, ← qc, ← qp) r }
+stores l i node e m₀ m m₁ old a b u qo qa qb qu qm step r = record { step = step; reads = rw (← qo, ← qa, ← qb, ← qu, ← qm) r }
 
 -- the verdict over the list with its new node: l₁ is that list, n the room's length
-module _ (l : ProcessList) (c₀ p₀ : List ℤ) (k : ℕ) (node : Node) (e : List ℕ) (f : Fits l c₀ p₀ k node e) (l₁ : ProcessList) (ql : l₁ ≡ replacedAt l (k - 1) node) (n : ℕ) (qn : n ≡ roomLength c₀ p₀)
+module _ (l : ProcessList) (m₀ : Room) (k : ℕ) (node : Node) (e : List ℕ) (f : Fits l m₀ k node e) (l₁ : ProcessList) (ql : l₁ ≡ replacedAt l (k - 1) node) (n : ℕ) (qn : n ≡ roomLength m₀)
     (v : Verdict) (qv : v ≡ judged n (nodesOf l₁)) (number : ℕ) (qr : number ≡ refusalOf v) where
-  judged-so : v ≡ judged (roomLength c₀ p₀) (nodesOf (replacedAt l (k - 1) node))
-  judged-so = qv ∙ ap (λ (m : ℕ). judged m (nodesOf l₁)) qn ∙ ap (λ (a : ProcessList). judged (roomLength c₀ p₀) (nodesOf a)) ql
+  judged-so : v ≡ judged (roomLength m₀) (nodesOf (replacedAt l (k - 1) node))
+  judged-so = qv ∙ ap (λ (m : ℕ). judged m (nodesOf l₁)) qn ∙ ap (λ (a : ProcessList). judged (roomLength m₀) (nodesOf a)) ql
 
-  pub code-refused : (number ≡ 0 → ⊥) → (place : ℕ) → place ≡ placeOf v → Replaced l c₀ p₀ k e (refusedAnswer number place l) c₀ p₀
-  code-refused z place qp = rw (qr, qp) (node-refused l c₀ p₀ k node e f v judged-so (λ y. z (qr ∙ y)))
+  pub code-refused : (number ≡ 0 → ⊥) → (place : ℕ) → place ≡ placeOf v → Replaced l m₀ k e (refusedAnswer number place l) m₀
+  code-refused z place qp = rw (qr, qp) (node-refused l m₀ k node e f v judged-so (λ y. z (qr ∙ y)))
 
-  pub code-replaced : number ≡ 0 → (c₁ p₁ : List ℤ) → Stores l (k - 1) node e c₀ p₀ c₁ p₁ → (r : ProcessList) → r ≡ placedList l₁ → Replaced l c₀ p₀ k e (record { number = 0; place = 0; list = r }) c₁ p₁
-  code-replaced z c₁ p₁ h r t = node-replaced l c₀ p₀ k node e f v judged-so (sym qr ∙ z) c₁ p₁ h r (t ∙ ap placedList ql)
+  pub code-replaced : number ≡ 0 → (m₁ : Room) → Stores l (k - 1) node e m₀ m₁ → (r : ProcessList) → r ≡ placedList l₁ → Replaced l m₀ k e (record { number = 0; place = 0; list = r }) m₁
+  code-replaced z m₁ h r t = node-replaced l m₀ k node e f v judged-so (sym qr ∙ z) m₁ h r (t ∙ ap placedList ql)

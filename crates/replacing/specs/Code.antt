@@ -4,24 +4,23 @@ use mathlib.Core.Bool.{Bool, true, cond}
 use mathlib.Core.List.{List, []}
 use Prim.Native.Nat.{ℕ, _≤_, _<_}
 use lib.Dec.{ltb}
-use lib.IntN.{ℤ, pos}
 use lib.ListN.{length}
 use Rattle.grammar.specs.Parse.{done}
 use Rattle.process_list.specs.declared.Node.{Node}
 use Rattle.process_list.specs.declared.ProcessList.{ProcessList}
 use Rattle.process_list.specs.List as Lists
-use Rattle.room.specs.Room.{roomLength, resized}
+use Rattle.room.specs.Room.{Room, resizedIn}
 use Rattle.valid.specs.Valid.{isValid}
 use Rattle.xml.specs.declared.Scan.{Scan}
 use Rattle.xml.specs.declared.Scan.the-variants as Scans
 use Rattle.clf.specs.Nodes.{NodeRead}
-use Rattle.clf.specs.Reading.{mostBytes}
+use Rattle.clf.specs.Reading.{mostBytes, isNumbered}
 use Rattle.node_parts.specs.declared.NodeStep.{NodeStep}
 use Rattle.node_parts.specs.Code.{NodeReads}
 use Rattle.reading.specs.declared.Answer.{Answer}
 use Rattle.reading.specs.declared.Judged.{Judged}
 use Rattle.reading.specs.declared.Judged.the-variants.{Accepted, Refused}
-use Rattle.look.specs.Replacing.{element, isNumbered}
+use Rattle.look.specs.Replacing.{element}
 use Rattle.look.specs.Replacing as Replacing
 use Rattle.look.specs.Look.{Look, replaceIn, lookAfter}
 
@@ -40,18 +39,17 @@ placeOf (Replacing.refused n p) = p
 unfoldable pub answerOf : Look → Replacing.Answer → Answer
 answerOf x a = record { number = numberOf a; place = placeOf a; list = lookAfter x a .list }
 
--- the answer r where the call on the look x answers a, and the whole of the lent slices after it
-pub record Leaves (x : Look) (a : Replacing.Answer) (r : Answer) (c₁ : List ℤ) (p₁ : List ℤ) : Type 0 where
+-- the answer r where the call on the look x answers a, and the whole room after it
+pub record Leaves (x : Look) (a : Replacing.Answer) (r : Answer) (m₁ : Room) : Type 0 where
   pub answer : r ≡ answerOf x a
-  pub coefficients : c₁ ≡ lookAfter x a .coefficients
-  pub powers : p₁ ≡ lookAfter x a .powers
+  pub room : m₁ ≡ lookAfter x a .room
 
-abbrev pub lookOf : ProcessList → List ℤ → List ℤ → Look
-lookOf l c p = record { list = l; coefficients = c; powers = p }
+abbrev pub lookOf : ProcessList → Room → Look
+lookOf l m = record { list = l; room = m }
 
--- the call on this list and these slices, for node k and the element e
-abbrev pub Replaced : ProcessList → List ℤ → List ℤ → ℕ → List ℕ → Answer → List ℤ → List ℤ → Type 0
-Replaced l c₀ p₀ k e r c₁ p₁ = Leaves (lookOf l c₀ p₀) (replaceIn (lookOf l c₀ p₀) k e) r c₁ p₁
+-- the call on this list and this room, for node k and the element e
+abbrev pub Replaced : ProcessList → Room → ℕ → List ℕ → Answer → Room → Type 0
+Replaced l m₀ k e r m₁ = Leaves (lookOf l m₀) (replaceIn (lookOf l m₀) k e) r m₁
 
 -- ---- what the small steps of the code do
 
@@ -62,17 +60,15 @@ refusedAnswer n p l = record { number = n; place = p; list = l }
 unfoldable pub callFault : Bool → ℕ → ℕ → ℕ → ℕ
 callFault valid count k n = cond valid (cond (isNumbered k count) (cond (ltb mostBytes n) 4 0) 19) 16
 
-pub record CallFault (l : ProcessList) (c : List ℤ) (p : List ℤ) (k n r : ℕ) : Type 0 where
-  pub number : r ≡ callFault (isValid l c p) (length (Lists.nodesOf l)) k n
+pub record CallFault (l : ProcessList) (m : Room) (k n r : ℕ) : Type 0 where
+  pub number : r ≡ callFault (isValid l m) (length (Lists.nodesOf l)) k n
   pub array : length (l .nodes) ≡ 32
 
 -- an element read without room: some room of one number was lent
 pub record ElementAlone (s : List ℕ) (r : NodeStep) : Type 0 where
-  pub c₀ : List ℤ
-  pub p₀ : List ℤ
-  pub c₁ : List ℤ
-  pub p₁ : List ℤ
-  pub reads : NodeReads (element .run) s 0 0 r c₀ p₀ c₁ p₁
+  pub m₀ : Room
+  pub m₁ : Room
+  pub reads : NodeReads (element .run) s 0 0 r m₀ m₁
 
 -- 'bytes after' are 20 at the first of them
 abbrev pub judgedScan : ℕ → Scan → Judged
@@ -80,28 +76,27 @@ judgedScan n (Scans.At e) = cond (ltb e n) (Refused 20 e) Accepted
 judgedScan n (Scans.Fault k p) = Refused k p
 judgedScan n Scans.Cut = Refused 1 n
 
--- a slice of a room of length n in which the numbers of node i, from 0, have given way to as many zeros as the new node has numbers
-unfoldable pub madeWay : ProcessList → ℕ → Node → ℕ → List ℤ → List ℤ
-madeWay l i node n s =
-    resized n (pos 0) (Lists.nodeAt l i .at) (Lists.capped (Lists.numbersOf (Lists.nodeAt l i .kind))) (Lists.capped (Lists.numbersOf (node .kind)))
-    (Lists.capped (Lists.total (Lists.nodesOf l))) s
+-- the room in which the numbers of node i, from 0, have given way to as many zeros as the new node has numbers
+unfoldable pub madeWay : ProcessList → ℕ → Node → Room → Room
+madeWay l i node m =
+    resizedIn (Lists.nodeAt l i .at) (Lists.capped (Lists.numbersOf (Lists.nodeAt l i .kind))) (Lists.capped (Lists.numbersOf (node .kind))) (Lists.capped (Lists.total (Lists.nodesOf l))) m
 
 -- the element read where node i stood
-pub record Stores (l : ProcessList) (i : ℕ) (node : Node) (e : List ℕ) (c₀ : List ℤ) (p₀ : List ℤ) (c₁ : List ℤ) (p₁ : List ℤ) : Type 0 where
+pub record Stores (l : ProcessList) (i : ℕ) (node : Node) (e : List ℕ) (m₀ m₁ : Room) : Type 0 where
   pub step : NodeStep
-  pub reads : NodeReads (element .run) e 0 (Lists.nodeAt l i .at) step (madeWay l i node (roomLength c₀ p₀) c₀) (madeWay l i node (roomLength c₀ p₀) p₀) c₁ p₁
+  pub reads : NodeReads (element .run) e 0 (Lists.nodeAt l i .at) step (madeWay l i node m₀) m₁
 
 -- a call that 16, 19 and 4 do not refuse
-pub record Callable (l : ProcessList) (c : List ℤ) (p : List ℤ) (k : ℕ) (e : List ℕ) : Type 0 where
-  pub valid : isValid l c p ≡ true
+pub record Callable (l : ProcessList) (m : Room) (k : ℕ) (e : List ℕ) : Type 0 where
+  pub valid : isValid l m ≡ true
   pub array : length (l .nodes) ≡ 32
   pub first : 0 < k
   pub last : k ≤ length (Lists.nodesOf l)
   pub small : length e ≤ mostBytes
 
 -- and whose element has no fault, and this node
-pub record Fits (l : ProcessList) (c : List ℤ) (p : List ℤ) (k : ℕ) (node : Node) (e : List ℕ) : Type 0 where
-  pub callable : Callable l c p k e
+pub record Fits (l : ProcessList) (m : Room) (k : ℕ) (node : Node) (e : List ℕ) : Type 0 where
+  pub callable : Callable l m k e
   pub value : NodeRead
   pub out : element .run e ≡ done value []
   pub is : node ≡ Lists.nodeOf (value .element)

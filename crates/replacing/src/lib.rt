@@ -3,6 +3,7 @@
 ghost use mathlib.Core.Path.{_≡_};
 ghost use Prim.Native.Nat.{_≤_, _<_};
 ghost use lib.ListN.{length};
+ghost use Rattle.room.specs.Room.{lent};
 ghost use Rattle.replacing.specs.Code as Code;
 use node_parts::NodeStep;
 use process_list::Node;
@@ -23,7 +24,7 @@ fn refused(number: u8, place: usize, list: ProcessList) -> Answer
 
 // 16, 19 or 4, or 0 where none is given, for an element of this length.
 fn call_fault(list: ProcessList, coefficients: &[i64], powers: &[i8], k: usize, length: usize) -> u8
-    ensures { λ r. ⌜ Code.CallFault list (now (coefficients .entry)) (now (powers .entry)) k length r ⌝ }
+    ensures { λ r. ⌜ Code.CallFault list (lent (now (coefficients .entry)) (now (powers .entry))) k length r ⌝ }
 {
     let count = process_list::held(list);
     if !valid::valid(list, coefficients, powers) {
@@ -75,7 +76,7 @@ fn store_element(
     node: Node,
     element: &[u8],
 )
-    ensures { λ _. ⌜ Code.Stores list i node (now (element .entry)) (now (coefficients .entry)) (now (powers .entry)) (now (coefficients .exit)) (now (powers .exit)) ⌝ }
+    ensures { λ _. ⌜ Code.Stores list i node (now (element .entry)) (lent (now (coefficients .entry)) (now (powers .entry))) (lent (now (coefficients .exit)) (now (powers .exit))) ⌝ }
 {
     let old = process_list::get(list, i);
     let at = old.at;
@@ -97,8 +98,8 @@ fn replace_node(
     node: Node,
     element: &[u8],
 ) -> Answer
-    requires { ⌜ Code.Fits list (now coefficients) (now powers) k node (now element) ⌝ }
-    ensures { λ r. ⌜ Code.Replaced list (now (coefficients .entry)) (now (powers .entry)) k (now (element .entry)) r (now (coefficients .exit)) (now (powers .exit)) ⌝ }
+    requires { ⌜ Code.Fits list (lent (now coefficients) (now powers)) k node (now element) ⌝ }
+    ensures { λ r. ⌜ Code.Replaced list (lent (now (coefficients .entry)) (now (powers .entry))) k (now (element .entry)) r (lent (now (coefficients .exit)) (now (powers .exit))) ⌝ }
 {
     let i = k - 1;
     let next = process_list::replaced(list, i, node);
@@ -124,8 +125,8 @@ fn replace_valid(
     k: usize,
     element: &[u8],
 ) -> Answer
-    requires { ⌜ Code.Callable list (now coefficients) (now powers) k (now element) ⌝ }
-    ensures { λ r. ⌜ Code.Replaced list (now (coefficients .entry)) (now (powers .entry)) k (now (element .entry)) r (now (coefficients .exit)) (now (powers .exit)) ⌝ }
+    requires { ⌜ Code.Callable list (lent (now coefficients) (now powers)) k (now element) ⌝ }
+    ensures { λ r. ⌜ Code.Replaced list (lent (now (coefficients .entry)) (now (powers .entry))) k (now (element .entry)) r (lent (now (coefficients .exit)) (now (powers .exit))) ⌝ }
 {
     let step = element_alone(element);
     let scan = step.scan;
@@ -145,7 +146,7 @@ pub fn replace(
     k: usize,
     element: &[u8],
 ) -> Answer
-    ensures { λ r. ⌜ Code.Replaced list (now (coefficients .entry)) (now (powers .entry)) k (now (element .entry)) r (now (coefficients .exit)) (now (powers .exit)) ⌝ }
+    ensures { λ r. ⌜ Code.Replaced list (lent (now (coefficients .entry)) (now (powers .entry))) k (now (element .entry)) r (lent (now (coefficients .exit)) (now (powers .exit))) ⌝ }
 {
     let number = call_fault(list, coefficients, powers, k, element.len());
     if number != 0 {

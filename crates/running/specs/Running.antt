@@ -3,7 +3,6 @@ use mathlib.Core.Bool.{Bool, not, cond}
 use mathlib.Core.List.{List, [], _∷_}
 use Prim.Native.Nat.{ℕ, _%_}
 use lib.Dec.{eqb, ltb}
-use lib.IntN.{ℤ}
 use lib.ListN.{length}
 use lib.Ieee.{Float}
 use Rattle.process_list.specs.declared.Kind.{Kind}
@@ -17,6 +16,7 @@ use Rattle.pixel_room.specs.Room.{rowsAt}
 use Rattle.pixel_run.specs.declared.Prepared.{Prepared}
 use Rattle.pixel_run.specs.declared.Prepared.the-variants as prepared
 use Rattle.pixel_run.specs.Prepare.{rangeFrom, cdlFrom}
+use Rattle.room.specs.Room.{Room}
 use Rattle.pixel_run.specs.Step.{stepPixel}
 use Rattle.pixel_run.specs.Each.{eachPixel}
 use Rattle.pixel_run.specs.Finite.{firstNotFinite}
@@ -26,14 +26,14 @@ use Rattle.running.specs.declared.Ran.{Ran}
 
 -- 'A prepared node is one of four kinds: Range with four and CDL with ten numbers, each carrying its own f64 parameters; Matrix and LUT1D with where their numbers stand.'
 -- The numbers stand in the room from `at` on
-unfoldable pub preparedAs : List ℤ → List ℤ → ℕ → Kind → Prepared
-preparedAs coefficients powers at (Matrix wide) = prepared.Matrix at wide
-preparedAs coefficients powers at (Lut1d entries columns) = prepared.Lut1d at entries columns
-preparedAs coefficients powers at (Range clamp) = rangeFrom coefficients powers at clamp
-preparedAs coefficients powers at (Cdl clamp) = cdlFrom coefficients powers at clamp
+unfoldable pub preparedAs : Room → ℕ → Kind → Prepared
+preparedAs m at (Matrix wide) = prepared.Matrix at wide
+preparedAs m at (Lut1d entries columns) = prepared.Lut1d at entries columns
+preparedAs m at (Range clamp) = rangeFrom m at clamp
+preparedAs m at (Cdl clamp) = cdlFrom m at clamp
 
-unfoldable pub preparedOf : List ℤ → List ℤ → Node → Prepared
-preparedOf coefficients powers n = preparedAs coefficients powers (n .at) (n .kind)
+unfoldable pub preparedOf : Room → Node → Prepared
+preparedOf m n = preparedAs m (n .at) (n .kind)
 
 -- 'For a Matrix its three rows of four are handed over by value'; the other kinds use no rows, and get rows of zeros
 abbrev pub zeroRow : List Float
@@ -42,26 +42,26 @@ zeroRow = F64.zero ∷ F64.zero ∷ F64.zero ∷ F64.zero ∷ []
 abbrev pub noRows : List (List Float)
 noRows = zeroRow ∷ zeroRow ∷ zeroRow ∷ []
 
-unfoldable pub rowsAs : List ℤ → List ℤ → Prepared → List (List Float)
-rowsAs coefficients powers (prepared.Matrix at wide) = rowsAt coefficients powers at wide
-rowsAs coefficients powers (prepared.Lut1d at entries columns) = noRows
-rowsAs coefficients powers (prepared.Range minIn maxIn minOut maxOut clamp) = noRows
-rowsAs coefficients powers (prepared.Cdl slopeR slopeG slopeB offsetR offsetG offsetB powerR powerG powerB sat clamp) = noRows
+unfoldable pub rowsAs : Room → Prepared → List (List Float)
+rowsAs m (prepared.Matrix at wide) = rowsAt m at wide
+rowsAs m (prepared.Lut1d at entries columns) = noRows
+rowsAs m (prepared.Range minIn maxIn minOut maxOut clamp) = noRows
+rowsAs m (prepared.Cdl slopeR slopeG slopeB offsetR offsetG offsetB powerR powerG powerB sat clamp) = noRows
 
-unfoldable pub rowsOf : List ℤ → List ℤ → Node → List (List Float)
-rowsOf coefficients powers n = rowsAs coefficients powers (preparedOf coefficients powers n)
+unfoldable pub rowsOf : Room → Node → List (List Float)
+rowsOf m n = rowsAs m (preparedOf m n)
 
 -- every pixel of a slice through one node, with the scales of the node's depths
-unfoldable pub runNode : List ℤ → List ℤ → Node → List Float → List Float
-runNode coefficients powers n xs =
+unfoldable pub runNode : Room → Node → List Float → List Float
+runNode m n xs =
     eachPixel
-    (stepPixel (preparedOf coefficients powers n) (rowsOf coefficients powers n) (scaleOf (n .input)) (scaleOf (n .output)) coefficients powers)
+    (stepPixel (preparedOf m n) (rowsOf m n) (scaleOf (n .input)) (scaleOf (n .output)) m)
     xs
 
 -- ---- all nodes, one after the other in the order of the list: what comes out of one goes into the next. 'Between nodes, and in the lent slice, it holds code values.'
-unfoldable pub runNodes : List ℤ → List ℤ → List Node → List Float → List Float
-runNodes coefficients powers [] xs = xs
-runNodes coefficients powers (n ∷ ns) xs = runNodes coefficients powers ns (runNode coefficients powers n xs)
+unfoldable pub runNodes : Room → List Node → List Float → List Float
+runNodes m [] xs = xs
+runNodes m (n ∷ ns) xs = runNodes m ns (runNode m n xs)
 
 -- ---- the answer of a call
 
@@ -78,16 +78,16 @@ abbrev pub ran : ℕ → ℕ → Ran
 ran number place = record { number = number; place = place }
 
 -- 'Running: 16, 14, 15 (lowest index)', and 0 is accepted; 'The place .. of 15, the index; .. of 0, 4, 14 and 16 to 19, 0'
-unfoldable pub ranOf : ProcessList → List ℤ → List ℤ → List Float → Ran
-ranOf list coefficients powers xs =
-    cond (not (isValid list coefficients powers)) (ran 16 0)
+unfoldable pub ranOf : ProcessList → Room → List Float → Ran
+ranOf list m xs =
+    cond (not (isValid list m)) (ran 16 0)
     (cond (notThrees xs) (ran 14 0)
     (cond (notFinite xs) (ran 15 (firstNotFinite xs))
     (ran 0 0)))
 
 -- the slice afterwards: 'overwritten' by what the nodes make of it; 'Any other refusal changes nothing'
-unfoldable pub pixelsOf : ProcessList → List ℤ → List ℤ → List Float → List Float
-pixelsOf list coefficients powers xs =
-    cond (eqb (ranOf list coefficients powers xs .number) 0)
-    (runNodes coefficients powers (nodesOf list) xs)
+unfoldable pub pixelsOf : ProcessList → Room → List Float → List Float
+pixelsOf list m xs =
+    cond (eqb (ranOf list m xs .number) 0)
+    (runNodes m (nodesOf list) xs)
     xs

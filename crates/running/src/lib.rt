@@ -1,6 +1,7 @@
 // Running pixels through a list (document 01, 'What a pixel goes through'): refusals 16, 14 and 15, then every node over the lent slice.
 ghost use mathlib.Core.Path.{_≡_};
 ghost use Rattle.process_list.specs.List as List;
+ghost use Rattle.room.specs.Room.{lent};
 ghost use Rattle.running.specs.Running as Spec;
 use pixel_run::Prepared;
 use process_list::Kind;
@@ -15,7 +16,7 @@ pub struct Ran {
 
 // A node of this kind whose numbers stand in the room from at on, prepared.
 fn prepared(kind: Kind, at: usize, coefficients: &[i64], powers: &[i8]) -> Prepared
-    ensures { λ r. ⌜ r ≡ Spec.preparedAs (now (coefficients .entry)) (now (powers .entry)) at kind ⌝ }
+    ensures { λ r. ⌜ r ≡ Spec.preparedAs (lent (now (coefficients .entry)) (now (powers .entry))) at kind ⌝ }
 {
     match kind {
         Kind::Matrix { wide } => Prepared::Matrix { at, wide },
@@ -31,7 +32,7 @@ fn prepared(kind: Kind, at: usize, coefficients: &[i64], powers: &[i8]) -> Prepa
 
 // The rows that are handed over beside a prepared node: a Matrix's, from where it says that they stand, and zeros for the other kinds.
 fn rows(step: Prepared, coefficients: &[i64], powers: &[i8]) -> [[f64; 4]; 3]
-    ensures { λ r. ⌜ r ≡ Spec.rowsAs (now (coefficients .entry)) (now (powers .entry)) step ⌝ }
+    ensures { λ r. ⌜ r ≡ Spec.rowsAs (lent (now (coefficients .entry)) (now (powers .entry))) step ⌝ }
 {
     if let Prepared::Matrix { at, wide } = step {
         return pixel_room::rows_from(coefficients, powers, at, wide);
@@ -45,7 +46,7 @@ fn rows(step: Prepared, coefficients: &[i64], powers: &[i8]) -> [[f64; 4]; 3]
 
 // One node over all pixels of the slice.
 fn run_one(node: Node, coefficients: &[i64], powers: &[i8], pixels: &mut [f64])
-    ensures { λ _. ⌜ now (pixels .exit) ≡ Spec.runNode (now (coefficients .entry)) (now (powers .entry)) node (now (pixels .entry)) ⌝ }
+    ensures { λ _. ⌜ now (pixels .exit) ≡ Spec.runNode (lent (now (coefficients .entry)) (now (powers .entry))) node (now (pixels .entry)) ⌝ }
 {
     let kind = node.kind;
     let at = node.at;
@@ -68,7 +69,7 @@ fn run_one(node: Node, coefficients: &[i64], powers: &[i8], pixels: &mut [f64])
 
 // The nodes of the list over the slice, one after the other.
 fn run_all(list: ProcessList, coefficients: &[i64], powers: &[i8], pixels: &mut [f64])
-    ensures { λ _. ⌜ now (pixels .exit) ≡ Spec.runNodes (now (coefficients .entry)) (now (powers .entry)) (List.nodesOf list) (now (pixels .entry)) ⌝ }
+    ensures { λ _. ⌜ now (pixels .exit) ≡ Spec.runNodes (lent (now (coefficients .entry)) (now (powers .entry))) (List.nodesOf list) (now (pixels .entry)) ⌝ }
 {
     let count = process_list::held(list);
     let mut k: usize = 0;
@@ -81,8 +82,8 @@ fn run_all(list: ProcessList, coefficients: &[i64], powers: &[i8], pixels: &mut 
 
 // Runs the pixels of the slice, three components a pixel, through the list; refused, nothing changes.
 pub fn run(list: ProcessList, coefficients: &[i64], powers: &[i8], pixels: &mut [f64]) -> Ran
-    ensures { λ r. ⌜ r ≡ Spec.ranOf list (now (coefficients .entry)) (now (powers .entry)) (now (pixels .entry)) ⌝ }
-    ensures { λ r. ⌜ now (pixels .exit) ≡ Spec.pixelsOf list (now (coefficients .entry)) (now (powers .entry)) (now (pixels .entry)) ⌝ }
+    ensures { λ r. ⌜ r ≡ Spec.ranOf list (lent (now (coefficients .entry)) (now (powers .entry))) (now (pixels .entry)) ⌝ }
+    ensures { λ r. ⌜ now (pixels .exit) ≡ Spec.pixelsOf list (lent (now (coefficients .entry)) (now (powers .entry))) (now (pixels .entry)) ⌝ }
 {
     if !valid::valid(list, coefficients, powers) {
         return Ran {

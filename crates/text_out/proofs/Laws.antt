@@ -4,6 +4,7 @@ use mathlib.Core.List.{List, [], _∷_, _++_, append-assoc}
 use Prim.Native.Nat.{ℕ, suc, _+_, _-_, _^_, _≤_, _<_, _/_, _%_}
 use native.Mathlib.Omega.{arith}
 use native.Mathlib.Numerals.{add-one}
+use native.Mathlib.Nat.{add-zero}
 use lib.ListN.{length, set, take, drop, getD, length-set, length-append, replicate}
 use lib.Seq.{drop-cons, drop-length, take-at}
 use Rattle.decimal.specs.declared.Decimal.{Decimal}
@@ -13,7 +14,13 @@ use Rattle.decimal_write.specs.declared.Text.{Text}
 use Rattle.decimal_write.specs.Layout.{textFrom, textOf}
 use Rattle.room.specs.Room.{laid}
 use Rattle.room.proofs.Laws.{stored-in, stored-out}
+use Rattle.room.proofs.Contents.{laid-none}
 use Rattle.text_out.specs.Output.{counted, Goes, Puts}
+
+-- an index that a usize holds is counted as it is
+pub counted-in : (n : ℕ) → n < 2 ^ 64 → counted n ≡ n
+unfolding counted
+counted-in n h = omega arith
 
 -- ---- pieces one after the other
 
@@ -52,6 +59,13 @@ puts-then {g = g} p q = record {
   size = q .size ∙ p .size;
 }
 
+-- what has been put, in plain words: the piece stands from `at` on, as far as the output goes, and r is the index behind it
+pub puts-is : {f : List ℕ → List ℕ} {at r : ℕ} {s s' : List ℕ} → Puts f at s s' r → r < 2 ^ 64 → (s' ≡ laid (length s) at (f []) s) × (r ≡ counted (at + length (f [])))
+puts-is {r = r} {s = s} {s' = s'} p h = (
+  sym (p .bytes [] ∙ laid-none (length s) r s'),
+  sym (p .next [] ∙ ap counted (add-zero r) ∙ counted-in r h),
+)
+
 -- ---- one byte
 
 -- beyond the output nothing changes
@@ -59,10 +73,6 @@ beyond : (n at : ℕ) (t s : List ℕ) → n ≤ at → laid n at t s ≡ s
 unfolding laid
 beyond n at [] s h = refl
 beyond n at (b ∷ t) s h = ap (laid n (at + 1) t) (sym (stored-out n at s b h)) ∙ beyond n (at + 1) t s (omega arith)
-
-pub counted-in : (n : ℕ) → n < 2 ^ 64 → counted n ≡ n
-unfolding counted
-counted-in n h = omega arith
 
 -- two counts in a row are one
 counted-both : (at k : ℕ) → at < 2 ^ 64 → counted (at + suc k) ≡ counted (counted (at + 1) + k)

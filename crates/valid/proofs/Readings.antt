@@ -2,7 +2,7 @@
 -- `made` has it one way, `parts` the other. Assumes nothing.
 use mathlib.Core.Path.{_≡_, refl, sym, ap, _∙_}
 use mathlib.Core.Bool.{Bool, true, false, _&&_}
-use mathlib.Core.List.{List, [], _∷_, _++_, map, append-assoc}
+use mathlib.Core.List.{List, [], _∷_, _++_, map, map-append, append-assoc}
 use Prim.Native.Nat.{ℕ, zero, suc, _+_, _-_, _≤_}
 use native.Mathlib.Omega.{arith}
 use borrow.Author.Tests.{eqb-true, eq-eqb}
@@ -18,13 +18,15 @@ use Rattle.process_list.specs.declared.Depth.the-variants.{I8}
 use Rattle.process_list.specs.declared.Node.{Node}
 use Rattle.process_list.specs.declared.ProcessList.{ProcessList}
 use Rattle.process_list.specs.declared.Verdict.the-variants.{Accepted}
-use Rattle.process_list.specs.List.{Element, mostNodes, numbersOf, nodeOf, unplaced, standing, total, placeFrom, placed, blankNode, listOf, nodesOf, judged, verdict, sameDepth, allNumbers, coefficientsOf, powersOf}
-use Rattle.process_list.proofs.Laws.{same-depth-refl}
+use Rattle.process_list.specs.List.{Element, mostNodes, numbersOf, nodeOf, unplaced, standing, total, placeFrom, placed, capped, blankNode, listOf, nodesOf, judged, verdict, sameDepth, allNumbers}
+use Rattle.process_list.proofs.Laws.{same-depth-refl, capped-exact}
 use Rattle.process_list.proofs.Lists.{same-depth, list-nodes, list-count, list-is, place-judged, total-place, heads-length, placed-length, accepted-fine, Fine}
-use Rattle.room.specs.Room.{roomLength, filled}
-use Rattle.room.proofs.Contents.{filled-length, filled-run}
-use Rattle.valid.specs.Valid.{every, pairs, numbersAt, elementOf, elementsOf, sound, shapeRight, carried, rulesHold, gapless, isBlank, isSmallMatrix, listRight, isZero, restZero, isValid}
-use Rattle.valid.proofs.Elements.{both-true, Right, right-parts, right-made, right-holds}
+use Rattle.room.specs.Room.{Room, roomLength, filled, filledWith, coefficientParts, powerParts}
+use Rattle.room.proofs.Contents.{filled-run}
+use Rattle.room.proofs.Rooms.{same-room, length-at-most, filled-room}
+use Rattle.valid.specs.Valid.{every, pairs, numbersAt, elementOf, elementsOf, sound, shapeRight, carried, rulesHold, gapless, isBlank, isBlankList, isSmallMatrix, isZero, restZero, zeroFrom, isValid}
+use Rattle.valid.proofs.Laws.{numbers-length}
+use Rattle.valid.proofs.Elements.{both-true, Right, right-made, right-few, right-holds, Holds, valid-parts, valid-made}
 
 -- ---- lists of tests
 pub every-cons : {A : Type 0} (p : A → Bool) (x : A) (xs : List A) → every p (x ∷ xs) ≡ true → (p x ≡ true) × (every p xs ≡ true)
@@ -66,20 +68,10 @@ all-length (e ∷ es) h =
     rw (length-append, head-kind) (omega arith)
 
 -- ---- coefficients and powers side by side
-coefs : List Decimal → List ℤ
-coefs xs = map (λ (d : Decimal). d .coefficient) xs
-
-pows : List Decimal → List ℤ
-pows xs = map (λ (d : Decimal). d .power) xs
-
-pairs-back : (xs : List Decimal) → pairs (coefs xs) (pows xs) ≡ xs
-unfolding pairs coefs pows
+pairs-back : (xs : List Decimal) → pairs (coefficientParts xs) (powerParts xs) ≡ xs
+unfolding pairs
 pairs-back [] = refl
 pairs-back (x ∷ xs) = ap (λ (l : List Decimal). x ∷ l) (pairs-back xs)
-
-map-append : {A B : Type 0} (f : A → B) (xs ys : List A) → map f (xs ++ ys) ≡ map f xs ++ map f ys
-map-append f [] ys = refl
-map-append f (x ∷ xs) ys = ap (λ (l : List _). f x ∷ l) (map-append f xs ys)
 
 -- three runs, one part f of each number
 pub parts-of : (f : Decimal → ℤ) (x o y : List Decimal) → map f (x ++ o ++ y) ≡ map f x ++ map f o ++ map f y
@@ -109,12 +101,12 @@ gapless-place a [] = refl
 gapless-place a (n ∷ ns) = simp (eq-eqb _ _ (stands-at a n), stands-kind a n, gapless-place (a + numbersOf (n .kind)) ns)
 
 -- ---- blank nodes
-blank-is : isBlank blankNode ≡ true
+pub blank-is : isBlank blankNode ≡ true
 unfolding isBlank blankNode unplaced
 blank-is = simp (same-depth-refl I8)
 
 -- ---- zeros behind the numbers
-rest-filled : (n : ℕ) (xs s : List ℤ) → length xs ≤ n → restZero n (length xs) (filled n (pos 0) xs s) ≡ true
+pub rest-filled : (n : ℕ) (xs s : List ℤ) → length xs ≤ n → restZero n (length xs) (filled n (pos 0) xs s) ≡ true
 unfolding restZero filled
 rest-filled n xs s h =
     let r : List ℤ = replicate (n - length xs) (pos 0) in
@@ -122,20 +114,32 @@ rest-filled n xs s h =
     rw (t, drop-at xs r (length xs) refl) (every-replicate isZero (n - length xs) (pos 0) refl)
 
 -- ---- what a reading leaves
-module _ (n : ℕ) (cs ps : List ℤ) where
+module _ (m : Room) where
+  -- the zeros behind the numbers
+  pub filled-zero : (xs : List Decimal) → length xs ≤ roomLength m → zeroFrom (length xs) (filledWith xs m) ≡ true
+  unfolding zeroFrom filledWith
+  filled-zero xs h =
+      let n : roomLength (filledWith xs m) ≡ roomLength m = filled-room xs m h in
+      let c = rw length-map at (rest-filled (roomLength m) (coefficientParts xs) (m .coefficients) (rw length-map h)) in
+      let p = rw length-map at (rest-filled (roomLength m) (powerParts xs) (m .powers) (rw length-map h)) in
+      simp (n, c, p)
+
   -- the numbers o, between x and y
-  numbers-back : (x o y : List Decimal) → numbersAt (filled n (pos 0) (coefs (x ++ o ++ y)) cs) (filled n (pos 0) (pows (x ++ o ++ y)) ps) (length x) (length o) ≡ o
-  unfolding numbersAt coefs pows
-  numbers-back x o y = rw (part (λ (d : Decimal). d .coefficient) n x o y cs, part (λ (d : Decimal). d .power) n x o y ps) (pairs-back o)
+  numbers-back : (x o y : List Decimal) → numbersAt (filledWith (x ++ o ++ y) m) (length x) (length o) ≡ o
+  unfolding numbersAt filledWith
+  numbers-back x o y =
+      let c = part (λ (d : Decimal). d .coefficient) (roomLength m) x o y (m .coefficients) in
+      let p = part (λ (d : Decimal). d .power) (roomLength m) x o y (m .powers) in
+      rw (c, p) (pairs-back o)
 
   element-back : (x : List Decimal) (e : Element) (y : List Decimal) → length (e .numbers) ≡ numbersOf (e .kind)
-      → elementOf (filled n (pos 0) (coefs (x ++ e .numbers ++ y)) cs) (filled n (pos 0) (pows (x ++ e .numbers ++ y)) ps) (standing (length x) (nodeOf e)) ≡ e
+      → elementOf (filledWith (x ++ e .numbers ++ y) m) (standing (length x) (nodeOf e)) ≡ e
   unfolding elementOf standing nodeOf unplaced
   element-back x e y w = rw (← w, numbers-back x (e .numbers) y) refl
 
   -- the elements that stand behind the numbers x
   elements-back : (x : List Decimal) (es : List Element) → every sound es ≡ true
-      → map (elementOf (filled n (pos 0) (coefs (x ++ allNumbers es)) cs) (filled n (pos 0) (pows (x ++ allNumbers es)) ps)) (placeFrom (length x) (map nodeOf es)) ≡ es
+      → map (elementOf (filledWith (x ++ allNumbers es) m)) (placeFrom (length x) (map nodeOf es)) ≡ es
   unfolding allNumbers placeFrom
   elements-back x [] h = refl
   elements-back x (e ∷ es) h =
@@ -145,10 +149,10 @@ module _ (n : ℕ) (cs ps : List ℤ) where
       let l : length x + numbersOf (nodeOf e .kind) ≡ length (x ++ e .numbers) = rw (head-kind, length-append) (omega arith) in
       rw (a, l, element-back x e (allNumbers es) w, elements-back (x ++ e .numbers) es (p .1)) refl
 
-  module _ (es : List Element) (s : every sound es ≡ true) (v : verdict n es ≡ Accepted) where
-    fine : Fine n (map nodeOf es)
+  module _ (es : List Element) (s : every sound es ≡ true) (v : verdict (roomLength m) es ≡ Accepted) where
+    fine : Fine (roomLength m) (map nodeOf es)
     unfolding verdict
-    fine = accepted-fine n (map nodeOf es) v
+    fine = accepted-fine (roomLength m) (map nodeOf es) v
 
     few : length es ≤ mostNodes
     few = rw heads-length at (fine .few)
@@ -167,57 +171,39 @@ module _ (n : ℕ) (cs ps : List ℤ) where
         let d = drop-at (placed es) (replicate (mostNodes - length (placed es)) blankNode) (length (placed es)) refl in
         rw (list-is (placed es) (omega (arith, few)), d) (every-replicate isBlank (mostNodes - length (placed es)) blankNode blank-is)
 
-    left-right : Right left-list n
+    left-right : Right left-list (roomLength m)
     unfolding placed left-list verdict
     left-right =
         record {
           few = rw (list-count (placed es) (rw placed-length few), placed-length) few;
-          accepted = rw left-nodes (place-judged n 0 (map nodeOf es) ∙ v);
+          accepted = rw left-nodes (place-judged (roomLength m) 0 (map nodeOf es) ∙ v);
           placed = rw left-nodes (gapless-place 0 (map nodeOf es));
           blank = left-blank;
         }
 
-    numbers-few : length (allNumbers es) ≤ n
+    numbers-few : length (allNumbers es) ≤ roomLength m
     numbers-few = let f = fine in rw (all-length es s) (omega arith)
 
     left-total : total (nodesOf left-list) ≡ length (allNumbers es)
     unfolding placed
     left-total = rw left-nodes (total-place 0 (map nodeOf es) ∙ sym (all-length es s))
 
-    left-coefficients : List ℤ
-    left-coefficients = filled n (pos 0) (coefficientsOf es) cs
+    -- the count of all numbers, as the code keeps it, is exact
+    pub used-placed : capped (total (nodesOf (listOf (placed es)))) ≡ length (allNumbers es)
+    unfolding left-list
+    used-placed = let f = fine in let e = left-total in let a = all-length es s in capped-exact _ (omega arith) ∙ left-total
 
-    left-powers : List ℤ
-    left-powers = filled n (pos 0) (powersOf es) ps
-
-    length-coefficients : length (coefficientsOf es) ≡ length (allNumbers es)
-    unfolding coefficientsOf
-    length-coefficients = length-map (allNumbers es) _
-
-    length-powers : length (powersOf es) ≡ length (allNumbers es)
-    unfolding powersOf
-    length-powers = length-map (allNumbers es) _
-
-    left-elements : elementsOf left-list left-coefficients left-powers ≡ es
-    unfolding elementsOf left-coefficients left-powers coefficientsOf powersOf placed coefs pows
+    pub left-elements : elementsOf (listOf (placed es)) (filledWith (allNumbers es) m) ≡ es
+    unfolding elementsOf placed left-list
     left-elements = rw left-nodes (elements-back [] es s)
 
-    module _ (e : n ≡ roomLength cs ps) where
-      left-room : roomLength left-coefficients left-powers ≡ n
-      unfolding roomLength left-coefficients left-powers
-      left-room =
-          let k = numbers-few in
-          let lc = filled-length n (pos 0) (coefficientsOf es) cs (rw length-coefficients k) (omega arith) in
-          let lp = filled-length n (pos 0) (powersOf es) ps (rw length-powers k) (omega arith) in
-          omega arith
-
-      pub made : isValid (listOf (placed es)) (filled n (pos 0) (coefficientsOf es) cs) (filled n (pos 0) (powersOf es) ps) ≡ true
-      unfolding isValid left-list left-coefficients left-powers
-      made =
-          let k = numbers-few in
-          let zc : restZero n (length (allNumbers es)) left-coefficients ≡ true = rw length-coefficients at (rest-filled n (coefficientsOf es) cs (rw length-coefficients k)) in
-          let zp : restZero n (length (allNumbers es)) left-powers ≡ true = rw length-powers at (rest-filled n (powersOf es) ps (rw length-powers k)) in
-          simp (left-room, left-total, left-elements, right-made left-list n left-right, s, zc, zp)
+    pub made : isValid (listOf (placed es)) (filledWith (allNumbers es) m) ≡ true
+    unfolding left-list
+    made =
+        let n = filled-room (allNumbers es) m numbers-few in
+        let z = filled-zero (allNumbers es) numbers-few in
+        valid-made (listOf (placed es)) (filledWith (allNumbers es) m)
+        (record { list = rw n left-right; sounds = rw left-elements s; rest = rw left-total z })
 
 -- ---- what is valid is what a reading leaves
 stands-there : (a : ℕ) (n : Node) → n .at ≡ a → standing a n ≡ n
@@ -232,16 +218,16 @@ gapless-placed a (n ∷ ns) h =
     rw (stands-there a n (eqb-true (n .at) a (p .0)), gapless-placed (a + numbersOf (n .kind)) ns (p .1)) refl
 
 -- a node's element gives its node back, but for the position
-module _ (cs ps : List ℤ) where
-  stands-back : (a : ℕ) (n : Node) → standing a (nodeOf (elementOf cs ps n)) ≡ standing a n
+module _ (m : Room) where
+  stands-back : (a : ℕ) (n : Node) → standing a (nodeOf (elementOf m n)) ≡ standing a n
   unfolding standing nodeOf unplaced elementOf
   stands-back a n = refl
 
-  kind-back : (n : Node) → nodeOf (elementOf cs ps n) .kind ≡ n .kind
+  kind-back : (n : Node) → nodeOf (elementOf m n) .kind ≡ n .kind
   unfolding nodeOf unplaced elementOf
   kind-back n = refl
 
-  place-back : (a : ℕ) (ns : List Node) → placeFrom a (map nodeOf (map (elementOf cs ps) ns)) ≡ placeFrom a ns
+  place-back : (a : ℕ) (ns : List Node) → placeFrom a (map nodeOf (map (elementOf m) ns)) ≡ placeFrom a ns
   unfolding placeFrom
   place-back a [] = refl
   place-back a (n ∷ ns) = rw (stands-back a n, kind-back n, place-back (a + numbersOf (n .kind)) ns) refl
@@ -265,7 +251,7 @@ blank-node-is : blankNode ≡ node (Matrix false) I8 I8 0
 unfolding node blankNode unplaced
 blank-node-is = refl
 
-blank-only : (n : Node) → isBlank n ≡ true → n ≡ blankNode
+pub blank-only : (n : Node) → isBlank n ≡ true → n ≡ blankNode
 unfolding isBlank
 blank-only n h =
     let a = isSmallMatrix (n .kind) in
@@ -281,15 +267,31 @@ blank-only n h =
     node-is n ∙ (rw (k, i, o, z) (sym blank-node-is))
 
 -- where every one is a, the list repeats a
-every-same : {A : Type 0} (p : A → Bool) (a : A) → ((x : A) → p x ≡ true → x ≡ a) → (xs : List A) → every p xs ≡ true → xs ≡ replicate (length xs) a
+pub every-same : {A : Type 0} (p : A → Bool) (a : A) → ((x : A) → p x ≡ true → x ≡ a) → (xs : List A) → every p xs ≡ true → xs ≡ replicate (length xs) a
 every-same p a f [] h = refl
 every-same p a f (x ∷ xs) h =
     let q = every-cons p x xs h in
     rw (← every-same p a f xs (q .1), f x (q .0)) refl
 
-zero-only : (z : ℤ) → isZero z ≡ true → z ≡ pos 0
+pub zero-only : (z : ℤ) → isZero z ≡ true → z ≡ pos 0
 zero-only (pos n) h = ap pos (eqb-true n 0 h)
 zero-only (negsuc n) h = absurd (let e : suc n ≡ 0 = eqb-true (suc n) 0 h in omega arith)
+
+-- the list of no nodes is one
+same-list : {a b : ℕ} {xs ys : List Node} → a ≡ b → xs ≡ ys → _≡_ {A = ProcessList} (record { count = a; nodes = xs }) (record { count = b; nodes = ys })
+same-list e f = cc
+
+pub blank-list-is : (l : ProcessList) → length (l .nodes) ≡ mostNodes → isBlankList l ≡ true → l ≡ listOf []
+unfolding isBlankList
+blank-list-is l array h =
+    let p = both-true (eqb (l .count) 0) (every isBlank (l .nodes)) h in
+    let c = eqb-true (l .count) 0 (p .0) in
+    let n : l .nodes ≡ replicate mostNodes blankNode = rw array at (every-same isBlank blankNode blank-only (l .nodes) (p .1)) in
+    same-list c n ∙ sym (list-is [] (omega arith))
+
+pub blank-list : isBlankList (listOf []) ≡ true
+unfolding isBlankList
+blank-list = rw (list-is [] (omega arith)) (every-replicate isBlank mostNodes blankNode blank-is)
 
 -- ---- the numbers of a run, part by part
 pairs-append : (xs ys us vs : List ℤ) → length xs ≡ length ys → pairs (xs ++ us) (ys ++ vs) ≡ pairs xs ys ++ pairs us vs
@@ -299,48 +301,49 @@ pairs-append [] (b ∷ ys) us vs h = absurd (omega arith)
 pairs-append (a ∷ xs) [] us vs h = absurd (omega arith)
 pairs-append (a ∷ xs) (b ∷ ys) us vs h = ap (λ (l : List Decimal). record { coefficient = a; power = b } ∷ l) (pairs-append xs ys us vs (omega arith))
 
-coefs-pairs : (xs ys : List ℤ) → length xs ≡ length ys → coefs (pairs xs ys) ≡ xs
-unfolding pairs coefs
-coefs-pairs [] ys h = refl
-coefs-pairs (a ∷ xs) [] h = absurd (omega arith)
-coefs-pairs (a ∷ xs) (b ∷ ys) h = ap (λ (l : List ℤ). a ∷ l) (coefs-pairs xs ys (omega arith))
+coefficients-pairs : (xs ys : List ℤ) → length xs ≡ length ys → coefficientParts (pairs xs ys) ≡ xs
+unfolding pairs
+coefficients-pairs [] ys h = refl
+coefficients-pairs (a ∷ xs) [] h = absurd (omega arith)
+coefficients-pairs (a ∷ xs) (b ∷ ys) h = ap (λ (l : List ℤ). a ∷ l) (coefficients-pairs xs ys (omega arith))
 
-pows-pairs : (xs ys : List ℤ) → length xs ≡ length ys → pows (pairs xs ys) ≡ ys
-unfolding pairs pows
-pows-pairs [] [] h = refl
-pows-pairs [] (b ∷ ys) h = absurd (omega arith)
-pows-pairs (a ∷ xs) [] h = absurd (omega arith)
-pows-pairs (a ∷ xs) (b ∷ ys) h = ap (λ (l : List ℤ). b ∷ l) (pows-pairs xs ys (omega arith))
+powers-pairs : (xs ys : List ℤ) → length xs ≡ length ys → powerParts (pairs xs ys) ≡ ys
+unfolding pairs
+powers-pairs [] [] h = refl
+powers-pairs [] (b ∷ ys) h = absurd (omega arith)
+powers-pairs (a ∷ xs) [] h = absurd (omega arith)
+powers-pairs (a ∷ xs) (b ∷ ys) h = ap (λ (l : List ℤ). b ∷ l) (powers-pairs xs ys (omega arith))
 
-module _ (cs ps : List ℤ) where
-  numbers-split : (a k m : ℕ) → a + (k + m) ≤ length cs → a + (k + m) ≤ length ps → numbersAt cs ps a (k + m) ≡ numbersAt cs ps a k ++ numbersAt cs ps (a + k) m
-  unfolding numbersAt
-  numbers-split a k m h i =
+module _ (m : Room) where
+  numbers-split : (a k j : ℕ) → a + (k + j) ≤ roomLength m → numbersAt m a (k + j) ≡ numbersAt m a k ++ numbersAt m (a + k) j
+  unfolding numbersAt roomLength
+  numbers-split a k j h =
+      let cs = m .coefficients in
+      let ps = m .powers in
       let l : length (take k (drop a cs)) ≡ length (take k (drop a ps)) = simp (length-take, length-drop) (omega arith) in
-      rw (take-add k m (drop a cs), take-add k m (drop a ps), drop-drop k a cs, drop-drop k a ps)
-      (pairs-append (take k (drop a cs)) (take k (drop a ps)) (take m (drop (a + k) cs)) (take m (drop (a + k) ps)) l)
+      rw (take-add k j (drop a cs), take-add k j (drop a ps), drop-drop k a cs, drop-drop k a ps)
+      (pairs-append (take k (drop a cs)) (take k (drop a ps)) (take j (drop (a + k) cs)) (take j (drop (a + k) ps)) l)
 
-  element-numbers : (n : Node) → elementOf cs ps n .numbers ≡ numbersAt cs ps (n .at) (numbersOf (n .kind))
+  element-numbers : (n : Node) → elementOf m n .numbers ≡ numbersAt m (n .at) (numbersOf (n .kind))
   unfolding elementOf
   element-numbers n = refl
 
-  numbers-none : (a : ℕ) → numbersAt cs ps a 0 ≡ []
+  pub numbers-none : (a : ℕ) → numbersAt m a 0 ≡ []
   unfolding numbersAt pairs
   numbers-none a = refl
 
   -- without gaps, the elements' numbers are the room's, from the first node's position on
-  all-numbers : (a : ℕ) (ns : List Node) → gapless a ns ≡ true → a + total ns ≤ length cs → a + total ns ≤ length ps
-      → allNumbers (map (elementOf cs ps) ns) ≡ numbersAt cs ps a (total ns)
+  all-numbers : (a : ℕ) (ns : List Node) → gapless a ns ≡ true → a + total ns ≤ roomLength m → allNumbers (map (elementOf m) ns) ≡ numbersAt m a (total ns)
   unfolding allNumbers gapless total
-  all-numbers a [] g h i = sym (numbers-none a)
-  all-numbers a (n ∷ ns) g h i =
+  all-numbers a [] g h = sym (numbers-none a)
+  all-numbers a (n ∷ ns) g h =
       let p = both-true (eqb (n .at) a) (gapless (a + numbersOf (n .kind)) ns) g in
       let e = eqb-true (n .at) a (p .0) in
-      let r = all-numbers (a + numbersOf (n .kind)) ns (p .1) (omega arith) (omega arith) in
-      rw (element-numbers n, e, r) (sym (numbers-split a (numbersOf (n .kind)) (total ns) h i))
+      let r = all-numbers (a + numbersOf (n .kind)) ns (p .1) (omega arith) in
+      rw (element-numbers n, e, r) (sym (numbers-split a (numbersOf (n .kind)) (total ns) h))
 
--- ---- a room of which t numbers are used and the rest is zero
-room-filled : (n t : ℕ) (s : List ℤ) → t ≤ n → n ≤ length s → restZero n t s ≡ true → s ≡ filled n (pos 0) (take t s) s
+-- ---- a room of which t numbers are used and the rest is zero: one slice, then the whole
+pub room-filled : (n t : ℕ) (s : List ℤ) → t ≤ n → n ≤ length s → restZero n t s ≡ true → s ≡ filled n (pos 0) (take t s) s
 unfolding restZero filled
 room-filled n t s h k z =
     let r : drop t (take n s) ≡ replicate (length (drop t (take n s))) (pos 0) = every-same isZero (pos 0) zero-only (drop t (take n s)) z in
@@ -351,35 +354,49 @@ room-filled n t s h k z =
     let d : take t s ++ replicate (n - length (take t s)) (pos 0) ≡ take n s = rw (← l, ← r, ← a) b in
     rw d (sym c)
 
+pub zero-filled : (m : Room) (t : ℕ) → t ≤ roomLength m → zeroFrom t m ≡ true → m ≡ filledWith (numbersAt m 0 t) m
+unfolding zeroFrom filledWith numbersAt
+zero-filled m t h z =
+    let n = roomLength m in
+    let l = length-at-most m in
+    let p = both-true (restZero n t (m .coefficients)) (restZero n t (m .powers)) z in
+    let e : length (take t (m .coefficients)) ≡ length (take t (m .powers)) = simp length-take (omega arith) in
+    same-room
+    (rw (coefficients-pairs (take t (m .coefficients)) (take t (m .powers)) e) (room-filled n t (m .coefficients) h (l .0) (p .0)))
+    (rw (powers-pairs (take t (m .coefficients)) (take t (m .powers)) e) (room-filled n t (m .powers) h (l .1) (p .1)))
+
 -- what is valid: the list and the room that a reading of these elements leaves
-pub record Reading (l : ProcessList) (cs ps : List ℤ) (es : List Element) : Type 0 where
+pub record Reading (l : ProcessList) (m : Room) (es : List Element) : Type 0 where
   pub list : l ≡ listOf (placed es)
-  pub coefficients : cs ≡ filled (roomLength cs ps) (pos 0) (coefficientsOf es) cs
-  pub powers : ps ≡ filled (roomLength cs ps) (pos 0) (powersOf es) ps
-  pub accepted : verdict (roomLength cs ps) es ≡ Accepted
+  pub room : m ≡ filledWith (allNumbers es) m
+  pub accepted : verdict (roomLength m) es ≡ Accepted
   pub sounds : every sound es ≡ true
 
-module _ (l : ProcessList) (cs ps : List ℤ) (array : length (l .nodes) ≡ 32) (h : isValid l cs ps ≡ true) where
-  room : ℕ
-  room = roomLength cs ps
+module _ (l : ProcessList) (m : Room) (h : isValid l m ≡ true) where
+  holds : Holds l m
+  holds = valid-parts l m h
 
-  tests : (listRight l room ≡ true) × (every sound (elementsOf l cs ps) ≡ true) × (restZero room (total (nodesOf l)) cs ≡ true) × (restZero room (total (nodesOf l)) ps ≡ true)
-  unfolding isValid room
-  tests =
-      let a = listRight l (roomLength cs ps) in
-      let b = every sound (elementsOf l cs ps) in
-      let c = restZero (roomLength cs ps) (total (nodesOf l)) cs in
-      let p = both-true (a && b && c) (restZero (roomLength cs ps) (total (nodesOf l)) ps) h in
-      let q = both-true (a && b) c (p .0) in
-      let r = both-true a b (q .0) in
-      (r .0, r .1, q .1, p .1)
+  inside : total (nodesOf l) ≤ roomLength m
+  inside = right-holds l (roomLength m) (holds .list)
 
-  right : Right l room
-  right = right-parts l room (tests .0)
+  numbers-are : allNumbers (elementsOf l m) ≡ numbersAt m 0 (total (nodesOf l))
+  unfolding elementsOf
+  numbers-are = let i = inside in all-numbers m 0 (nodesOf l) (holds .list .placed) (omega arith)
 
-  back : placed (elementsOf l cs ps) ≡ nodesOf l
+  -- the count of its numbers, as the code keeps it, is exact
+  pub used-is : capped (total (nodesOf l)) ≡ length (allNumbers (elementsOf l m))
+  used-is =
+      let i = inside in
+      let e : length (numbersAt m 0 (total (nodesOf l))) ≡ total (nodesOf l) = numbers-length m 0 (total (nodesOf l)) (omega arith) in
+      capped-exact _ (right-few l (roomLength m) (holds .list)) ∙ sym e ∙ ap length (sym numbers-are)
+
+module _ (l : ProcessList) (m : Room) (array : length (l .nodes) ≡ 32) (h : isValid l m ≡ true) where
+  right : Right l (roomLength m)
+  right = valid-parts l m h .list
+
+  back : placed (elementsOf l m) ≡ nodesOf l
   unfolding placed elementsOf
-  back = place-back cs ps 0 (nodesOf l) ∙ gapless-placed 0 (nodesOf l) (right .placed)
+  back = place-back m 0 (nodesOf l) ∙ gapless-placed 0 (nodesOf l) (right .placed)
 
   held : length (nodesOf l) ≡ l .count
   unfolding nodesOf
@@ -395,53 +412,25 @@ module _ (l : ProcessList) (cs ps : List ℤ) (array : length (l .nodes) ≡ 32)
   list-back : l ≡ listOf (nodesOf l)
   list-back = let r = right .few in rw (list-is (nodesOf l) (omega (arith, held)), nodes-back, held) refl
 
-  inside : (total (nodesOf l) ≤ length cs) × (total (nodesOf l) ≤ length ps) × (total (nodesOf l) ≤ room)
-  unfolding room roomLength
-  inside = let r = right-holds l room right in (omega arith, omega arith, r)
-
-  numbers-are : allNumbers (elementsOf l cs ps) ≡ pairs (take (total (nodesOf l)) cs) (take (total (nodesOf l)) ps)
-  unfolding elementsOf numbersAt
-  numbers-are =
-      let i = inside in
-      all-numbers cs ps 0 (nodesOf l) (right .placed) (omega arith) (omega arith)
-
-  same-length : length (take (total (nodesOf l)) cs) ≡ length (take (total (nodesOf l)) ps)
-  same-length = let i = inside in simp length-take (omega arith)
-
-  coefficients-are : coefficientsOf (elementsOf l cs ps) ≡ take (total (nodesOf l)) cs
-  unfolding coefficientsOf coefs
-  coefficients-are = ap coefs numbers-are ∙ coefs-pairs _ _ same-length
-
-  powers-are : powersOf (elementsOf l cs ps) ≡ take (total (nodesOf l)) ps
-  unfolding powersOf pows
-  powers-are = ap pows numbers-are ∙ pows-pairs _ _ same-length
-
-  accepted-back : verdict room (elementsOf l cs ps) ≡ Accepted
+  accepted-back : verdict (roomLength m) (elementsOf l m) ≡ Accepted
   unfolding verdict placed
-  accepted-back = sym (place-judged room 0 (map nodeOf (elementsOf l cs ps))) ∙ ap (judged room) back ∙ right .accepted
+  accepted-back = sym (place-judged (roomLength m) 0 (map nodeOf (elementsOf l m))) ∙ ap (judged (roomLength m)) back ∙ right .accepted
 
-  pub parts : Reading l cs ps (elementsOf l cs ps)
-  unfolding room roomLength
+  pub parts : Reading l m (elementsOf l m)
   parts =
-      let i = inside in
+      let v = valid-parts l m h in
       record {
         list = list-back ∙ ap listOf (sym back);
-        coefficients = rw coefficients-are (room-filled room (total (nodesOf l)) cs (i .2) (omega arith) (tests .2));
-        powers = rw powers-are (room-filled room (total (nodesOf l)) ps (i .2) (omega arith) (tests .3));
+        room = zero-filled m (total (nodesOf l)) (inside l m h) (v .rest) ∙ ap (λ (xs : List Decimal). filledWith xs m) (sym (numbers-are l m h));
         accepted = accepted-back;
-        sounds = tests .1;
+        sounds = v .sounds;
       }
 
 -- ---- the two together
-module _ (l : ProcessList) (cs ps : List ℤ) (es : List Element) (r : Reading l cs ps es) where
-  pub reading-valid : isValid l cs ps ≡ true
-  reading-valid =
-      let m = made (roomLength cs ps) cs ps es (r .sounds) (r .accepted) refl in
-      cc
+module _ (l : ProcessList) (m : Room) (es : List Element) (r : Reading l m es) where
+  pub reading-valid : isValid l m ≡ true
+  reading-valid = let v = made m es (r .sounds) (r .accepted) in cc
 
   -- list and room say which elements were read
-  pub reading-elements : elementsOf l cs ps ≡ es
-  unfolding left-list left-coefficients left-powers
-  reading-elements =
-      let m = left-elements (roomLength cs ps) cs ps es (r .sounds) (r .accepted) in
-      cc
+  pub reading-elements : elementsOf l m ≡ es
+  reading-elements = let e = left-elements m es (r .sounds) (r .accepted) in cc

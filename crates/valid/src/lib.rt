@@ -4,6 +4,7 @@ ghost use mathlib.Core.Bool.{_&&_};
 ghost use Prim.Native.Nat.{_+_, _≤_, _<_};
 ghost use lib.ListN.{length, drop};
 ghost use Rattle.process_list.specs.List as List;
+ghost use Rattle.room.specs.Room as Room;
 ghost use Rattle.valid.specs.Valid as Spec;
 use decimal::Decimal;
 use process_list::Depth;
@@ -72,6 +73,16 @@ fn blank_behind(list: ProcessList) -> bool
         k += 1;
     }
     true
+}
+
+// Whether this is the list of no nodes, as a refused reading leaves it.
+pub fn is_blank_list(list: ProcessList) -> bool
+    ensures { λ r. ⌜ r ≡ Spec.isBlankList list ⌝ }
+{
+    if list.count != 0 {
+        return false;
+    }
+    blank_behind(list)
 }
 
 // Whether the numbers of each node begin where those before it end.
@@ -152,8 +163,8 @@ fn is_carried(number: Decimal) -> bool
 
 // The number at an index.
 fn number_at(coefficients: &[i64], powers: &[i8], k: usize) -> Decimal
-    requires { ⌜ (k < length (now coefficients)) × (k < length (now powers)) ⌝ }
-    ensures { λ r. ⌜ r ≡ Spec.numberAt (now (coefficients .entry)) (now (powers .entry)) k ⌝ }
+    requires { ⌜ k < Room.roomLength (Room.lent (now coefficients) (now powers)) ⌝ }
+    ensures { λ r. ⌜ r ≡ Spec.numberAt (Room.lent (now (coefficients .entry)) (now (powers .entry))) k ⌝ }
 {
     let coefficient = coefficients[k];
     let power = powers[k];
@@ -162,8 +173,8 @@ fn number_at(coefficients: &[i64], powers: &[i8], k: usize) -> Decimal
 
 // Whether the `count` numbers from index `at` on are all of our form.
 fn all_carried(coefficients: &[i64], powers: &[i8], at: usize, count: usize) -> bool
-    requires { ⌜ (at + count ≤ length (now coefficients)) × (at + count ≤ length (now powers)) ⌝ }
-    ensures { λ r. ⌜ r ≡ Spec.every Spec.carried (Spec.numbersAt (now (coefficients .entry)) (now (powers .entry)) at count) ⌝ }
+    requires { ⌜ at + count ≤ Room.roomLength (Room.lent (now coefficients) (now powers)) ⌝ }
+    ensures { λ r. ⌜ r ≡ Spec.every Spec.carried (Spec.numbersAt (Room.lent (now (coefficients .entry)) (now (powers .entry))) at count) ⌝ }
 {
     let end = at + count;
     let mut k = at;
@@ -178,8 +189,8 @@ fn all_carried(coefficients: &[i64], powers: &[i8], at: usize, count: usize) -> 
 
 // Whether the rules on a Range's numbers hold.
 fn range_holds(coefficients: &[i64], powers: &[i8], at: usize) -> bool
-    requires { ⌜ (at + 4 ≤ length (now coefficients)) × (at + 4 ≤ length (now powers)) ⌝ }
-    ensures { λ r. ⌜ r ≡ Spec.rangeHolds (Spec.numbersAt (now (coefficients .entry)) (now (powers .entry)) at 4) ⌝ }
+    requires { ⌜ at + 4 ≤ Room.roomLength (Room.lent (now coefficients) (now powers)) ⌝ }
+    ensures { λ r. ⌜ r ≡ Spec.rangeHolds (Spec.numbersAt (Room.lent (now (coefficients .entry)) (now (powers .entry))) at 4) ⌝ }
 {
     let min_in = number_at(coefficients, powers, at);
     let max_in = number_at(coefficients, powers, at + 1);
@@ -193,8 +204,8 @@ fn range_holds(coefficients: &[i64], powers: &[i8], at: usize) -> bool
 
 // Whether the three slopes of an ASC_CDL are 0 or more.
 fn slopes_hold(coefficients: &[i64], powers: &[i8], at: usize) -> bool
-    requires { ⌜ (at + 10 ≤ length (now coefficients)) × (at + 10 ≤ length (now powers)) ⌝ }
-    ensures { λ r. ⌜ r ≡ Spec.slopesHold (Spec.numbersAt (now (coefficients .entry)) (now (powers .entry)) at 10) ⌝ }
+    requires { ⌜ at + 10 ≤ Room.roomLength (Room.lent (now coefficients) (now powers)) ⌝ }
+    ensures { λ r. ⌜ r ≡ Spec.slopesHold (Spec.numbersAt (Room.lent (now (coefficients .entry)) (now (powers .entry))) at 10) ⌝ }
 {
     let red = decimal_value::not_negative(number_at(coefficients, powers, at));
     let green = decimal_value::not_negative(number_at(coefficients, powers, at + 1));
@@ -204,8 +215,8 @@ fn slopes_hold(coefficients: &[i64], powers: &[i8], at: usize) -> bool
 
 // Whether the three powers of an ASC_CDL are 1.
 fn powers_hold(coefficients: &[i64], powers: &[i8], at: usize) -> bool
-    requires { ⌜ (at + 10 ≤ length (now coefficients)) × (at + 10 ≤ length (now powers)) ⌝ }
-    ensures { λ r. ⌜ r ≡ Spec.powersHold (Spec.numbersAt (now (coefficients .entry)) (now (powers .entry)) at 10) ⌝ }
+    requires { ⌜ at + 10 ≤ Room.roomLength (Room.lent (now coefficients) (now powers)) ⌝ }
+    ensures { λ r. ⌜ r ≡ Spec.powersHold (Spec.numbersAt (Room.lent (now (coefficients .entry)) (now (powers .entry))) at 10) ⌝ }
 {
     let red = decimal_value::is_one(number_at(coefficients, powers, at + 6));
     let green = decimal_value::is_one(number_at(coefficients, powers, at + 7));
@@ -215,8 +226,8 @@ fn powers_hold(coefficients: &[i64], powers: &[i8], at: usize) -> bool
 
 // Whether the rules on an ASC_CDL's numbers hold.
 fn cdl_holds(coefficients: &[i64], powers: &[i8], at: usize) -> bool
-    requires { ⌜ (at + 10 ≤ length (now coefficients)) × (at + 10 ≤ length (now powers)) ⌝ }
-    ensures { λ r. ⌜ r ≡ Spec.cdlHolds (Spec.numbersAt (now (coefficients .entry)) (now (powers .entry)) at 10) ⌝ }
+    requires { ⌜ at + 10 ≤ Room.roomLength (Room.lent (now coefficients) (now powers)) ⌝ }
+    ensures { λ r. ⌜ r ≡ Spec.cdlHolds (Spec.numbersAt (Room.lent (now (coefficients .entry)) (now (powers .entry))) at 10) ⌝ }
 {
     let slopes = slopes_hold(coefficients, powers, at);
     let ones = powers_hold(coefficients, powers, at);
@@ -226,8 +237,8 @@ fn cdl_holds(coefficients: &[i64], powers: &[i8], at: usize) -> bool
 
 // Whether the rules on the numbers of a node of this kind hold.
 fn rules_hold(coefficients: &[i64], powers: &[i8], kind: Kind, at: usize) -> bool
-    requires { ⌜ (at + List.numbersOf kind ≤ length (now coefficients)) × (at + List.numbersOf kind ≤ length (now powers)) ⌝ }
-    ensures { λ r. ⌜ r ≡ Spec.rulesHold kind (Spec.numbersAt (now (coefficients .entry)) (now (powers .entry)) at (List.numbersOf kind)) ⌝ }
+    requires { ⌜ at + List.numbersOf kind ≤ Room.roomLength (Room.lent (now coefficients) (now powers)) ⌝ }
+    ensures { λ r. ⌜ r ≡ Spec.rulesHold kind (Spec.numbersAt (Room.lent (now (coefficients .entry)) (now (powers .entry))) at (List.numbersOf kind)) ⌝ }
 {
     match kind {
         Kind::Matrix { wide: _ } => true,
@@ -242,7 +253,7 @@ fn rules_hold(coefficients: &[i64], powers: &[i8], kind: Kind, at: usize) -> boo
 
 // Whether the element that a node has in this room is without fault.
 pub fn sound(node: Node, coefficients: &[i64], powers: &[i8]) -> bool
-    ensures { λ r. ⌜ r ≡ Spec.sound (Spec.elementOf (now (coefficients .entry)) (now (powers .entry)) node) ⌝ }
+    ensures { λ r. ⌜ r ≡ Spec.sound (Spec.elementOf (Room.lent (now (coefficients .entry)) (now (powers .entry))) node) ⌝ }
 {
     let kind = node.kind;
     let at = node.at;
@@ -266,7 +277,7 @@ pub fn sound(node: Node, coefficients: &[i64], powers: &[i8]) -> bool
 // Whether the elements of all nodes are without fault.
 fn all_sound(list: ProcessList, coefficients: &[i64], powers: &[i8]) -> bool
     requires { ⌜ list .count ≤ 32 ⌝ }
-    ensures { λ r. ⌜ r ≡ Spec.every Spec.sound (Spec.elementsOf list (now (coefficients .entry)) (now (powers .entry))) ⌝ }
+    ensures { λ r. ⌜ r ≡ Spec.every Spec.sound (Spec.elementsOf list (Room.lent (now (coefficients .entry)) (now (powers .entry)))) ⌝ }
 {
     let count = process_list::held(list);
     let mut k: usize = 0;
@@ -310,9 +321,20 @@ fn powers_zero(s: &[i8], used: usize, room: usize) -> bool
     true
 }
 
+// Whether the room is zero from index `at` on; behind its end there is nothing that could differ.
+pub fn zero_from(coefficients: &[i64], powers: &[i8], at: usize) -> bool
+    ensures { λ r. ⌜ r ≡ Spec.zeroFrom at (Room.lent (now (coefficients .entry)) (now (powers .entry))) ⌝ }
+{
+    let room = room::length(coefficients, powers);
+    if !coefficients_zero(coefficients, at, room) {
+        return false;
+    }
+    powers_zero(powers, at, room)
+}
+
 // Whether list and room are an accepted reading of some file into that room; if not, the answer is refusal 16.
 pub fn valid(list: ProcessList, coefficients: &[i64], powers: &[i8]) -> bool
-    ensures { λ r. ⌜ r ≡ Spec.isValid list (now (coefficients .entry)) (now (powers .entry)) ⌝ }
+    ensures { λ r. ⌜ r ≡ Spec.isValid list (Room.lent (now (coefficients .entry)) (now (powers .entry))) ⌝ }
 {
     let room = room::length(coefficients, powers);
     if !list_right(list, room) {
@@ -321,9 +343,5 @@ pub fn valid(list: ProcessList, coefficients: &[i64], powers: &[i8]) -> bool
     if !all_sound(list, coefficients, powers) {
         return false;
     }
-    let used = process_list::used(list);
-    if !coefficients_zero(coefficients, used, room) {
-        return false;
-    }
-    powers_zero(powers, used, room)
+    zero_from(coefficients, powers, process_list::used(list))
 }

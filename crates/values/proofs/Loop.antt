@@ -4,7 +4,6 @@ use mathlib.Core.Bool.{Bool, true, false, cond}
 use mathlib.Core.List.{List, [], _∷_, _++_}
 use Prim.Native.Nat.{ℕ, suc, _+_, _≤_, _<_, min}
 use native.Mathlib.Omega.{arith}
-use lib.IntN.{ℤ}
 use lib.ListN.{length, drop, getD, length-drop, length-append}
 use lib.Dec.{eqb, ltb}
 use borrow.Author.Tests.{eq-eqb, ne-eqb, ltb-true, ltb-false}
@@ -14,6 +13,8 @@ use Rattle.scanning.specs.Steps.{here, past}
 use Rattle.grammar.specs.Parse.{Out, done, fault, cut, Turn, again, last, thenOut, retP, badP, lookP, strictOut, settleOut, loopP}
 use Rattle.grammar.specs.Grammar.{G, ret, bad, eat, judge, settle, seq, _>>_}
 use Rattle.grammar.specs.Laws.{nope, loop-again, loop-last, loop-cut, loop-fault}
+use Rattle.room.specs.Room.{Room}
+use Rattle.room.proofs.Rooms.{RoomFrom}
 use Rattle.xml.specs.Bytes.{isSpace, same, slash, greaterThan, exclamation, question}
 use Rattle.xml.specs.Xml.{spaces, byte, comment, openName, closeName, endTag}
 use Rattle.xml.specs.Elements.{stranger, onlyEnd}
@@ -22,10 +23,10 @@ use Rattle.xml.specs.CodeLaws.{look-at}
 use Rattle.xml.specs.declared.Scan.{Scan}
 use Rattle.xml.specs.declared.Scan.the-variants.{At, Fault, Cut}
 use Rattle.clf.specs.Numbers.{endsToken, token, saidBy, faultOf, numberByte, numbers}
-use Rattle.values.specs.Code.{numberToken, TokenReads, Laid, NumbersRead}
+use Rattle.values.specs.Code.{numberToken, TokenReads, Laid, NumbersStored}
 use Rattle.values.specs.declared.TokenRead.the-variants as Reading
 use Rattle.values.proofs.Tokens.{ends-neither}
-use Rattle.values.proofs.Stored.{laid-nothing, laid-next, same-coefficients, same-powers}
+use Rattle.values.proofs.Stored.{laid-none-yet, laid-then, laid-from}
 
 -- ---- what lacks at an end tag is a fault
 
@@ -83,18 +84,18 @@ module _ (w : List ℕ) (n : ℕ) (rule : Decimal → ℕ) where
   runs = loopP turns
 
   -- the numbers so far stand in the room, and the rest is read at what is left of the bytes
-  pub record NumbersInv (s : List ℕ) (at base : ℕ) (c₀ p₀ : List ℤ) (i count : ℕ) (c p : List ℤ) : Type 0 where
+  pub record NumbersInv (s : List ℕ) (at base : ℕ) (m₀ : Room) (i count : ℕ) (m : Room) : Type 0 where
     pub xs : List Decimal
     pub counted : count ≡ length xs
     pub low : at + count ≤ i
     pub most : count ≤ n
     pub out : runs [] (drop at s) ≡ runs xs (drop i s)
-    pub room : Laid base xs c₀ p₀ c p
+    pub room : Laid base xs m₀ m
 
-  pub numbers-start : (s : List ℕ) (at base : ℕ) (c₀ p₀ : List ℤ) → NumbersInv s at base c₀ p₀ at 0 c₀ p₀
-  numbers-start s at base c₀ p₀ = record { xs = []; counted = refl; low = omega arith; most = omega arith; out = refl; room = laid-nothing c₀ p₀ base }
+  pub numbers-start : (s : List ℕ) (at base : ℕ) (m : Room) → NumbersInv s at base m at 0 m
+  numbers-start s at base m = record { xs = []; counted = refl; low = omega arith; most = omega arith; out = refl; room = laid-none-yet base m }
 
-module _ {w : List ℕ} {n : ℕ} {rule : Decimal → ℕ} {s : List ℕ} {at base : ℕ} {c₀ p₀ : List ℤ} {i count : ℕ} {c p : List ℤ} (v : NumbersInv w n rule s at base c₀ p₀ i count c p) where
+module _ {w : List ℕ} {n : ℕ} {rule : Decimal → ℕ} {s : List ℕ} {at base : ℕ} {m₀ : Room} {i count : ℕ} {m : Room} (v : NumbersInv w n rule s at base m₀ i count m) where
   abbrev one : List Decimal → List ℕ → Out (Turn (List Decimal) (List Decimal))
   one = turns w n rule
 
@@ -102,13 +103,11 @@ module _ {w : List ℕ} {n : ℕ} {rule : Decimal → ℕ} {s : List ℕ} {at ba
   run = runs w n rule
 
   abbrev Read : Scan → Type 0
-  Read r = NumbersRead n ((numbers w n rule) .run) s at base r c₀ p₀ c p
+  Read r = NumbersStored n ((numbers w n rule) .run) s at base r m₀ m
 
-  pub numbers-coefficients : length c ≡ length c₀
-  numbers-coefficients = same-coefficients base (v .xs) c₀ p₀ c p (v .room)
-
-  pub numbers-powers : length p ≡ length p₀
-  numbers-powers = same-powers base (v .xs) c₀ p₀ c p (v .room)
+  -- nothing has changed but the room from `base` on
+  pub numbers-from : RoomFrom base m₀ m
+  numbers-from = laid-from base (v .xs) m₀ m (v .room)
 
   numbers-cut : run (v .xs) (drop i s) ≡ cut → Read Cut
   unfolding numbers
@@ -135,7 +134,7 @@ module _ {w : List ℕ} {n : ℕ} {rule : Decimal → ℕ} {s : List ℕ} {at ba
         ∙ ap (λ (t : Bool). (choose t (eqb (getD s i 0) 60)) .run (drop i s)) qx
         ∙ ap (λ (t : Bool). (choose x t) .run (drop i s)) qy
 
-    pub numbers-space : isSpace (getD s i 0) ≡ true → NumbersInv w n rule s at base c₀ p₀ (i + 1) count c p
+    pub numbers-space : isSpace (getD s i 0) ≡ true → NumbersInv w n rule s at base m₀ (i + 1) count m
     numbers-space q = record {
       xs = v .xs;
       counted = v .counted;
@@ -206,8 +205,8 @@ module _ {w : List ℕ} {n : ℕ} {rule : Decimal → ℕ} {s : List ℕ} {at ba
         token-forward d e t = (forward e (t .inside .1) (t .inside .3), t .inside .2)
 
         -- one number more
-        pub numbers-token : (d : Decimal) (e : ℕ) (c₁ p₁ : List ℤ) → TokenReads n rule count s i (Reading.Number d e) → Laid (base + count) (d ∷ []) c p c₁ p₁ → NumbersInv w n rule s at base c₀ p₀ e (count + 1) c₁ p₁
-        numbers-token d e c₁ p₁ t z =
+        pub numbers-token : (d : Decimal) (e : ℕ) (m₁ : Room) → TokenReads n rule count s i (Reading.Number d e) → Laid (base + count) (d ∷ []) m m₁ → NumbersInv w n rule s at base m₀ e (count + 1) m₁
+        numbers-token d e m₁ t z =
             let j : i < e = forward e (t .inside .1) (t .inside .3) in
             let q : e ≤ length s = t .inside .2 in
             record {
@@ -216,7 +215,7 @@ module _ {w : List ℕ} {n : ℕ} {rule : Decimal → ℕ} {s : List ℕ} {at ba
               low = omega (arith, v .low);
               most = omega (arith, t .inside .0);
               out = v .out ∙ loop-again one (v .xs) (drop i s) (v .xs ++ d ∷ []) (drop e s) (token-turn ∙ ap K (sym (t .out))) (simp length-drop (omega arith));
-              room = laid-next base (v .xs) d c₀ p₀ c p c₁ p₁ (v .room) (rw (v .counted) at z);
+              room = laid-then base (v .xs) (d ∷ []) m₀ m m₁ (v .room) (rw (v .counted) at z);
             }
 
         pub numbers-token-fault : (k q : ℕ) → TokenReads n rule count s i (Reading.Fault k q) → Read (Fault k q)

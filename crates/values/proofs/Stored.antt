@@ -1,57 +1,65 @@
--- Numbers in the room, one more after the others. Assumes nothing.
-use mathlib.Core.Path.{_≡_, refl, sym, ap, _∙_}
-use mathlib.Core.List.{List, [], _∷_, _++_, map, map-append}
+-- Numbers in the room, one run after the other, and what a fault leaves of them. Assumes nothing.
+use mathlib.Core.Path.{_≡_, refl, sym, ap, _∙_, subst}
+use mathlib.Core.List.{List, [], _∷_, _++_}
 use Prim.Native.Nat.{ℕ, _+_, _≤_, min}
 use native.Mathlib.Omega.{arith}
-use lib.IntN.{ℤ}
-use lib.ListN.{length, length-map}
+use lib.ListN.{length}
 use Rattle.decimal.specs.declared.Decimal.{Decimal}
-use Rattle.room.specs.Room.{roomLength, stored, laid}
+use Rattle.grammar.specs.Parse.{Parser}
+use Rattle.xml.specs.Code.{Failed}
+use Rattle.xml.specs.declared.Scan.{Scan}
+use Rattle.xml.specs.declared.Scan.the-variants.{At, Fault, Cut}
+use Rattle.room.specs.Room.{Room, roomLength, storedIn, laidIn, clearedIn, clearedFrom}
 use Rattle.room.proofs.Laws.{stored-out}
-use Rattle.room.proofs.Contents.{laid-none, laid-append, laid-length}
-use Rattle.values.specs.Code.{Laid}
+use Rattle.room.proofs.Rooms.{same-room, laid-nothing, laid-both, stored-one, RoomFrom, from-laid, from-cleared, cleared-same}
+use Rattle.values.specs.Code.{Laid, NumbersStored, NumbersRead, keptOrCleared}
+
+-- ---- one run after the other
+
+pub laid-none-yet : (base : ℕ) (m : Room) → Laid base [] m m
+laid-none-yet base m = sym (laid-nothing base m)
 
 -- one number is stored
-pub laid-stored : {A : Type 0} (n at : ℕ) (a : A) (s : List A) → stored n at a s ≡ laid n at (a ∷ []) s
-unfolding laid
-laid-stored n at a s = refl
+pub laid-one : (at : ℕ) (d : Decimal) (m m₁ : Room) → m₁ ≡ storedIn at d m → Laid at (d ∷ []) m m₁
+laid-one at d m m₁ e = e ∙ stored-one at d m
 
-module _ (c₀ : List ℤ) (p₀ : List ℤ) where
-  pub laid-nothing : (base : ℕ) → Laid base [] c₀ p₀ c₀ p₀
-  laid-nothing base = record { coefficients = sym (laid-none (roomLength c₀ p₀) base c₀); powers = sym (laid-none (roomLength c₀ p₀) base p₀) }
+-- an index behind the coefficients is not in the room
+pub laid-outside : (at : ℕ) (d : Decimal) (m : Room) → length (m .coefficients) ≤ at → Laid at (d ∷ []) m m
+unfolding roomLength storedIn
+laid-outside at d m h =
+    let n : ℕ = min (length (m .coefficients)) (length (m .powers)) in
+    laid-one at d m m (same-room (stored-out n at (m .coefficients) (d .coefficient) (omega arith)) (stored-out n at (m .powers) (d .power) (omega arith)))
 
-  pub laid-one : (at : ℕ) (d : Decimal) (c p : List ℤ) → c ≡ stored (roomLength c₀ p₀) at (d .coefficient) c₀ → p ≡ stored (roomLength c₀ p₀) at (d .power) p₀
-      → Laid at (d ∷ []) c₀ p₀ c p
-  laid-one at d c p e f = record { coefficients = e ∙ laid-stored (roomLength c₀ p₀) at (d .coefficient) c₀; powers = f ∙ laid-stored (roomLength c₀ p₀) at (d .power) p₀ }
+-- one run behind the other
+pub laid-then : (base : ℕ) (xs ys : List Decimal) (m₀ m₁ m₂ : Room) → Laid base xs m₀ m₁ → Laid (base + length xs) ys m₁ m₂ → Laid base (xs ++ ys) m₀ m₂
+laid-then base xs ys m₀ m₁ m₂ e f = f ∙ ap (laidIn (base + length xs) ys) e ∙ sym (laid-both base xs ys m₀)
 
-  -- an index behind the coefficients is not in the room
-  pub laid-outside : (at : ℕ) (d : Decimal) → length c₀ ≤ at → Laid at (d ∷ []) c₀ p₀ c₀ p₀
-  unfolding roomLength
-  laid-outside at d h = laid-one at d c₀ p₀ (stored-out (min (length c₀) (length p₀)) at c₀ (d .coefficient) (omega arith)) (stored-out (min (length c₀) (length p₀)) at p₀ (d .power) (omega arith))
+-- nothing has changed but the room from `base` on
+pub laid-from : (base : ℕ) (xs : List Decimal) (m₀ m₁ : Room) → Laid base xs m₀ m₁ → RoomFrom base m₀ m₁
+laid-from base xs m₀ m₁ e = subst (λ (m : Room). RoomFrom base m₀ m) (sym e) (from-laid base base xs m₀ (omega arith))
 
-module _ (base : ℕ) (xs : List Decimal) (c₀ p₀ c p : List ℤ) (v : Laid base xs c₀ p₀ c p) where
-  pub same-coefficients : length c ≡ length c₀
-  same-coefficients = ap length (v .coefficients) ∙ laid-length (roomLength c₀ p₀) base (map (λ (d : Decimal). d .coefficient) xs) c₀
+-- ---- what a fault leaves
 
-  pub same-powers : length p ≡ length p₀
-  same-powers = ap length (v .powers) ∙ laid-length (roomLength c₀ p₀) base (map (λ (d : Decimal). d .power) xs) p₀
+pub cleared-to : (base n : ℕ) (m m₁ : Room) → n ≡ roomLength m → m₁ ≡ clearedIn base n m → m₁ ≡ clearedFrom base m
+cleared-to base n m m₁ q e = e ∙ ap (λ (k : ℕ). clearedIn base k m) q
 
-  same-room : roomLength c p ≡ roomLength c₀ p₀
-  unfolding roomLength
-  same-room = rw (same-coefficients, same-powers)
+-- at an answer that is no next place
+pub fault-clears : (r : Scan) (base n : ℕ) (m m₁ : Room) → Failed r → n ≡ roomLength m → m₁ ≡ clearedIn base n m → m₁ ≡ keptOrCleared base r m
+fault-clears (At e) base n m m₁ f q e₁ = absurd f
+fault-clears (Fault k p) base n m m₁ f q e = cleared-to base n m m₁ q e
+fault-clears Cut base n m m₁ f q e = cleared-to base n m m₁ q e
 
--- one part of the numbers
-part-more : {A : Type 0} (f : Decimal → A) (n m base : ℕ) (xs : List Decimal) (d : Decimal) (s t u : List A) → m ≡ n
-    → t ≡ laid n base (map f xs) s → u ≡ laid m (base + length xs) (f d ∷ []) t → u ≡ laid n base (map f (xs ++ d ∷ [])) s
-part-more {A = A} f n m base xs d s t u g e h =
-    h ∙ ap (λ (k : ℕ). laid k (base + length xs) (f d ∷ []) t) g ∙ ap (λ (k : ℕ). laid n (base + k) (f d ∷ []) t) (sym (length-map xs f))
-    ∙ ap (laid n (base + length (map f xs)) (f d ∷ [])) e ∙ sym (laid-append n base (map f xs) (f d ∷ []) s)
-    ∙ ap (λ (l : List A). laid n base l s) (sym (map-append f xs (d ∷ [])))
+-- cleared, it is as the room before, cleared so
+pub cleared-laid : (base : ℕ) (xs : List Decimal) (m₀ m₁ : Room) → Laid base xs m₀ m₁ → clearedFrom base m₁ ≡ clearedFrom base m₀
+cleared-laid base xs m₀ m₁ e = cleared-same base m₀ m₁ (laid-from base xs m₀ m₁ e)
 
--- a number is stored behind the others
-pub laid-next : (base : ℕ) (xs : List Decimal) (d : Decimal) (c₀ p₀ c p c₁ p₁ : List ℤ) → Laid base xs c₀ p₀ c p → Laid (base + length xs) (d ∷ []) c p c₁ p₁
-    → Laid base (xs ++ d ∷ []) c₀ p₀ c₁ p₁
-laid-next base xs d c₀ p₀ c p c₁ p₁ v w = record {
-  coefficients = part-more (λ (d : Decimal). d .coefficient) (roomLength c₀ p₀) (roomLength c p) base xs d c₀ c c₁ (same-room base xs c₀ p₀ c p v) (v .coefficients) (w .coefficients);
-  powers = part-more (λ (d : Decimal). d .power) (roomLength c₀ p₀) (roomLength c p) base xs d p₀ p p₁ (same-room base xs c₀ p₀ c p v) (v .powers) (w .powers);
-}
+pub cleared-twice : (base : ℕ) (m₀ m₁ : Room) → m₁ ≡ clearedFrom base m₀ → clearedFrom base m₁ ≡ clearedFrom base m₀
+cleared-twice base m₀ m₁ e = cleared-same base m₀ m₁ (subst (λ (m : Room). RoomFrom base m₀ m) (sym e) (from-cleared base base m₀ (omega arith)))
+
+module _ (n : ℕ) (p : Parser (List Decimal)) (s : List ℕ) (at base : ℕ) (m₀ m₁ m₂ : Room) where
+  pub numbers-kept : (r : Scan) → NumbersStored n p s at base r m₀ m₁ → m₂ ≡ keptOrCleared base r m₁ → NumbersRead n p s at base r m₀ m₂
+  numbers-kept (At e) v q = record { xs = v .xs; out = v .out; inside = v .inside; counted = v .counted; room = q ∙ v .room }
+  numbers-kept (Fault k e) v q =
+      record { xs = v .xs; out = v .out; inside = v .inside; counted = tt; room = q ∙ cleared-laid base (v .xs) m₀ m₁ (v .room) }
+  numbers-kept Cut v q =
+      record { xs = v .xs; out = v .out; inside = v .inside; counted = tt; room = q ∙ cleared-laid base (v .xs) m₀ m₁ (v .room) }

@@ -1,9 +1,8 @@
 -- What the answers of the code mean, and what becomes of the room.
 use mathlib.Core.Path.{_≡_}
 use mathlib.Core.Bool.{true}
-use mathlib.Core.List.{List, map}
+use mathlib.Core.List.{List}
 use Prim.Native.Nat.{ℕ, zero, suc, _≤_, _<_}
-use lib.IntN.{ℤ}
 use lib.ListN.{length, drop, getD}
 use Rattle.decimal.specs.declared.Decimal.{Decimal}
 use Rattle.decimal_read.specs.Number.{tokenOf}
@@ -12,7 +11,7 @@ use Rattle.grammar.specs.Grammar.{G, ret, judge, seq}
 use Rattle.xml.specs.declared.Scan.{Scan}
 use Rattle.xml.specs.declared.Scan.the-variants as Scans
 use Rattle.xml.specs.Code.{part, scanOut, Inside, Reads}
-use Rattle.room.specs.Room.{roomLength, laid}
+use Rattle.room.specs.Room.{Room, laidIn, clearedFrom}
 use Rattle.clf.specs.Numbers.{endsToken, token, faultOf, saidBy, anyNumber, notBelowZero, onlyOne}
 use Rattle.values.specs.declared.Rule.{Rule}
 use Rattle.values.specs.declared.Rule.the-variants as Rules
@@ -66,9 +65,14 @@ judgedAs (suc k) d at e = Reading.Fault (suc k) at
 -- ---- numbers in the room
 
 -- the numbers xs stand in the room from `base` on, as far as it goes, and nothing else has changed
-pub record Laid (base : ℕ) (xs : List Decimal) (c₀ : List ℤ) (p₀ : List ℤ) (c₁ : List ℤ) (p₁ : List ℤ) : Type 0 where
-  pub coefficients : c₁ ≡ laid (roomLength c₀ p₀) base (map (λ (d : Decimal). d .coefficient) xs) c₀
-  pub powers : p₁ ≡ laid (roomLength c₀ p₀) base (map (λ (d : Decimal). d .power) xs) p₀
+abbrev pub Laid : ℕ → List Decimal → Room → Room → Type 0
+Laid base xs m₀ m₁ = m₁ ≡ laidIn base xs m₀
+
+-- the room after numbers were read with this answer: they stand from `base` on; at a fault, or where the bytes end, it is zero from `base` on
+abbrev pub roomAfter : ℕ → Scan → List Decimal → Room → Room
+roomAfter base (Scans.At e) xs m = laidIn base xs m
+roomAfter base (Scans.Fault k p) xs m = clearedFrom base m
+roomAfter base Scans.Cut xs m = clearedFrom base m
 
 -- n numbers, where the answer is a next place
 abbrev pub Counted : ℕ → Scan → List Decimal → Type 0
@@ -76,10 +80,24 @@ Counted n (Scans.At e) xs = length xs ≡ n
 Counted n (Scans.Fault k p) xs = Unit
 Counted n Scans.Cut xs = Unit
 
--- numbers read from `at` on: the answer is p's, whose value is the numbers that now stand in the room. At a fault, those read before it stand there
-pub record NumbersRead (n : ℕ) (p : Parser (List Decimal)) (s : List ℕ) (at base : ℕ) (r : Scan) (c₀ : List ℤ) (p₀ : List ℤ) (c₁ : List ℤ) (p₁ : List ℤ) : Type 0 where
+-- numbers read from `at` on: the answer is p's, and where it is a next place its value is the numbers that now stand in the room
+pub record NumbersRead (n : ℕ) (p : Parser (List Decimal)) (s : List ℕ) (at base : ℕ) (r : Scan) (m₀ m₁ : Room) : Type 0 where
   pub xs : List Decimal
   pub out : scanOut (λ e. xs) s r ≡ p (drop at s)
   pub inside : Inside 1 s at r
   pub counted : Counted n r xs
-  pub room : Laid base xs c₀ p₀ c₁ p₁
+  pub room : m₁ ≡ roomAfter base r xs m₀
+
+-- the same before the room is cleared at a fault: the numbers read before it stand there
+pub record NumbersStored (n : ℕ) (p : Parser (List Decimal)) (s : List ℕ) (at base : ℕ) (r : Scan) (m₀ m₁ : Room) : Type 0 where
+  pub xs : List Decimal
+  pub out : scanOut (λ e. xs) s r ≡ p (drop at s)
+  pub inside : Inside 1 s at r
+  pub counted : Counted n r xs
+  pub room : Laid base xs m₀ m₁
+
+-- what is left of the room by an answer: zero from `base` on, where that is no next place
+abbrev pub keptOrCleared : ℕ → Scan → Room → Room
+keptOrCleared base (Scans.At e) m = m
+keptOrCleared base (Scans.Fault k p) m = clearedFrom base m
+keptOrCleared base Scans.Cut m = clearedFrom base m

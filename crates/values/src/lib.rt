@@ -6,8 +6,9 @@ ghost use Prim.Native.Nat.{_+_};
 ghost use lib.Dec.{ltb};
 ghost use Rattle.decimal.specs.declared.Token.the-variants as Tokens;
 ghost use Rattle.decimal_value.specs.Value.{isOne};
+ghost use Rattle.room.specs.Room.{lent};
 ghost use Rattle.clf.specs.Numbers as Numbers;
-ghost use Rattle.values.specs.Code.{ruleOf, judgedAs, TokenBytes, TokenReads, Laid, NumbersRead};
+ghost use Rattle.values.specs.Code.{ruleOf, judgedAs, TokenBytes, TokenReads, Laid, keptOrCleared, NumbersStored, NumbersRead};
 use decimal::Decimal;
 use decimal::Token;
 use tags::TagKind;
@@ -135,7 +136,7 @@ fn too_few(count: usize, n: usize) -> u8
 
 // Stores number j of those that begin at `base`, if that is in the room.
 pub fn store(coefficients: &mut [i64], powers: &mut [i8], base: usize, j: usize, d: Decimal)
-    ensures { λ _. ⌜ Laid (base + j) (d ∷ []) (now (coefficients .entry)) (now (powers .entry)) (now (coefficients .exit)) (now (powers .exit)) ⌝ }
+    ensures { λ _. ⌜ Laid (base + j) (d ∷ []) (lent (now (coefficients .entry)) (now (powers .entry))) (lent (now (coefficients .exit)) (now (powers .exit))) ⌝ }
 {
     let length = coefficients.len();
     if length <= base {
@@ -147,8 +148,8 @@ pub fn store(coefficients: &mut [i64], powers: &mut [i8], base: usize, j: usize,
     room::store(coefficients, powers, base + j, d);
 }
 
-// The n numbers of an element of the name w, each kept to the rule, and its end tag. They are stored from `base` on.
-pub fn numbers(
+// The n numbers of an element of the name w, each kept to the rule, and its end tag. They are stored from `base` on as they are read.
+fn stored_numbers(
     s: &[u8],
     at: usize,
     w: &[u8],
@@ -158,7 +159,7 @@ pub fn numbers(
     powers: &mut [i8],
     base: usize,
 ) -> Scan
-    ensures { λ r. ⌜ NumbersRead n ((Numbers.numbers (now (w .entry)) n (ruleOf rule)) .run) (now (s .entry)) at base r (now (coefficients .entry)) (now (powers .entry)) (now (coefficients .exit)) (now (powers .exit)) ⌝ }
+    ensures { λ r. ⌜ NumbersStored n ((Numbers.numbers (now (w .entry)) n (ruleOf rule)) .run) (now (s .entry)) at base r (lent (now (coefficients .entry)) (now (powers .entry))) (lent (now (coefficients .exit)) (now (powers .exit))) ⌝ }
 {
     let mut i = at;
     let mut count: usize = 0;
@@ -189,6 +190,57 @@ pub fn numbers(
 }
 
 // A value element of the name w, behind its name.
+fn stored_value(
+    s: &[u8],
+    at: usize,
+    w: &[u8],
+    n: usize,
+    rule: Rule,
+    coefficients: &mut [i64],
+    powers: &mut [i8],
+    base: usize,
+) -> Scan
+    ensures { λ r. ⌜ NumbersStored n ((Numbers.valueElement (now (w .entry)) n (ruleOf rule)) .run) (now (s .entry)) at base r (lent (now (coefficients .entry)) (now (powers .entry))) (lent (now (coefficients .exit)) (now (powers .exit))) ⌝ }
+{
+    let tag = tags::start_tag(s, at, TagKind::Value);
+    let end = tag.end;
+    let r = tags::behind(end);
+    let Scan::At(q) = r else {
+        return r;
+    };
+    stored_numbers(s, q, w, n, rule, coefficients, powers, base)
+}
+
+// Clears the room from `base` on, where an answer is no next place.
+pub fn clear_at_fault(r: Scan, coefficients: &mut [i64], powers: &mut [i8], base: usize)
+    ensures { λ _. ⌜ lent (now (coefficients .exit)) (now (powers .exit)) ≡ keptOrCleared base r (lent (now (coefficients .entry)) (now (powers .entry))) ⌝ }
+{
+    let Scan::At(e) = r else {
+        let length = room::length(coefficients, powers);
+        room::clear(coefficients, powers, base, length);
+        return;
+    };
+}
+
+// The n numbers of an element of the name w, each kept to the rule, and its end tag. They stand from `base` on; at a fault the room is zero from there on.
+pub fn numbers(
+    s: &[u8],
+    at: usize,
+    w: &[u8],
+    n: usize,
+    rule: Rule,
+    coefficients: &mut [i64],
+    powers: &mut [i8],
+    base: usize,
+) -> Scan
+    ensures { λ r. ⌜ NumbersRead n ((Numbers.numbers (now (w .entry)) n (ruleOf rule)) .run) (now (s .entry)) at base r (lent (now (coefficients .entry)) (now (powers .entry))) (lent (now (coefficients .exit)) (now (powers .exit))) ⌝ }
+{
+    let r = stored_numbers(s, at, w, n, rule, coefficients, powers, base);
+    clear_at_fault(r, coefficients, powers, base);
+    r
+}
+
+// A value element of the name w, behind its name: its n numbers stand from `base` on; at a fault the room is zero from there on.
 pub fn value_element(
     s: &[u8],
     at: usize,
@@ -199,13 +251,9 @@ pub fn value_element(
     powers: &mut [i8],
     base: usize,
 ) -> Scan
-    ensures { λ r. ⌜ NumbersRead n ((Numbers.valueElement (now (w .entry)) n (ruleOf rule)) .run) (now (s .entry)) at base r (now (coefficients .entry)) (now (powers .entry)) (now (coefficients .exit)) (now (powers .exit)) ⌝ }
+    ensures { λ r. ⌜ NumbersRead n ((Numbers.valueElement (now (w .entry)) n (ruleOf rule)) .run) (now (s .entry)) at base r (lent (now (coefficients .entry)) (now (powers .entry))) (lent (now (coefficients .exit)) (now (powers .exit))) ⌝ }
 {
-    let tag = tags::start_tag(s, at, TagKind::Value);
-    let end = tag.end;
-    let r = tags::behind(end);
-    let Scan::At(q) = r else {
-        return r;
-    };
-    numbers(s, q, w, n, rule, coefficients, powers, base)
+    let r = stored_value(s, at, w, n, rule, coefficients, powers, base);
+    clear_at_fault(r, coefficients, powers, base);
+    r
 }

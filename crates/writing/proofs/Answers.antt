@@ -4,18 +4,19 @@ use mathlib.Core.Bool.{Bool, true, false}
 use mathlib.Core.List.{List, []}
 use Prim.Native.Nat.{ℕ, _+_, _≤_, _<_, _^_}
 use native.Mathlib.Omega.{arith}
-use native.Mathlib.Nat.{zero-add, add-zero}
+use native.Mathlib.Nat.{zero-add}
 use borrow.Author.Tests.{lt-ltb, le-ltb, le-leb, lt-leb, ne-eqb}
-use lib.IntN.{ℤ}
 use lib.ListN.{length}
 use Rattle.process_list.specs.declared.ProcessList.{ProcessList}
-use Rattle.room.proofs.Contents.{laid-none, laid-fits}
+use Rattle.room.specs.Room.{Room}
+use Rattle.room.proofs.Contents.{laid-fits}
 use Rattle.valid.specs.Valid.{every, isValid, elementsOf}
 use Rattle.xml.specs.Bytes.{isLetter, isDigit, isNameByte}
 use Rattle.text_out.specs.Output.{counted, Puts}
-use Rattle.text_out.proofs.Laws.{counted-in}
+use Rattle.text_out.proofs.Laws.{counted-in, puts-is}
 use Rattle.written_form.specs.Written.{isIdByte, idRight, listText, Writing, refused, written, fitting, writeOf, outputOf}
 use Rattle.written_form.proofs.Short.{list-short}
+use Rattle.written_form.proofs.Order.{list-first, id-second, output-last}
 use Rattle.writing.specs.Writing.{answerOf, Wrote}
 use Rattle.writing.specs.declared.Written.{Written}
 
@@ -43,48 +44,44 @@ module _ (id : List ℕ) where
 
 -- ---- a text that has been put from the start of an output on
 pub wrote : {f : List ℕ → List ℕ} {s s' : List ℕ} {r : ℕ} → Puts f 0 s s' r → r < 2 ^ 64 → Wrote (f []) s s' r
-wrote {f = f} {s = s} {s' = s'} {r = r} p h = record {
-  bytes = sym (p .bytes [] ∙ laid-none (length s) r s');
-  size = sym (ap counted (sym (zero-add (length (f [])))) ∙ p .next [] ∙ ap counted (add-zero r) ∙ counted-in r h);
-  kept = p .size;
-}
+wrote {f = f} p h =
+    let w = puts-is p h in
+    record { bytes = w .0; size = w .1 ∙ ap counted (zero-add (length (f []))); kept = p .size }
 
 -- ---- 'Writing: 16, 18, 17'
-module _ (l : ProcessList) (cs ps : List ℤ) (id out : List ℕ) where
+module _ (l : ProcessList) (m : Room) (id out : List ℕ) where
   abbrev pub Ends : Written → List ℕ → Type 0
-  Ends r out' = (r ≡ answerOf (writeOf l cs ps id (length out))) × (out' ≡ outputOf (writeOf l cs ps id (length out)) out)
+  Ends r out' = (r ≡ answerOf (writeOf l m id (length out))) × (out' ≡ outputOf (writeOf l m id (length out)) out)
 
-  ends-as : (w : Writing) (r : Written) (out' : List ℕ) → writeOf l cs ps id (length out) ≡ w → r ≡ answerOf w → out' ≡ outputOf w out → Ends r out'
+  ends-as : (w : Writing) (r : Written) (out' : List ℕ) → writeOf l m id (length out) ≡ w → r ≡ answerOf w → out' ≡ outputOf w out → Ends r out'
   ends-as w r out' e p q = (p ∙ ap answerOf (sym e), q ∙ ap (λ (x : Writing). outputOf x out) (sym e))
 
-  pub ends-16 : (r : Written) → isValid l cs ps ≡ false → r ≡ answerOf (refused 16) → Ends r out
-  unfolding writeOf
-  ends-16 r v e = ends-as (refused 16) r out (simp v) e refl
+  pub ends-16 : (r : Written) → isValid l m ≡ false → r ≡ answerOf (refused 16) → Ends r out
+  ends-16 r v e = ends-as (refused 16) r out (list-first l m id (length out) v) e refl
 
-  module _ (v : isValid l cs ps ≡ true) where
+  module _ (v : isValid l m ≡ true) where
     pub ends-18 : (r : Written) → idRight id ≡ false → r ≡ answerOf (refused 18) → Ends r out
-    unfolding writeOf
-    ends-18 r i e = ends-as (refused 18) r out (simp (v, i)) e refl
+    ends-18 r i e = ends-as (refused 18) r out (id-second l m id (length out) v i) e refl
 
     module _ (i : idRight id ≡ true) where
       abbrev text : List ℕ
-      text = listText id (elementsOf l cs ps)
+      text = listText id (elementsOf l m)
 
       -- the count is the text's length
       exact : counted (length text) ≡ length text
-      exact = counted-in (length text) (omega (arith, list-short l cs ps v id i))
+      exact = counted-in (length text) (omega (arith, list-short l m v id i))
 
       pub ends-17 : (r : Written) (n : ℕ) → n ≡ counted (length text) → length out < n → r ≡ answerOf (refused 17) → Ends r out
-      unfolding writeOf fitting
+      unfolding fitting
       ends-17 r n c h e =
           let k : length out < length text = omega (arith, exact) in
-          ends-as (refused 17) r out (simp (v, i, lt-ltb (length out) (length text) k)) e refl
+          ends-as (refused 17) r out (output-last l m id (length out) v i ∙ simp (lt-ltb (length out) (length text) k)) e refl
 
-      pub ends-written : (n : ℕ) (out' : List ℕ) (m : ℕ) → n ≡ counted (length text) → n ≤ length out → Wrote text out out' m → Ends (record { number = 0; length = n }) out'
-      unfolding writeOf fitting
-      ends-written n out' m c h w =
-          let k : length text ≤ length out = omega (arith, exact) in
+      pub ends-written : (n : ℕ) (out' : List ℕ) (k : ℕ) → n ≡ counted (length text) → n ≤ length out → Wrote text out out' k → Ends (record { number = 0; length = n }) out'
+      unfolding fitting
+      ends-written n out' k c h w =
+          let f : length text ≤ length out = omega (arith, exact) in
           let z : 0 + length text ≡ length text = zero-add (length text) in
-          ends-as (written text) (record { number = 0; length = n }) out' (simp (v, i, le-ltb (length out) (length text) k))
+          ends-as (written text) (record { number = 0; length = n }) out' (output-last l m id (length out) v i ∙ simp (le-ltb (length out) (length text) f))
           (ap (λ (x : ℕ). record { number = 0; length = x }) (c ∙ exact))
           (w .bytes ∙ laid-fits (length out) 0 text out (omega arith) (omega arith) ∙ (rw z))

@@ -7,7 +7,6 @@ use native.Mathlib.Omega.{arith}
 use native.Mathlib.Numerals.{add-one}
 use borrow.Author.Tests.{ltb-true, ltb-false}
 use lib.Dec.{ltb}
-use lib.IntN.{ℤ}
 use lib.ListN.{length, drop, getD, drop-of-length-le}
 use lib.Seq.{drop-cons}
 use Rattle.process_list.specs.declared.Kind.{Kind}
@@ -15,7 +14,7 @@ use Rattle.process_list.specs.declared.Kind.the-variants.{Matrix, Lut1d, Range,
 use Rattle.process_list.specs.declared.Node.{Node}
 use Rattle.process_list.specs.declared.ProcessList.{ProcessList}
 use Rattle.process_list.specs.List.{numbersOf, nodesOf, nodeAt, blankNode}
-use Rattle.room.specs.Room.{roomLength}
+use Rattle.room.specs.Room.{Room, roomLength}
 use Rattle.valid.specs.Valid.{every, sound, shapeRight, isValid, numbersAt, elementOf, elementsOf}
 use Rattle.valid.proofs.Laws.{elements-at, elements-length}
 use Rattle.valid.proofs.Elements.{both-true, sound-shape, sound-short}
@@ -32,40 +31,40 @@ module _ (kind : Kind) (wide : Bool) (e : kind ≡ Matrix wide) where
   unfolding numbersOf
   narrow-asks from n w h = rw (e, w) at h
 
-  pub wide-text : (cs ps : List ℤ) (from : ℕ) → wide ≡ true → (t : List ℕ) → contentText kind (numbersAt cs ps from (numbersOf kind)) t ≡ arrayText 3 4 (numbersAt cs ps from 12) t
+  pub wide-text : (m : Room) (from : ℕ) → wide ≡ true → (t : List ℕ) → contentText kind (numbersAt m from (numbersOf kind)) t ≡ arrayText 3 4 (numbersAt m from 12) t
   unfolding numbersOf contentText
-  wide-text cs ps from w t = simp (e, w)
+  wide-text m from w t = simp (e, w)
 
-  pub narrow-text : (cs ps : List ℤ) (from : ℕ) → wide ≡ false → (t : List ℕ) → contentText kind (numbersAt cs ps from (numbersOf kind)) t ≡ arrayText 3 3 (numbersAt cs ps from 9) t
+  pub narrow-text : (m : Room) (from : ℕ) → wide ≡ false → (t : List ℕ) → contentText kind (numbersAt m from (numbersOf kind)) t ≡ arrayText 3 3 (numbersAt m from 9) t
   unfolding numbersOf contentText
-  narrow-text cs ps from w t = simp (e, w)
+  narrow-text m from w t = simp (e, w)
 
 module _ (kind : Kind) (entries columns : ℕ) (e : kind ≡ Lut1d entries columns) where
   pub table-asks : (from n : ℕ) → from + numbersOf kind ≤ n → from + entries * columns ≤ n
   unfolding numbersOf
   table-asks from n h = rw e at h
 
-  pub table-text : (cs ps : List ℤ) (from : ℕ) (t : List ℕ) → contentText kind (numbersAt cs ps from (numbersOf kind)) t ≡ arrayText entries columns (numbersAt cs ps from (entries * columns)) t
+  pub table-text : (m : Room) (from : ℕ) (t : List ℕ) → contentText kind (numbersAt m from (numbersOf kind)) t ≡ arrayText entries columns (numbersAt m from (entries * columns)) t
   unfolding numbersOf contentText
-  table-text cs ps from t = rw e
+  table-text m from t = rw e
 
 module _ (kind : Kind) (clamp : Bool) (e : kind ≡ Range clamp) where
   pub range-asks : (from n : ℕ) → from + numbersOf kind ≤ n → from + 4 ≤ n
   unfolding numbersOf
   range-asks from n h = rw e at h
 
-  pub range-text : (cs ps : List ℤ) (from : ℕ) (t : List ℕ) → contentText kind (numbersAt cs ps from (numbersOf kind)) t ≡ rangeText (numbersAt cs ps from 4) t
+  pub range-text : (m : Room) (from : ℕ) (t : List ℕ) → contentText kind (numbersAt m from (numbersOf kind)) t ≡ rangeText (numbersAt m from 4) t
   unfolding numbersOf contentText
-  range-text cs ps from t = rw e
+  range-text m from t = rw e
 
 module _ (kind : Kind) (clamp : Bool) (e : kind ≡ Cdl clamp) where
   pub cdl-asks : (from n : ℕ) → from + numbersOf kind ≤ n → from + 10 ≤ n
   unfolding numbersOf
   cdl-asks from n h = rw e at h
 
-  pub cdl-text : (cs ps : List ℤ) (from : ℕ) (t : List ℕ) → contentText kind (numbersAt cs ps from (numbersOf kind)) t ≡ sopText (numbersAt cs ps from 10) (satText (numbersAt cs ps from 10) t)
+  pub cdl-text : (m : Room) (from : ℕ) (t : List ℕ) → contentText kind (numbersAt m from (numbersOf kind)) t ≡ sopText (numbersAt m from 10) (satText (numbersAt m from 10) t)
   unfolding numbersOf contentText
-  cdl-text cs ps from t = rw e
+  cdl-text m from t = rw e
 
 -- ---- the nodes of a valid list
 every-at : {A : Type 0} (p : A → Bool) (xs : List A) (k : ℕ) (d : A) → every p xs ≡ true → k < length xs → p (getD xs k d) ≡ true
@@ -74,41 +73,39 @@ every-at p [] k d h j = absurd (omega arith)
 every-at p (x ∷ xs) zero d h j = both-true (p x) (every p xs) h .0
 every-at p (x ∷ xs) (suc k) d h j = every-at p xs k d (both-true (p x) (every p xs) h .1) (omega arith)
 
-module _ (cs ps : List ℤ) where
+module _ (m : Room) where
   -- a sound element's numbers stand in the room
-  sound-inside : (n : Node) → sound (elementOf cs ps n) ≡ true → n .at + numbersOf (n .kind) ≤ roomLength cs ps
+  sound-inside : (n : Node) → sound (elementOf m n) ≡ true → n .at + numbersOf (n .kind) ≤ roomLength m
   sound-inside n h =
-      go (shapeRight (n .kind)) (ltb (roomLength cs ps) (n .at + numbersOf (n .kind))) (sound-shape cs ps n) (sound-short cs ps n) (ltb-true _ _) (ltb-false _ _)
+      go (shapeRight (n .kind)) (ltb (roomLength m) (n .at + numbersOf (n .kind))) (sound-shape m n) (sound-short m n) (ltb-true _ _) (ltb-false _ _)
     where
-      go : (s b : Bool) → (s ≡ false → sound (elementOf cs ps n) ≡ false)
-          → (s ≡ true → roomLength cs ps < n .at + numbersOf (n .kind) → sound (elementOf cs ps n) ≡ false)
-          → (b ≡ true → roomLength cs ps < n .at + numbersOf (n .kind)) → (b ≡ false → n .at + numbersOf (n .kind) ≤ roomLength cs ps)
-          → n .at + numbersOf (n .kind) ≤ roomLength cs ps
+      go : (s b : Bool) → (s ≡ false → sound (elementOf m n) ≡ false)
+          → (s ≡ true → roomLength m < n .at + numbersOf (n .kind) → sound (elementOf m n) ≡ false)
+          → (b ≡ true → roomLength m < n .at + numbersOf (n .kind)) → (b ≡ false → n .at + numbersOf (n .kind) ≤ roomLength m)
+          → n .at + numbersOf (n .kind) ≤ roomLength m
       go false b p q r u = absurd (false≢true (sym (p refl) ∙ h))
       go true true p q r u = absurd (false≢true (sym (q refl (r refl)) ∙ h))
       go true false p q r u = u refl
 
   module _ (l : ProcessList) where
-    node-inside : isValid l cs ps ≡ true → (k : ℕ) → k < length (nodesOf l) → (nodeAt l k) .at + numbersOf ((nodeAt l k) .kind) ≤ roomLength cs ps
+    -- and so do those of a valid list's nodes
+    node-inside : isValid l m ≡ true → (k : ℕ) → k < length (nodesOf l) → (nodeAt l k) .at + numbersOf ((nodeAt l k) .kind) ≤ roomLength m
     node-inside v k h =
         sound-inside (nodeAt l k)
-        (ap sound (sym (elements-at l cs ps k)) ∙ every-at sound (elementsOf l cs ps) k (elementOf cs ps blankNode) (valid-sound l cs ps v) (omega (arith, elements-length l cs ps)))
+        (ap sound (sym (elements-at l m k)) ∙ every-at sound (elementsOf l m) k (elementOf m blankNode) (valid-sound l m v) (omega (arith, elements-length l m)))
 
-    -- so they stand in both slices
-    pub node-asks : isValid l cs ps ≡ true → (k : ℕ) → k < length (nodesOf l) → (n : Node) → n ≡ nodeAt l k
-        → (n .at + numbersOf (n .kind) ≤ length cs) × (n .at + numbersOf (n .kind) ≤ length ps)
-    unfolding roomLength
-    node-asks v k h n e = let i = node-inside v k h in rw e (omega arith, omega arith)
+    pub node-asks : isValid l m ≡ true → (k : ℕ) → k < length (nodesOf l) → (n : Node) → n ≡ nodeAt l k → n .at + numbersOf (n .kind) ≤ roomLength m
+    node-asks v k h n e = rw e (node-inside v k h)
 
     pub nodes-next : (k : ℕ) → k < length (nodesOf l) → (n : Node) → n ≡ nodeAt l k → (t : List ℕ)
-        → nodesText (drop k (elementsOf l cs ps)) t ≡ nodeText (elementOf cs ps n) (nodesText (drop (k + 1) (elementsOf l cs ps)) t)
+        → nodesText (drop k (elementsOf l m)) t ≡ nodeText (elementOf m n) (nodesText (drop (k + 1) (elementsOf l m)) t)
     unfolding nodesText
     nodes-next k h n e t =
-        let j : k < length (elementsOf l cs ps) = omega (arith, elements-length l cs ps) in
-        rw (e, add-one, drop-cons (elementsOf l cs ps) k (elementOf cs ps blankNode) j, elements-at l cs ps k)
+        let j : k < length (elementsOf l m) = omega (arith, elements-length l m) in
+        rw (e, add-one, drop-cons (elementsOf l m) k (elementOf m blankNode) j, elements-at l m k)
 
-    pub nodes-last : (k : ℕ) → length (nodesOf l) ≤ k → (t : List ℕ) → nodesText (drop k (elementsOf l cs ps)) t ≡ t
+    pub nodes-last : (k : ℕ) → length (nodesOf l) ≤ k → (t : List ℕ) → nodesText (drop k (elementsOf l m)) t ≡ t
     unfolding nodesText
     nodes-last k h t =
-        let j : length (elementsOf l cs ps) ≤ k = omega (arith, elements-length l cs ps) in
-        rw (drop-of-length-le (elementsOf l cs ps) j)
+        let j : length (elementsOf l m) ≤ k = omega (arith, elements-length l m) in
+        rw (drop-of-length-le (elementsOf l m) j)

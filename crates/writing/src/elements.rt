@@ -2,8 +2,8 @@
 ghost use mathlib.Core.Path.{_≡_};
 ghost use mathlib.Core.Bool.{true};
 ghost use Prim.Native.Nat.{_+_, _≤_};
-ghost use lib.ListN.{length};
 ghost use Rattle.process_list.specs.List.{numbersOf};
+ghost use Rattle.room.specs.Room.{lent, roomLength};
 ghost use Rattle.valid.specs.Valid.{numbersAt, elementOf, elementsOf, isValid};
 ghost use Rattle.text_out.specs.Output.{Puts};
 ghost use Rattle.written_form.specs.Written as Text;
@@ -17,8 +17,8 @@ use process_list::ProcessList;
 use text_out::put;
 
 fn put_range(out: &mut [u8], at: usize, coefficients: &[i64], powers: &[i8], from: usize) -> usize
-    requires { ⌜ (from + 4 ≤ length (now coefficients)) × (from + 4 ≤ length (now powers)) ⌝ }
-    ensures { λ r. ⌜ Puts (Text.rangeText (numbersAt (now (coefficients .entry)) (now (powers .entry)) from 4)) at (now (out .entry)) (now (out .exit)) r ⌝ }
+    requires { ⌜ from + 4 ≤ roomLength (lent (now coefficients) (now powers)) ⌝ }
+    ensures { λ r. ⌜ Puts (Text.rangeText (numbersAt (lent (now (coefficients .entry)) (now (powers .entry))) from 4)) at (now (out .entry)) (now (out .exit)) r ⌝ }
 {
     let a = put_value(out, at, b"minInValue", coefficients, powers, from, 1);
     let b = put_value(out, a, b"maxInValue", coefficients, powers, from + 1, 1);
@@ -27,8 +27,8 @@ fn put_range(out: &mut [u8], at: usize, coefficients: &[i64], powers: &[i8], fro
 }
 
 fn put_sop(out: &mut [u8], at: usize, coefficients: &[i64], powers: &[i8], from: usize) -> usize
-    requires { ⌜ (from + 10 ≤ length (now coefficients)) × (from + 10 ≤ length (now powers)) ⌝ }
-    ensures { λ r. ⌜ Puts (Text.sopText (numbersAt (now (coefficients .entry)) (now (powers .entry)) from 10)) at (now (out .entry)) (now (out .exit)) r ⌝ }
+    requires { ⌜ from + 10 ≤ roomLength (lent (now coefficients) (now powers)) ⌝ }
+    ensures { λ r. ⌜ Puts (Text.sopText (numbersAt (lent (now (coefficients .entry)) (now (powers .entry))) from 10)) at (now (out .entry)) (now (out .exit)) r ⌝ }
 {
     let a = put(out, at, b"<SOPNode>\n");
     let b = put_value(out, a, b"Slope", coefficients, powers, from, 3);
@@ -38,8 +38,8 @@ fn put_sop(out: &mut [u8], at: usize, coefficients: &[i64], powers: &[i8], from:
 }
 
 fn put_sat(out: &mut [u8], at: usize, coefficients: &[i64], powers: &[i8], from: usize) -> usize
-    requires { ⌜ (from + 10 ≤ length (now coefficients)) × (from + 10 ≤ length (now powers)) ⌝ }
-    ensures { λ r. ⌜ Puts (Text.satText (numbersAt (now (coefficients .entry)) (now (powers .entry)) from 10)) at (now (out .entry)) (now (out .exit)) r ⌝ }
+    requires { ⌜ from + 10 ≤ roomLength (lent (now coefficients) (now powers)) ⌝ }
+    ensures { λ r. ⌜ Puts (Text.satText (numbersAt (lent (now (coefficients .entry)) (now (powers .entry))) from 10)) at (now (out .entry)) (now (out .exit)) r ⌝ }
 {
     let a = put(out, at, b"<SatNode>\n");
     let b = put_value(out, a, b"Saturation", coefficients, powers, from + 9, 1);
@@ -55,8 +55,8 @@ fn put_content(
     powers: &[i8],
     from: usize,
 ) -> usize
-    requires { ⌜ (from + numbersOf kind ≤ length (now coefficients)) × (from + numbersOf kind ≤ length (now powers)) ⌝ }
-    ensures { λ r. ⌜ Puts (Text.contentText kind (numbersAt (now (coefficients .entry)) (now (powers .entry)) from (numbersOf kind))) at (now (out .entry)) (now (out .exit)) r ⌝ }
+    requires { ⌜ from + numbersOf kind ≤ roomLength (lent (now coefficients) (now powers)) ⌝ }
+    ensures { λ r. ⌜ Puts (Text.contentText kind (numbersAt (lent (now (coefficients .entry)) (now (powers .entry))) from (numbersOf kind))) at (now (out .entry)) (now (out .exit)) r ⌝ }
 {
     match kind {
         Kind::Matrix { wide } => {
@@ -77,8 +77,8 @@ fn put_content(
 }
 
 fn put_node(out: &mut [u8], at: usize, node: Node, coefficients: &[i64], powers: &[i8]) -> usize
-    requires { ⌜ (node .at + numbersOf (node .kind) ≤ length (now coefficients)) × (node .at + numbersOf (node .kind) ≤ length (now powers)) ⌝ }
-    ensures { λ r. ⌜ Puts (Text.nodeText (elementOf (now (coefficients .entry)) (now (powers .entry)) node)) at (now (out .entry)) (now (out .exit)) r ⌝ }
+    requires { ⌜ node .at + numbersOf (node .kind) ≤ roomLength (lent (now coefficients) (now powers)) ⌝ }
+    ensures { λ r. ⌜ Puts (Text.nodeText (elementOf (lent (now (coefficients .entry)) (now (powers .entry))) node)) at (now (out .entry)) (now (out .exit)) r ⌝ }
 {
     let kind = node.kind;
     let input = node.input;
@@ -97,8 +97,8 @@ pub fn put_nodes(
     coefficients: &[i64],
     powers: &[i8],
 ) -> usize
-    requires { ⌜ isValid list (now coefficients) (now powers) ≡ true ⌝ }
-    ensures { λ r. ⌜ Puts (Text.nodesText (elementsOf list (now (coefficients .entry)) (now (powers .entry)))) at (now (out .entry)) (now (out .exit)) r ⌝ }
+    requires { ⌜ isValid list (lent (now coefficients) (now powers)) ≡ true ⌝ }
+    ensures { λ r. ⌜ Puts (Text.nodesText (elementsOf list (lent (now (coefficients .entry)) (now (powers .entry))))) at (now (out .entry)) (now (out .exit)) r ⌝ }
 {
     let count = process_list::held(list);
     let mut held = at;

@@ -3,6 +3,7 @@ ghost use mathlib.Core.Path.{_≡_};
 ghost use mathlib.Core.Bool.{true};
 ghost use lib.ListN.{length};
 ghost use Rattle.text_out.specs.Output.{counted};
+ghost use Rattle.room.specs.Room.{lent};
 ghost use Rattle.valid.specs.Valid.{isValid, elementsOf};
 ghost use Rattle.written_form.specs.Written as Text;
 ghost use Rattle.writing.specs.Writing.{answerOf, Wrote};
@@ -63,8 +64,8 @@ fn put_list(
     powers: &[i8],
     id: &[u8],
 ) -> usize
-    requires { ⌜ isValid list (now coefficients) (now powers) ≡ true ⌝ }
-    ensures { λ r. ⌜ Wrote (Text.listText (now (id .entry)) (elementsOf list (now (coefficients .entry)) (now (powers .entry)))) (now (out .entry)) (now (out .exit)) r ⌝ }
+    requires { ⌜ isValid list (lent (now coefficients) (now powers)) ≡ true ⌝ }
+    ensures { λ r. ⌜ Wrote (Text.listText (now (id .entry)) (elementsOf list (lent (now (coefficients .entry)) (now (powers .entry))))) (now (out .entry)) (now (out .exit)) r ⌝ }
 {
     let a = text_out::put(
         out,
@@ -79,8 +80,8 @@ fn put_list(
 
 // The length of the text: it is put into an output that is thrown away.
 fn text_length(list: ProcessList, coefficients: &[i64], powers: &[i8], id: &[u8]) -> usize
-    requires { ⌜ isValid list (now coefficients) (now powers) ≡ true ⌝ }
-    ensures { λ r. ⌜ r ≡ counted (length (Text.listText (now (id .entry)) (elementsOf list (now (coefficients .entry)) (now (powers .entry))))) ⌝ }
+    requires { ⌜ isValid list (lent (now coefficients) (now powers)) ≡ true ⌝ }
+    ensures { λ r. ⌜ r ≡ counted (length (Text.listText (now (id .entry)) (elementsOf list (lent (now (coefficients .entry)) (now (powers .entry)))))) ⌝ }
 {
     let mut none = [0u8; 1];
     put_list(&mut none, list, coefficients, powers, id)
@@ -94,8 +95,8 @@ pub fn write(
     id: &[u8],
     out: &mut [u8],
 ) -> Written
-    ensures { λ r. ⌜ r ≡ answerOf (Text.writeOf list (now (coefficients .entry)) (now (powers .entry)) (now (id .entry)) (length (now (out .entry)))) ⌝ }
-    ensures { λ r. ⌜ now (out .exit) ≡ Text.outputOf (Text.writeOf list (now (coefficients .entry)) (now (powers .entry)) (now (id .entry)) (length (now (out .entry)))) (now (out .entry)) ⌝ }
+    ensures { λ r. ⌜ r ≡ answerOf (Text.writeOf list (lent (now (coefficients .entry)) (now (powers .entry))) (now (id .entry)) (length (now (out .entry)))) ⌝ }
+    ensures { λ r. ⌜ now (out .exit) ≡ Text.outputOf (Text.writeOf list (lent (now (coefficients .entry)) (now (powers .entry))) (now (id .entry)) (length (now (out .entry)))) (now (out .entry)) ⌝ }
 {
     if !valid::valid(list, coefficients, powers) {
         return refused(16);

@@ -1,8 +1,8 @@
 // Numbers of the table room, as rows of text.
 ghost use Prim.Native.Nat.{_+_, _*_, _≤_, _<_};
 ghost use mathlib.Core.List.{_++_};
-ghost use lib.ListN.{length};
 ghost use Rattle.decimal_write.specs.Written.{writtenOf};
+ghost use Rattle.room.specs.Room.{lent, roomLength};
 ghost use Rattle.valid.specs.Valid.{numberAt, numbersAt};
 ghost use Rattle.text_out.specs.Output.{Puts};
 ghost use Rattle.written_form.specs.Written as Text;
@@ -10,8 +10,8 @@ use decimal::Decimal;
 
 // The number of index k.
 fn put_number(out: &mut [u8], at: usize, coefficients: &[i64], powers: &[i8], k: usize) -> usize
-    requires { ⌜ (k < length (now coefficients)) × (k < length (now powers)) ⌝ }
-    ensures { λ r. ⌜ Puts (λ t. writtenOf (numberAt (now (coefficients .entry)) (now (powers .entry)) k) ++ t) at (now (out .entry)) (now (out .exit)) r ⌝ }
+    requires { ⌜ k < roomLength (lent (now coefficients) (now powers)) ⌝ }
+    ensures { λ r. ⌜ Puts (λ t. writtenOf (numberAt (lent (now (coefficients .entry)) (now (powers .entry))) k) ++ t) at (now (out .entry)) (now (out .exit)) r ⌝ }
 {
     let coefficient = coefficients[k];
     let power = powers[k];
@@ -27,8 +27,8 @@ fn put_spaced(
     from: usize,
     count: usize,
 ) -> usize
-    requires { ⌜ (from + count ≤ length (now coefficients)) × (from + count ≤ length (now powers)) ⌝ }
-    ensures { λ r. ⌜ Puts (Text.spacedText (numbersAt (now (coefficients .entry)) (now (powers .entry)) from count)) at (now (out .entry)) (now (out .exit)) r ⌝ }
+    requires { ⌜ from + count ≤ roomLength (lent (now coefficients) (now powers)) ⌝ }
+    ensures { λ r. ⌜ Puts (Text.spacedText (numbersAt (lent (now (coefficients .entry)) (now (powers .entry))) from count)) at (now (out .entry)) (now (out .exit)) r ⌝ }
 {
     let mut held = at;
     let mut i = 0;
@@ -49,8 +49,8 @@ pub fn put_row(
     from: usize,
     count: usize,
 ) -> usize
-    requires { ⌜ (from + count ≤ length (now coefficients)) × (from + count ≤ length (now powers)) ⌝ }
-    ensures { λ r. ⌜ Puts (Text.rowText (numbersAt (now (coefficients .entry)) (now (powers .entry)) from count)) at (now (out .entry)) (now (out .exit)) r ⌝ }
+    requires { ⌜ from + count ≤ roomLength (lent (now coefficients) (now powers)) ⌝ }
+    ensures { λ r. ⌜ Puts (Text.rowText (numbersAt (lent (now (coefficients .entry)) (now (powers .entry))) from count)) at (now (out .entry)) (now (out .exit)) r ⌝ }
 {
     if count == 0 {
         return at;
@@ -69,8 +69,8 @@ fn put_rows(
     rows: usize,
     columns: usize,
 ) -> usize
-    requires { ⌜ (from + rows * columns ≤ length (now coefficients)) × (from + rows * columns ≤ length (now powers)) ⌝ }
-    ensures { λ r. ⌜ Puts (Text.rowsText rows columns (numbersAt (now (coefficients .entry)) (now (powers .entry)) from (rows * columns))) at (now (out .entry)) (now (out .exit)) r ⌝ }
+    requires { ⌜ from + rows * columns ≤ roomLength (lent (now coefficients) (now powers)) ⌝ }
+    ensures { λ r. ⌜ Puts (Text.rowsText rows columns (numbersAt (lent (now (coefficients .entry)) (now (powers .entry))) from (rows * columns))) at (now (out .entry)) (now (out .exit)) r ⌝ }
 {
     let mut held = at;
     let mut k = from;
@@ -94,8 +94,8 @@ pub fn put_array(
     rows: usize,
     columns: usize,
 ) -> usize
-    requires { ⌜ (from + rows * columns ≤ length (now coefficients)) × (from + rows * columns ≤ length (now powers)) ⌝ }
-    ensures { λ r. ⌜ Puts (Text.arrayText rows columns (numbersAt (now (coefficients .entry)) (now (powers .entry)) from (rows * columns))) at (now (out .entry)) (now (out .exit)) r ⌝ }
+    requires { ⌜ from + rows * columns ≤ roomLength (lent (now coefficients) (now powers)) ⌝ }
+    ensures { λ r. ⌜ Puts (Text.arrayText rows columns (numbersAt (lent (now (coefficients .entry)) (now (powers .entry))) from (rows * columns))) at (now (out .entry)) (now (out .exit)) r ⌝ }
 {
     let a = text_out::put(out, at, b"<Array dim=\"");
     let b = text_out::put_digits(out, a, rows);
@@ -116,8 +116,8 @@ pub fn put_value(
     from: usize,
     count: usize,
 ) -> usize
-    requires { ⌜ (from + count ≤ length (now coefficients)) × (from + count ≤ length (now powers)) ⌝ }
-    ensures { λ r. ⌜ Puts (Text.valueText (now (name .entry)) (numbersAt (now (coefficients .entry)) (now (powers .entry)) from count)) at (now (out .entry)) (now (out .exit)) r ⌝ }
+    requires { ⌜ from + count ≤ roomLength (lent (now coefficients) (now powers)) ⌝ }
+    ensures { λ r. ⌜ Puts (Text.valueText (now (name .entry)) (numbersAt (lent (now (coefficients .entry)) (now (powers .entry))) from count)) at (now (out .entry)) (now (out .exit)) r ⌝ }
 {
     let a = text_out::put(out, at, b"<");
     let b = text_out::put(out, a, name);

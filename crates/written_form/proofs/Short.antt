@@ -1,13 +1,12 @@
 -- A valid list's text is shorter than 16 MiB, so that it can be read back. Assumes nothing.
 use mathlib.Core.Path.{_≡_, refl}
 use mathlib.Core.Bool.{Bool, true, false, _&&_, _||_, false≢true}
-use mathlib.Core.List.{List, [], _∷_, _++_, map}
+use mathlib.Core.List.{List, [], _∷_, _++_}
 use Prim.Native.Nat.{ℕ, zero, suc, _+_, _*_, _≤_, _<_, _^_}
 use native.Mathlib.Omega.{arith}
 use borrow.Author.Tests.{leb-true, eqb-true}
 use lib.Dec.{eqb, leb, lit≤}
-use lib.IntN.{ℤ}
-use lib.ListN.{length, take, drop, length-append, length-take, length-drop, length-map}
+use lib.ListN.{length, take, drop, length-append, length-take, length-drop}
 use Rattle.decimal.specs.declared.Decimal.{Decimal}
 use Rattle.decimal_write.specs.Written.{digits, writtenOf}
 use Rattle.decimal_write.specs.Laws.{digits-short, written-short}
@@ -15,12 +14,14 @@ use Rattle.process_list.specs.declared.Depth.{Depth}
 use Rattle.process_list.specs.declared.Depth.the-variants.{I8, I10, I12, I16, F16, F32}
 use Rattle.process_list.specs.declared.Kind.{Kind}
 use Rattle.process_list.specs.declared.Kind.the-variants.{Matrix, Lut1d, Range, Cdl}
-use Rattle.process_list.specs.declared.Node.{Node}
 use Rattle.process_list.specs.declared.ProcessList.{ProcessList}
-use Rattle.process_list.specs.List.{Element, numbersOf, allNumbers, total, nodesOf}
-use Rattle.room.specs.Room.{roomLength}
-use Rattle.valid.specs.Valid.{every, isValid, listRight, restZero, sound, shapeRight, tableRight, carried, rulesHold, elementOf, elementsOf}
-use Rattle.valid.proofs.Elements.{both-true, Right, right-parts, right-few}
+use Rattle.process_list.specs.List.{Element, numbersOf, allNumbers, total, capped, nodesOf}
+use Rattle.process_list.proofs.Laws.{capped-exact}
+use Rattle.room.specs.Room.{Room, roomLength}
+use Rattle.valid.specs.Valid.{every, isValid, sound, shapeRight, tableRight, carried, rulesHold, elementsOf}
+use Rattle.valid.proofs.Laws.{elements-length}
+use Rattle.valid.proofs.Elements.{both-true, Right, right-few, valid-parts}
+use Rattle.valid.proofs.Readings.{used-is}
 use Rattle.xml.specs.Bytes.{bytes}
 use Rattle.written_form.specs.Written.{spacedText, rowText, rowsText, arrayText, valueText, rangeText, sopText, satText, contentText, nameText, depthText, styleText, startText, endText, nodeText, nodesText, headText, listText, isIdByte, idRight}
 
@@ -194,44 +195,19 @@ elements-short id es h s few n =
     let z : List ℕ = bytes "</ProcessList>\n" in
     omega (arith, head-short id (nodesText es z), id-short id h, nodes-short es z s)
 
--- the elements of a list have as many numbers as its nodes
-numbers-counted : (cs ps : List ℤ) (ns : List Node) → every sound (map (elementOf cs ps) ns) ≡ true → length (allNumbers (map (elementOf cs ps) ns)) ≡ total ns
-unfolding every total allNumbers elementOf
-numbers-counted cs ps [] h = refl
-numbers-counted cs ps (n ∷ ns) h =
-    let p = both-true (sound (elementOf cs ps n)) (every sound (map (elementOf cs ps) ns)) h in
-    let s = sound-parts (elementOf cs ps n) (p .0) in
-    let e = elementOf cs ps n in
-    let i = numbers-counted cs ps ns (p .1) in
-    omega (arith, length-append (e .numbers) (allNumbers (map (elementOf cs ps) ns)), s .count)
-
-module _ (l : ProcessList) (cs ps : List ℤ) (v : isValid l cs ps ≡ true) where
+module _ (l : ProcessList) (m : Room) (v : isValid l m ≡ true) where
   -- what validity says of the list, and of its elements
-  pub valid-list : Right l (roomLength cs ps)
-  unfolding isValid
-  valid-list =
-      let a = listRight l (roomLength cs ps) in
-      let b = every sound (elementsOf l cs ps) in
-      let c = restZero (roomLength cs ps) (total (nodesOf l)) cs in
-      let p = both-true (a && b && c) (restZero (roomLength cs ps) (total (nodesOf l)) ps) v in
-      let q = both-true (a && b) c (p .0) in
-      right-parts l (roomLength cs ps) (both-true a b (q .0) .0)
+  pub valid-list : Right l (roomLength m)
+  valid-list = valid-parts l m v .list
 
-  pub valid-sound : every sound (elementsOf l cs ps) ≡ true
-  unfolding isValid
-  valid-sound =
-      let a = listRight l (roomLength cs ps) in
-      let b = every sound (elementsOf l cs ps) in
-      let c = restZero (roomLength cs ps) (total (nodesOf l)) cs in
-      let p = both-true (a && b && c) (restZero (roomLength cs ps) (total (nodesOf l)) ps) v in
-      let q = both-true (a && b) c (p .0) in
-      both-true a b (q .0) .1
+  pub valid-sound : every sound (elementsOf l m) ≡ true
+  valid-sound = valid-parts l m v .sounds
 
-  pub list-short : (id : List ℕ) → idRight id ≡ true → length (listText id (elementsOf l cs ps)) ≤ 16777216
-  unfolding elementsOf nodesOf
+  pub list-short : (id : List ℕ) → idRight id ≡ true → length (listText id (elementsOf l m)) ≤ 16777216
+  unfolding nodesOf
   list-short id h =
       let r = valid-list in
-      let es : List Element = map (elementOf cs ps) (nodesOf l) in
-      elements-short id es h valid-sound
-      (omega (arith, length-map (nodesOf l) (elementOf cs ps), r .few, length-take (l .count) (l .nodes)))
-      (omega (arith, numbers-counted cs ps (nodesOf l) valid-sound, right-few l (roomLength cs ps) r))
+      let f : capped (total (nodesOf l)) ≡ total (nodesOf l) = capped-exact _ (right-few l (roomLength m) r) in
+      elements-short id (elementsOf l m) h valid-sound
+      (omega (arith, elements-length l m, r .few, length-take (l .count) (l .nodes)))
+      (omega (arith, used-is l m v, right-few l (roomLength m) r))

@@ -4,7 +4,6 @@ use mathlib.Core.Bool.{Bool, cond, _&&_, _||_}
 use mathlib.Core.List.{List, [], _∷_, _++_}
 use Prim.Native.Nat.{ℕ, zero, suc}
 use lib.Dec.{eqb, leb, ltb}
-use lib.IntN.{ℤ}
 use lib.ListN.{length, take, drop}
 use Rattle.decimal.specs.declared.Decimal.{Decimal}
 use Rattle.decimal_write.specs.Written.{digits, writtenOf}
@@ -14,6 +13,7 @@ use Rattle.process_list.specs.declared.Kind.{Kind}
 use Rattle.process_list.specs.declared.Kind.the-variants.{Matrix, Lut1d, Range, Cdl}
 use Rattle.process_list.specs.declared.ProcessList.{ProcessList}
 use Rattle.process_list.specs.List.{Element}
+use Rattle.room.specs.Room.{Room}
 use Rattle.valid.specs.Valid.{every, isValid, elementsOf}
 use Rattle.xml.specs.Bytes.{bytes, isLetter, isDigit}
 
@@ -145,13 +145,13 @@ pub data Writing : Type 0 where
 
 -- 17: 'output shorter than the text'
 unfoldable pub fitting : ℕ → List ℕ → Writing
-fitting room t = cond (ltb room (length t)) (refused 17) (written t)
+fitting out t = cond (ltb out (length t)) (refused 17) (written t)
 
 -- 'Writing: 16, 18, 17', for an output of this length
-unfoldable pub writeOf : ProcessList → List ℤ → List ℤ → List ℕ → ℕ → Writing
-writeOf l cs ps id room =
-    cond (isValid l cs ps)
-    (cond (idRight id) (fitting room (listText id (elementsOf l cs ps))) (refused 18))
+unfoldable pub writeOf : ProcessList → Room → List ℕ → ℕ → Writing
+writeOf l m id out =
+    cond (isValid l m)
+    (cond (idRight id) (fitting out (listText id (elementsOf l m))) (refused 18))
     (refused 16)
 
 -- the refusal number, 0 for accepted; its place is 0 ('of 0, 4, 14 and 16 to 19, 0')

@@ -73,13 +73,13 @@ onlyEnd w missing = lookTwo (λ a b. cond (eqb b slash) (endTag w missing) (stra
 
 -- ---- text alone
 
--- the content of a text-only element of this name, and its end tag: the bytes between the tags, as they stand
-unfoldable pub textContent : List ℕ → G (List ℕ)
-textContent w = seq (textTo lessThan) (λ t. onlyEnd w 0 >> ret (t .1))
+-- the content of a text-only element of this name, and its end tag: text is passed over
+unfoldable pub textContent : List ℕ → G (Unit {0})
+textContent w = textTo lessThan >> onlyEnd w 0
 
 -- a text-only element after its name
-unfoldable pub textElement : List ℕ → G (List ℕ)
-textElement w = seq (startTag plain) (λ (tag : Tag). cond (tag .empty) (ret []) (textContent w))
+unfoldable pub textElement : List ℕ → G (Unit {0})
+textElement w = seq (startTag plain) (λ (tag : Tag). cond (tag .empty) (ret tt) (textContent w))
 
 -- ---- Info: 'elements holding elements may nest to depth 16 below it, with any names, text and comments'
 

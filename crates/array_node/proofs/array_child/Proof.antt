@@ -1,5 +1,5 @@
-use mathlib.Core.Path.{refl, sym, _∙_}
-use Rattle.array_node.proofs.Arrays.{child-behind, child-array, child-about, child-other}
+use Rattle.array_node.proofs.Arrays.{child-behind, child-array, child-text, child-other}
+use mathlib.Core.Path.{sym, _∙_}
 use borrow.Author.Needs.{needs}
 use Rattle.array_node.proofs.array_child.Statement.{statement}
 use Rattle.array_node.proofs.array_child.Tie as tie
@@ -10,8 +10,15 @@ add-part c = search needs
 part-requires : tie.Need-part-requires
 part-requires c κs = search needs
 
+array-with-requires : tie.Need-array-with-requires
+array-with-requires c κs = search needs
+
 returns : tie.Need-returns
-returns c = λ c₀ p₀ st v. child-behind (c .before .before .before .before .args .lut) _ _ _ _ _ (c .before .part .ensures) (c .before .before .before .before .pre .0) (c .before .before .before .before .pre .1) c₀ p₀ _ _ _ st v _ (c .if1 .taken)
+returns c =
+    let i = c .before in
+    let p = i .before in
+    let z = p .before .before in
+    λ m₀ st v. rw (c .array-with .ensures) (child-behind (z .args .table) _ _ _ _ _ (p .part .ensures) (z .pre .0) (z .pre .1) m₀ _ _ st v _ (i .if1 .taken))
 
 slice-aggregate-same : tie.Need-slice-aggregate-same
 slice-aggregate-same c = search needs
@@ -32,7 +39,15 @@ same-length-2 : tie.Need-same-length-2
 same-length-2 c = search needs
 
 returns-2 : tie.Need-returns-2
-returns-2 c = λ c₀ p₀ st v. rw (c .with-table .ensures) (child-array (c .before .before .before .before .before .before .before .before .before .before .before .before .before .args .lut) _ _ _ _ _ (c .before .before .before .before .before .before .before .before .before .before .part .ensures) (c .before .before .before .before .before .before .before .before .before .before .before .before .before .pre .0) (c .before .before .before .before .before .before .before .before .before .before .before .before .before .pre .1) c₀ p₀ _ _ _ st v (c .before .before .before .before .before .before .before .before .before .if1 .left) _ _ _ (c .before .before .before .array .result) refl (sym (c .before .before .before .before .before .before .before .same .ensures) ∙ c .before .before .before .before .before .before .if2 .taken) (c .before .before .before .array .ensures))
+returns-2 c =
+    let a = c .before .before .before in
+    let j = a .before .before .before in
+    let s = j .before in
+    let i = s .before .before in
+    let p = i .before in
+    let z = p .before .before in
+    λ m₀ st v. rw (c .with-table .ensures)
+    (child-array (z .args .table) _ _ _ _ _ (p .part .ensures) (z .pre .0) (z .pre .1) m₀ _ _ st v (i .if1 .left) _ (a .array .result) (sym (s .same .ensures) ∙ j .if2 .taken) (a .array .ensures))
 
 slice-aggregate-same-2 : tie.Need-slice-aggregate-same-2
 slice-aggregate-same-2 c = search needs
@@ -43,14 +58,36 @@ same-requires-2 c κs = search needs
 text-element-requires : tie.Need-text-element-requires
 text-element-requires c κs = search needs
 
-with-about-requires : tie.Need-with-about-requires
-with-about-requires c κs = search needs
+array-with-requires-2 : tie.Need-array-with-requires-2
+array-with-requires-2 c κs = search needs
 
 returns-3 : tie.Need-returns-3
-returns-3 c = λ c₀ p₀ st v. child-about (c .before .before .before .before .before .before .before .before .before .before .before .before .args .lut) _ _ _ _ _ (c .before .before .before .before .before .before .before .before .before .part .ensures) (c .before .before .before .before .before .before .before .before .before .before .before .before .pre .0) (c .before .before .before .before .before .before .before .before .before .before .before .before .pre .1) c₀ p₀ _ _ _ st v (c .before .before .before .before .before .before .before .before .if1 .left) (c .before .text-element .result) _ refl refl (c .with-about .ensures) (sym (c .before .before .before .before .before .before .same .ensures) ∙ c .before .before .before .before .before .if2 .left) (sym (c .before .before .before .same2 .ensures) ∙ c .before .before .if3 .taken) (c .before .text-element .ensures)
+returns-3 c =
+    let e = c .before in
+    let k = e .before in
+    let d = k .before in
+    let j = d .before .before in
+    let s = j .before in
+    let i = s .before .before in
+    let p = i .before in
+    let z = p .before .before in
+    λ m₀ st v. rw (c .array-with2 .ensures)
+    (child-text (z .args .table) _ _ _ _ _ (p .part .ensures) (z .pre .0) (z .pre .1) m₀ _ _ st v (i .if1 .left) _ (sym (s .same .ensures) ∙ j .if2 .left) (sym (d .same2 .ensures) ∙ k .if3 .taken) (e .text-element .ensures))
+
+array-with-requires-3 : tie.Need-array-with-requires-3
+array-with-requires-3 c κs = search needs
 
 returns-4 : tie.Need-returns-4
-returns-4 c = λ c₀ p₀ st v. child-other (c .before .before .before .before .before .before .before .before .before .before .args .lut) _ _ _ _ _ (c .before .before .before .before .before .before .before .part .ensures) (c .before .before .before .before .before .before .before .before .before .before .pre .0) (c .before .before .before .before .before .before .before .before .before .before .pre .1) c₀ p₀ _ _ _ st v (c .before .before .before .before .before .before .if1 .left) _ (sym (c .before .before .before .before .same .ensures) ∙ c .before .before .before .if2 .left) (sym (c .before .same2 .ensures) ∙ c .if3 .left)
+returns-4 c =
+    let k = c .before in
+    let d = k .before in
+    let j = d .before .before in
+    let s = j .before in
+    let i = s .before .before in
+    let p = i .before in
+    let z = p .before .before in
+    λ m₀ st v. rw (c .array-with3 .ensures)
+    (child-other (z .args .table) _ _ _ _ _ (p .part .ensures) (z .pre .0) (z .pre .1) m₀ _ _ st v (i .if1 .left) _ (sym (s .same .ensures) ∙ j .if2 .left) (sym (d .same2 .ensures) ∙ k .if3 .left))
 
 pub array-child-spec : {M : Type 1} → statement M
 array-child-spec =
@@ -58,6 +95,7 @@ array-child-spec =
     (tie.spec
     add-part
     part-requires
+    array-with-requires
     returns
     slice-aggregate-same
     same-requires
@@ -69,6 +107,7 @@ array-child-spec =
     slice-aggregate-same-2
     same-requires-2
     text-element-requires
-    with-about-requires
+    array-with-requires-2
     returns-3
+    array-with-requires-3
     returns-4)

@@ -2,27 +2,29 @@ use Prim.Native.Nat.{_-_}
 use mathlib.Core.Path.{_≡_, refl}
 use native.Mathlib.Omega.{arith}
 use lib.ListN.{length}
+use Rattle.room.specs.Room.{lent}
 use Rattle.clf.specs.Nodes.{noArray}
 use Rattle.node_parts.specs.Held.{HeldAt}
 use Rattle.node_parts.proofs.Held.{held-start, held-gap, held-child, held-moves, held-failed, held-fault, held-cut, held-ended}
 use Rattle.markup.proofs.Answers.{failed}
 use Rattle.array_node.specs.Code.{holderOf, ArrayStands}
 use Rattle.array_node.proofs.Arrays.{array-start, content-end}
+use Rattle.values.proofs.Stored.{cleared-laid}
 use borrow.Author.Needs.{needs}
 use Rattle.array_node.proofs.array_content.Statement.{statement}
 use Rattle.array_node.proofs.array_content.Tie as tie
 
 abbrev Inv-loop : tie.InvT-loop
-Inv-loop s at lut coefficients₀ powers₀ base state₀ i₀ coefficients powers state i = (length coefficients ≡ length coefficients₀) × (length powers ≡ length powers₀) × HeldAt (holderOf lut) noArray s at i (ArrayStands s base coefficients₀ powers₀ coefficients powers state)
+Inv-loop s at table coefficients₀ powers₀ base state₀ i₀ coefficients powers state i = (length coefficients ≡ length coefficients₀) × (length powers ≡ length powers₀) × HeldAt (holderOf table) noArray s at i (ArrayStands base (lent coefficients₀ powers₀) (lent coefficients powers) state)
 
 abbrev μ-loop : tie.MeasureT-loop
-μ-loop s at lut coefficients₀ powers₀ base state₀ i₀ coefficients powers state i = length s - i
+μ-loop s at table coefficients₀ powers₀ base state₀ i₀ coefficients powers state i = length s - i
 
 no-array-requires : tie.Need-no-array-requires Inv-loop μ-loop
 no-array-requires c κs = search needs
 
 loop-holds : tie.Need-loop-holds Inv-loop μ-loop
-loop-holds c = (refl, refl, held-start _ _ _ _ _ (rw (c .no-array .ensures) (array-start _ _ _ _ _)))
+loop-holds c = (refl, refl, held-start _ _ _ _ _ (rw (c .no-array .ensures) (array-start _ _ _)))
 
 lead-at-requires : tie.Need-lead-at-requires Inv-loop μ-loop
 lead-at-requires c κs = search needs
@@ -52,13 +54,13 @@ same-length-2 : tie.Need-same-length-2 Inv-loop μ-loop
 same-length-2 c = search needs
 
 returns : tie.Need-returns Inv-loop μ-loop
-returns c = held-failed _ _ _ _ _ _ (c .before .before .before .before .before .before .before .before .before .before .before .loop .inv .2) _ (rw (c .before .before .before .before .before .before .before .l2 .given .1) at (c .before .before .before .before .before .before .before .before .before .lead-at .ensures)) _ _ _ (c .before .before .before .array-child .ensures (c .before .before .before .before .before .before .before .before .before .before .before .before .before .before .args .coefficients .now) (c .before .before .before .before .before .before .before .before .before .before .before .before .before .before .args .powers .now)) _ (failed (c .before .before .before .array-child .result .scan) (c .match2 .keys2))
+returns c = held-failed _ _ _ _ _ _ (c .before .before .before .before .before .before .before .before .before .before .before .loop .inv .2) _ (rw (c .before .before .before .before .before .before .before .l2 .given .1) at (c .before .before .before .before .before .before .before .before .before .lead-at .ensures)) _ _ _ (c .before .before .before .array-child .ensures (lent (c .before .before .before .before .before .before .before .before .before .before .before .before .before .before .args .coefficients .now) (c .before .before .before .before .before .before .before .before .before .before .before .before .before .before .args .powers .now))) _ (failed (c .before .before .before .array-child .result .scan) (c .match2 .keys2))
 
 loop-less-2 : tie.Need-loop-less-2 Inv-loop μ-loop
-loop-less-2 c = omega (arith, held-moves _ _ _ _ _ _ (c .before .before .before .before .before .before .before .before .before .before .before .before .before .loop .inv .2) _ (rw (c .before .before .before .before .before .before .before .before .before .l2 .given .1) at (c .before .before .before .before .before .before .before .before .before .before .before .lead-at .ensures)) _ _ _ (c .before .before .before .before .before .array-child .ensures (c .before .before .before .before .before .before .before .before .before .before .before .before .before .before .before .before .args .coefficients .now) (c .before .before .before .before .before .before .before .before .before .before .before .before .before .before .before .before .args .powers .now)) _ (c .before .r .given .1))
+loop-less-2 c = omega (arith, held-moves _ _ _ _ _ _ (c .before .before .before .before .before .before .before .before .before .before .before .before .before .loop .inv .2) _ (rw (c .before .before .before .before .before .before .before .before .before .l2 .given .1) at (c .before .before .before .before .before .before .before .before .before .before .before .lead-at .ensures)) _ _ _ (c .before .before .before .before .before .array-child .ensures (lent (c .before .before .before .before .before .before .before .before .before .before .before .before .before .before .before .before .args .coefficients .now) (c .before .before .before .before .before .before .before .before .before .before .before .before .before .before .before .before .args .powers .now))) _ (c .before .r .given .1))
 
 loop-again-2 : tie.Need-loop-again-2 Inv-loop μ-loop
-loop-again-2 c = (search needs, search needs, held-child _ _ _ _ _ _ (c .before .before .before .before .before .before .before .before .before .before .before .before .before .loop .inv .2) _ (rw (c .before .before .before .before .before .before .before .before .before .l2 .given .1) at (c .before .before .before .before .before .before .before .before .before .before .before .lead-at .ensures)) _ _ _ (c .before .before .before .before .before .array-child .ensures (c .before .before .before .before .before .before .before .before .before .before .before .before .before .before .before .before .args .coefficients .now) (c .before .before .before .before .before .before .before .before .before .before .before .before .before .before .before .before .args .powers .now)) _ (c .before .r .given .1))
+loop-again-2 c = (search needs, search needs, held-child _ _ _ _ _ _ (c .before .before .before .before .before .before .before .before .before .before .before .before .before .loop .inv .2) _ (rw (c .before .before .before .before .before .before .before .before .before .l2 .given .1) at (c .before .before .before .before .before .before .before .before .before .before .before .lead-at .ensures)) _ _ _ (c .before .before .before .before .before .array-child .ensures (lent (c .before .before .before .before .before .before .before .before .before .before .before .before .before .before .before .before .args .coefficients .now) (c .before .before .before .before .before .before .before .before .before .before .before .before .before .before .before .before .args .powers .now))) _ (c .before .r .given .1))
 
 enum-told : tie.Need-enum-told Inv-loop μ-loop
 enum-told c = search needs
@@ -79,7 +81,7 @@ same-length-4 : tie.Need-same-length-4 Inv-loop μ-loop
 same-length-4 c = search needs
 
 returns-2 : tie.Need-returns-2 Inv-loop μ-loop
-returns-2 c = rw (c .array-with .ensures) (content-end (c .before .before .before .before .before .before .before .before .before .before .args .lut) _ _ _ _ _ _ _ _ _ (c .before .before .before .before .before .before .before .loop .inv .2) (rw (c .before .before .before .enum-told .given .1) at (c .before .before .before .before .before .lead-at .ensures)) _ _ (c .before .before .array-missing .ensures) (c .before .node-end .ensures))
+returns-2 c = rw (c .array-with .ensures) (content-end (c .before .before .before .before .before .before .before .before .before .before .args .table) _ _ _ _ _ _ _ (c .before .before .before .before .before .before .before .loop .inv .2) (rw (c .before .before .before .enum-told .given .1) at (c .before .before .before .before .before .lead-at .ensures)) _ _ (c .before .before .array-missing .ensures) (c .before .node-end .ensures))
 
 enum-known-l-3 : tie.Need-enum-known-l-3 Inv-loop μ-loop
 enum-known-l-3 c = search needs
@@ -94,7 +96,7 @@ same-length-6 : tie.Need-same-length-6 Inv-loop μ-loop
 same-length-6 c = search needs
 
 returns-3 : tie.Need-returns-3 Inv-loop μ-loop
-returns-3 c = rw (c .array-with2 .ensures) (held-fault _ _ _ _ _ _ (c .before .before .before .before .before .before .loop .inv .2) _ _ _ _ (rw (c .before .before .l3 .given .1) at (c .before .before .before .before .lead-at .ensures)) (c .before .before .before .before .before .before .loop .inv .2 .stands .xs, c .before .before .before .before .before .before .loop .inv .2 .stands .room))
+returns-3 c = rw (c .array-with2 .ensures) (held-fault _ _ _ _ _ _ (c .before .before .before .before .before .before .loop .inv .2) _ _ _ _ (rw (c .before .before .l3 .given .1) at (c .before .before .before .before .lead-at .ensures)) (cleared-laid _ _ _ _ (c .before .before .before .before .before .before .loop .inv .2 .stands .room)))
 
 enum-told-2 : tie.Need-enum-told-2 Inv-loop μ-loop
 enum-told-2 c = search needs
@@ -109,7 +111,7 @@ same-length-8 : tie.Need-same-length-8 Inv-loop μ-loop
 same-length-8 c = search needs
 
 returns-4 : tie.Need-returns-4 Inv-loop μ-loop
-returns-4 c = rw (c .array-with3 .ensures) (held-cut _ _ _ _ _ _ (c .before .before .before .before .before .loop .inv .2) _ _ (rw (c .before .enum-told2 .given .1) at (c .before .before .before .lead-at .ensures)) (c .before .before .before .before .before .loop .inv .2 .stands .xs, c .before .before .before .before .before .loop .inv .2 .stands .room))
+returns-4 c = rw (c .array-with3 .ensures) (held-cut _ _ _ _ _ _ (c .before .before .before .before .before .loop .inv .2) _ _ (rw (c .before .enum-told2 .given .1) at (c .before .before .before .lead-at .ensures)) (cleared-laid _ _ _ _ (c .before .before .before .before .before .loop .inv .2 .stands .room)))
 
 array-with-requires-4 : tie.Need-array-with-requires-4 Inv-loop μ-loop
 array-with-requires-4 c κs = search needs
@@ -121,7 +123,7 @@ same-length-10 : tie.Need-same-length-10 Inv-loop μ-loop
 same-length-10 c = search needs
 
 returns-5 : tie.Need-returns-5 Inv-loop μ-loop
-returns-5 c = rw (c .array-with4 .ensures) (held-ended _ _ _ _ _ _ (c .before .before .loop .inv .2) _ _ (omega arith) (c .before .before .loop .inv .2 .stands .xs, c .before .before .loop .inv .2 .stands .room))
+returns-5 c = rw (c .array-with4 .ensures) (held-ended _ _ _ _ _ _ (c .before .before .loop .inv .2) _ _ (omega arith) (cleared-laid _ _ _ _ (c .before .before .loop .inv .2 .stands .room)))
 
 pub array-content-spec : {M : Type 1} → statement M
 array-content-spec =

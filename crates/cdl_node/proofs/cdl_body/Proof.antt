@@ -1,5 +1,5 @@
 use mathlib.Core.Path.{refl, sym, _∙_}
-use Rattle.cdl_node.proofs.Cdls.{body-sop, body-sat, body-about}
+use Rattle.cdl_node.proofs.Cdls.{body-sop, body-sat, body-text}
 use borrow.Author.Needs.{needs}
 use Rattle.cdl_node.proofs.cdl_body.Statement.{statement}
 use Rattle.cdl_node.proofs.cdl_body.Tie as tie
@@ -20,7 +20,10 @@ same-length-2 : tie.Need-same-length-2
 same-length-2 c = search needs
 
 returns : tie.Need-returns
-returns c = λ st v. body-sop _ _ _ _ st v _ _ _ _ _ _ refl refl refl (sym (c .before .before .before .before .before .before .same .ensures) ∙ c .before .before .before .before .before .if1 .taken) (c .before .before .inner-node .ensures)
+returns c = λ st v.
+    let part = c .before .before in
+    let test = part .before .before .before in
+    body-sop _ _ _ st v _ _ _ _ _ refl refl (sym (test .before .same .ensures) ∙ test .if1 .taken) (part .inner-node .ensures)
 
 slice-aggregate-same-2 : tie.Need-slice-aggregate-same-2
 slice-aggregate-same-2 c = search needs
@@ -38,16 +41,26 @@ same-length-4 : tie.Need-same-length-4
 same-length-4 c = search needs
 
 returns-2 : tie.Need-returns-2
-returns-2 c = λ st v. body-sat _ _ _ _ st v _ _ _ _ _ _ refl refl refl (sym (c .before .before .before .before .before .before .before .before .before .same .ensures) ∙ c .before .before .before .before .before .before .before .before .if1 .left) (sym (c .before .before .before .before .before .before .same2 .ensures) ∙ c .before .before .before .before .before .if2 .taken) (c .before .before .inner-node2 .ensures)
+returns-2 c = λ st v.
+    let part = c .before .before in
+    let second = part .before .before .before in
+    let first = second .before .before .before in
+    body-sat _ _ _ st v _ _ _ _ _ refl refl (sym (first .before .same .ensures) ∙ first .if1 .left) (sym (second .before .same2 .ensures) ∙ second .if2 .taken)
+    (part .inner-node2 .ensures)
 
 text-element-requires : tie.Need-text-element-requires
 text-element-requires c κs = search needs
 
-with-about-requires : tie.Need-with-about-requires
-with-about-requires c κs = search needs
+cdl-with-requires : tie.Need-cdl-with-requires
+cdl-with-requires c κs = search needs
 
 returns-3 : tie.Need-returns-3
-returns-3 c = λ st v. body-about _ _ _ _ st v _ _ (c .before .text-element .result) _ refl refl (c .with-about .ensures) (sym (c .before .before .before .before .before .before .same .ensures) ∙ c .before .before .before .before .before .if1 .left) (sym (c .before .before .before .same2 .ensures) ∙ c .before .before .if2 .left) (c .before .text-element .ensures)
+returns-3 c = λ st v.
+    let second = c .before .before in
+    let first = second .before .before .before in
+    rw (c .cdl-with .ensures)
+    (body-text _ _ _ st v _ _ _ (sym (first .before .same .ensures) ∙ first .if1 .left) (sym (second .before .same2 .ensures) ∙ second .if2 .left)
+    (c .before .text-element .ensures))
 
 pub cdl-body-spec : {M : Type 1} → statement M
 cdl-body-spec =
@@ -66,5 +79,5 @@ cdl-body-spec =
     same-length-4
     returns-2
     text-element-requires
-    with-about-requires
+    cdl-with-requires
     returns-3)

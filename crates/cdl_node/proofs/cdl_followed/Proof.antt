@@ -38,7 +38,7 @@ returns : tie.Need-returns
 returns c = rw (c .before .before .before .before .before .before .end .given .1) (c .before .before .cdl-content .ensures)
 
 returns-2 : tie.Need-returns-2
-returns-2 c = rw (c .before .before .end2 .given .1, c .no-cdl .ensures) (refl, cdl-start _ _ _ _ (c .before .before .before .before .before .pre .0) (c .before .before .before .before .before .pre .1))
+returns-2 c = rw (c .before .before .end2 .given .1, c .no-cdl .ensures) (refl, cdl-start _ _ (c .before .before .before .before .before .pre))
 
 returns-3 : tie.Need-returns-3
 returns-3 c = rw (c .before .before .end3 .given .1, c .no-cdl2 .ensures)

@@ -16,7 +16,7 @@ inner-fault-requires : tie.Need-inner-fault-requires
 inner-fault-requires c κs = search needs
 
 returns : tie.Need-returns
-returns c = λ c₀ p₀ l v. inner-refused (c .before .before .before .before .args .sat) _ _ _ _ (c .before .before .part .ensures) (c .before .before .before .before .pre .0) (c .before .before .before .before .pre .1) _ _ (c .before .inner-fault .ensures) c₀ p₀ _ _ l v _ (c .if1 .taken)
+returns c = λ m₀ l v. inner-refused (c .before .before .before .before .args .part) _ _ _ _ (c .before .before .part .ensures) (c .before .before .before .before .pre .0) (c .before .before .before .before .pre .1) _ _ (c .before .inner-fault .ensures) m₀ _ l v _ (c .if1 .taken)
 
 inner-width-requires : tie.Need-inner-width-requires
 inner-width-requires c κs = search needs
@@ -28,7 +28,7 @@ inner-base-requires : tie.Need-inner-base-requires
 inner-base-requires c κs = search needs
 
 add-base : tie.Need-add-base
-add-base c = omega (arith, c .inner-base .ensures, base-nine (c .before .before .before .before .before .before .before .args .sat), c .before .before .before .before .before .before .before .pre .2)
+add-base c = omega (arith, c .inner-base .ensures, base-nine (c .before .before .before .before .before .before .before .args .part), c .before .before .before .before .before .before .before .pre .2)
 
 value-element-requires : tie.Need-value-element-requires
 value-element-requires c κs = search needs
@@ -40,7 +40,7 @@ same-length-2 : tie.Need-same-length-2
 same-length-2 c = search needs
 
 returns-2 : tie.Need-returns-2
-returns-2 c = λ c₀ p₀ l v. inner-goes (c .before .before .before .before .before .before .before .before .before .before .before .before .args .sat) _ _ _ _ (c .before .before .before .before .before .before .before .before .before .before .part .ensures) (c .before .before .before .before .before .before .before .before .before .before .before .before .pre .0) (c .before .before .before .before .before .before .before .before .before .before .before .before .pre .1) _ _ (c .before .before .before .before .before .before .before .before .before .inner-fault .ensures) c₀ p₀ _ _ l v (c .before .before .before .before .before .before .before .before .if1 .left) _ _ _ _ _ _ (c .before .before .before .before .before .before .before .inner-width .ensures) (c .before .before .before .before .before .before .inner-rule .ensures) (ap (λ (n : ℕ). n + c .before .before .before .before .before .before .before .before .before .before .before .before .args .count) (c .before .before .before .before .before .inner-base .ensures)) (c .before .before .value-element .ensures)
+returns-2 c = λ m₀ l v. inner-goes (c .before .before .before .before .before .before .before .before .before .before .before .before .args .part) _ _ _ _ (c .before .before .before .before .before .before .before .before .before .before .part .ensures) (c .before .before .before .before .before .before .before .before .before .before .before .before .pre .0) (c .before .before .before .before .before .before .before .before .before .before .before .before .pre .1) _ _ (c .before .before .before .before .before .before .before .before .before .inner-fault .ensures) m₀ _ l v (c .before .before .before .before .before .before .before .before .if1 .left) _ _ _ _ _ (c .before .before .before .before .before .before .before .inner-width .ensures) (c .before .before .before .before .before .before .inner-rule .ensures) (ap (λ (n : ℕ). n + c .before .before .before .before .before .before .before .before .before .before .before .before .args .count) (c .before .before .before .before .before .inner-base .ensures)) (c .before .before .value-element .ensures)
 
 pub inner-child-spec : {M : Type 1} → statement M
 inner-child-spec =

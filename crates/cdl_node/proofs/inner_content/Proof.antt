@@ -3,6 +3,7 @@ use mathlib.Core.Path.{_≡_, refl}
 use mathlib.Core.List.{[]}
 use native.Mathlib.Omega.{arith}
 use lib.ListN.{length}
+use Rattle.room.specs.Room.{lent}
 use Rattle.node_parts.specs.Held.{HeldAt}
 use Rattle.node_parts.proofs.Held.{held-start, held-gap, held-child, held-moves, held-failed, held-fault, held-cut, held-ended}
 use Rattle.markup.proofs.Answers.{failed}
@@ -13,16 +14,16 @@ use Rattle.cdl_node.proofs.inner_content.Statement.{statement}
 use Rattle.cdl_node.proofs.inner_content.Tie as tie
 
 abbrev Inv-loop : tie.InvT-loop
-Inv-loop s at sat coefficients₀ powers₀ width count₀ i₀ coefficients powers count i = (length coefficients ≡ length coefficients₀) × (length powers ≡ length powers₀) × HeldAt (innerHolder sat) [] s at i (InnerStands sat coefficients₀ powers₀ coefficients powers count)
+Inv-loop s at part coefficients₀ powers₀ width count₀ i₀ coefficients powers count i = (length coefficients ≡ length coefficients₀) × (length powers ≡ length powers₀) × HeldAt (innerHolder part) [] s at i (InnerStands part (lent coefficients₀ powers₀) (lent coefficients powers) count)
 
 abbrev μ-loop : tie.MeasureT-loop
-μ-loop s at sat coefficients₀ powers₀ width count₀ i₀ coefficients powers count i = length s - i
+μ-loop s at part coefficients₀ powers₀ width count₀ i₀ coefficients powers count i = length s - i
 
 inner-width-requires : tie.Need-inner-width-requires Inv-loop μ-loop
 inner-width-requires c κs = search needs
 
 loop-holds : tie.Need-loop-holds Inv-loop μ-loop
-loop-holds c = (refl, refl, held-start _ _ _ _ _ (inner-start _ _ _))
+loop-holds c = (refl, refl, held-start _ _ _ _ _ (inner-start _ _))
 
 lead-at-requires : tie.Need-lead-at-requires Inv-loop μ-loop
 lead-at-requires c κs = search needs
@@ -40,7 +41,7 @@ enum-known-l-2 : tie.Need-enum-known-l-2 Inv-loop μ-loop
 enum-known-l-2 c = search needs
 
 inner-child-requires : tie.Need-inner-child-requires Inv-loop μ-loop
-inner-child-requires c κs = ((rw (c .before .before .before .l2 .given .1) at (c .before .before .before .before .before .lead-at .ensures)) .inside .0, (rw (c .before .before .before .l2 .given .1) at (c .before .before .before .before .before .lead-at .ensures)) .inside .1, inner-few (c .before .before .before .before .before .before .before .before .before .before .args .sat) _ _ _ _ _ _ (c .before .before .before .before .before .before .before .loop .inv .2 .stands))
+inner-child-requires c κs = ((rw (c .before .before .before .l2 .given .1) at (c .before .before .before .before .before .lead-at .ensures)) .inside .0, (rw (c .before .before .before .l2 .given .1) at (c .before .before .before .before .before .lead-at .ensures)) .inside .1, inner-few (c .before .before .before .before .before .before .before .before .before .before .args .part) _ _ _ _ (c .before .before .before .before .before .before .before .loop .inv .2 .stands))
 
 enum-known-r : tie.Need-enum-known-r Inv-loop μ-loop
 enum-known-r c = search needs
@@ -52,16 +53,16 @@ same-length-2 : tie.Need-same-length-2 Inv-loop μ-loop
 same-length-2 c = search needs
 
 returns : tie.Need-returns Inv-loop μ-loop
-returns c = held-failed _ _ _ _ _ _ (c .before .before .before .before .before .before .before .before .before .before .before .loop .inv .2) _ (rw (c .before .before .before .before .before .before .before .l2 .given .1) at (c .before .before .before .before .before .before .before .before .before .lead-at .ensures)) _ _ _ (c .before .before .before .inner-child .ensures (c .before .before .before .before .before .before .before .before .before .before .before .before .before .before .args .coefficients .now) (c .before .before .before .before .before .before .before .before .before .before .before .before .before .before .args .powers .now)) _ (failed (c .before .before .before .inner-child .result) (c .match2 .keys2))
+returns c = held-failed _ _ _ _ _ _ (c .before .before .before .before .before .before .before .before .before .before .before .loop .inv .2) _ (rw (c .before .before .before .before .before .before .before .l2 .given .1) at (c .before .before .before .before .before .before .before .before .before .lead-at .ensures)) _ _ _ (c .before .before .before .inner-child .ensures (lent (c .before .before .before .before .before .before .before .before .before .before .before .before .before .before .args .coefficients .now) (c .before .before .before .before .before .before .before .before .before .before .before .before .before .before .args .powers .now))) _ (failed (c .before .before .before .inner-child .result) (c .match2 .keys2))
 
 add-count : tie.Need-add-count Inv-loop μ-loop
-add-count c = omega (arith, inner-few (c .before .before .before .before .before .before .before .before .before .before .before .before .before .before .before .before .args .sat) _ _ _ _ _ _ (c .before .before .before .before .before .before .before .before .before .before .before .before .before .loop .inv .2 .stands), c .before .before .before .before .before .before .before .before .before .before .before .before .before .before .inner-width .ensures, width-three (c .before .before .before .before .before .before .before .before .before .before .before .before .before .before .before .before .args .sat))
+add-count c = omega (arith, inner-few (c .before .before .before .before .before .before .before .before .before .before .before .before .before .before .before .before .args .part) _ _ _ _ (c .before .before .before .before .before .before .before .before .before .before .before .before .before .loop .inv .2 .stands), c .before .before .before .before .before .before .before .before .before .before .before .before .before .before .inner-width .ensures, width-three (c .before .before .before .before .before .before .before .before .before .before .before .before .before .before .before .before .args .part))
 
 loop-less-2 : tie.Need-loop-less-2 Inv-loop μ-loop
-loop-less-2 c = omega (arith, held-moves _ _ _ _ _ _ (c .before .before .before .before .before .before .before .before .before .before .before .before .before .loop .inv .2) _ (rw (c .before .before .before .before .before .before .before .before .before .l2 .given .1) at (c .before .before .before .before .before .before .before .before .before .before .before .lead-at .ensures)) _ _ _ (c .before .before .before .before .before .inner-child .ensures (c .before .before .before .before .before .before .before .before .before .before .before .before .before .before .before .before .args .coefficients .now) (c .before .before .before .before .before .before .before .before .before .before .before .before .before .before .before .before .args .powers .now)) _ (c .before .r .given .1))
+loop-less-2 c = omega (arith, held-moves _ _ _ _ _ _ (c .before .before .before .before .before .before .before .before .before .before .before .before .before .loop .inv .2) _ (rw (c .before .before .before .before .before .before .before .before .before .l2 .given .1) at (c .before .before .before .before .before .before .before .before .before .before .before .lead-at .ensures)) _ _ _ (c .before .before .before .before .before .inner-child .ensures (lent (c .before .before .before .before .before .before .before .before .before .before .before .before .before .before .before .before .args .coefficients .now) (c .before .before .before .before .before .before .before .before .before .before .before .before .before .before .before .before .args .powers .now))) _ (c .before .r .given .1))
 
 loop-again-2 : tie.Need-loop-again-2 Inv-loop μ-loop
-loop-again-2 c = (search needs, search needs, rw (c .before .before .before .before .before .before .before .before .before .before .before .before .before .before .inner-width .ensures) (held-child _ _ _ _ _ _ (c .before .before .before .before .before .before .before .before .before .before .before .before .before .loop .inv .2) _ (rw (c .before .before .before .before .before .before .before .before .before .l2 .given .1) at (c .before .before .before .before .before .before .before .before .before .before .before .lead-at .ensures)) _ _ _ (c .before .before .before .before .before .inner-child .ensures (c .before .before .before .before .before .before .before .before .before .before .before .before .before .before .before .before .args .coefficients .now) (c .before .before .before .before .before .before .before .before .before .before .before .before .before .before .before .before .args .powers .now)) _ (c .before .r .given .1)))
+loop-again-2 c = (search needs, search needs, rw (c .before .before .before .before .before .before .before .before .before .before .before .before .before .before .inner-width .ensures) (held-child _ _ _ _ _ _ (c .before .before .before .before .before .before .before .before .before .before .before .before .before .loop .inv .2) _ (rw (c .before .before .before .before .before .before .before .before .before .l2 .given .1) at (c .before .before .before .before .before .before .before .before .before .before .before .lead-at .ensures)) _ _ _ (c .before .before .before .before .before .inner-child .ensures (lent (c .before .before .before .before .before .before .before .before .before .before .before .before .before .before .before .before .args .coefficients .now) (c .before .before .before .before .before .before .before .before .before .before .before .before .before .before .before .before .args .powers .now))) _ (c .before .r .given .1)))
 
 enum-told : tie.Need-enum-told Inv-loop μ-loop
 enum-told c = search needs
@@ -79,7 +80,7 @@ same-length-4 : tie.Need-same-length-4 Inv-loop μ-loop
 same-length-4 c = search needs
 
 returns-2 : tie.Need-returns-2 Inv-loop μ-loop
-returns-2 c = inner-ended (c .before .before .before .before .before .before .before .before .before .args .sat) _ _ _ _ _ _ _ _ (c .before .before .before .before .before .before .loop .inv .2) (rw (c .before .before .enum-told .given .1) at (c .before .before .before .before .lead-at .ensures)) _ (c .before .inner-missing .ensures) _ (c .inner-end .ensures)
+returns-2 c = inner-ended (c .before .before .before .before .before .before .before .before .before .args .part) _ _ _ _ _ _ (c .before .before .before .before .before .before .loop .inv .2) (rw (c .before .before .enum-told .given .1) at (c .before .before .before .before .lead-at .ensures)) _ (c .before .inner-missing .ensures) _ (c .inner-end .ensures)
 
 enum-known-l-3 : tie.Need-enum-known-l-3 Inv-loop μ-loop
 enum-known-l-3 c = search needs

@@ -19,7 +19,7 @@ enum-known-r c = search needs
 
 returns : tie.Need-returns
 unfolding rulesOf
-returns c = inner-failed (c .before .before .before .before .args .sat) _ _ _ _ _ (failed (c .before .behind .result) (c .match .keys2)) (tag-reads _ Holder refl _ _ (c .before .before .start-tag .result) (c .before .before .start-tag .ensures) _ (c .before .behind .ensures))
+returns c = inner-failed (c .before .before .before .before .args .part) _ _ _ _ _ (failed (c .before .behind .result) (c .match .keys2)) (tag-reads _ Holder refl _ _ (c .before .before .start-tag .result) (c .before .before .start-tag .ensures) _ (c .before .behind .ensures))
 
 inner-content-requires : tie.Need-inner-content-requires
 inner-content-requires c κs = search needs
@@ -32,7 +32,7 @@ same-length-2 c = search needs
 
 returns-2 : tie.Need-returns-2
 unfolding rulesOf
-returns-2 c = inner-then (c .before .before .before .before .before .before .before .before .before .before .before .args .sat) _ _ _ _ _ _ (tag-reads _ Holder refl _ _ (c .before .before .before .before .before .before .before .before .before .start-tag .result) (c .before .before .before .before .before .before .before .before .before .start-tag .ensures) _ (sym (c .before .before .before .before .before .before .r .given .1) ∙ c .before .before .before .before .before .before .before .before .behind .ensures)) (c .before .before .inner-content .ensures)
+returns-2 c = inner-then (c .before .before .before .before .before .before .before .before .before .before .before .args .part) _ _ _ _ _ _ (tag-reads _ Holder refl _ _ (c .before .before .before .before .before .before .before .before .before .start-tag .result) (c .before .before .before .before .before .before .before .before .before .start-tag .ensures) _ (sym (c .before .before .before .before .before .before .r .given .1) ∙ c .before .before .before .before .before .before .before .before .behind .ensures)) (c .before .before .inner-content .ensures)
 
 pub inner-node-spec : {M : Type 1} → statement M
 inner-node-spec =

@@ -1,6 +1,7 @@
 use mathlib.Core.Path.{ap}
 use mathlib.Core.Bool.{not}
-use Rattle.cdl_node.proofs.Cdls.{cdl-node}
+use Rattle.markup.proofs.Answers.{failed}
+use Rattle.cdl_node.proofs.Cdls.{cdl-failed, cdl-node}
 use borrow.Author.Needs.{needs}
 use Rattle.cdl_node.proofs.read_cdl.Statement.{statement}
 use Rattle.cdl_node.proofs.read_cdl.Tie as tie
@@ -16,6 +17,28 @@ slice-aggregate-cdl-followed-2 c = search needs
 
 cdl-followed-requires : tie.Need-cdl-followed-requires
 cdl-followed-requires c κs = search needs
+
+enum-known-scan : tie.Need-enum-known-scan
+enum-known-scan c = search needs
+
+failed-requires : tie.Need-failed-requires
+failed-requires c κs = search needs
+
+same-length : tie.Need-same-length
+same-length c = search needs
+
+same-length-2 : tie.Need-same-length-2
+same-length-2 c = search needs
+
+returns : tie.Need-returns
+returns c =
+    let fails = c .before .before in
+    let match = fails .before .before .before in
+    let read = match .before .before .before in
+    let content = read .cdl-followed in
+    let tag = read .before .before .before .before .start-tag in
+    cdl-failed _ _ _ (tag .result) _ _ _ (content .result) _ (tag .ensures) (content .ensures) (failed (content .result .scan) (match .match .keys2))
+    (fails .failed .ensures .0) (fails .failed .ensures .1)
 
 slice-aggregate-store-all : tie.Need-slice-aggregate-store-all
 slice-aggregate-store-all c = search needs
@@ -35,14 +58,21 @@ style-is-requires c κs = search needs
 finished-requires : tie.Need-finished-requires
 finished-requires c κs = search needs
 
-same-length : tie.Need-same-length
-same-length c = search needs
+same-length-3 : tie.Need-same-length-3
+same-length-3 c = search needs
 
-same-length-2 : tie.Need-same-length-2
-same-length-2 c = search needs
+same-length-4 : tie.Need-same-length-4
+same-length-4 c = search needs
 
-returns : tie.Need-returns
-returns c = rw (c .finished .ensures) (cdl-node _ _ _ (c .before .before .before .before .before .before .before .before .before .before .before .before .before .before .before .before .before .start-tag .result) _ _ _ _ _ _ (c .before .before .before .before .before .before .before .before .before .before .before .before .before .cdl-followed .result) _ (ap not (c .before .style-is .ensures)) (c .before .before .before .before .before .before .store-all .ensures) (c .before .before .before .before .before .before .before .before .before .before .before .before .before .before .before .before .before .start-tag .ensures) (c .before .before .before .before .before .before .before .before .before .before .before .before .before .cdl-followed .ensures))
+returns-2 : tie.Need-returns-2
+returns-2 c =
+    let stored = c .before .before .before .before .before in
+    let next = stored .before .before .before .before .before .before in
+    let read = next .before .before .before .before in
+    let content = read .cdl-followed in
+    let tag = read .before .before .before .before .start-tag in
+    cdl-node _ _ _ (tag .result) _ _ _ (content .result) _ (tag .ensures) (content .ensures) _ (next .scan .given .1) _ (ap not (c .before .style-is .ensures))
+    (stored .store-all .ensures) (c .finished .ensures)
 
 pub read-cdl-spec : {M : Type 1} → statement M
 read-cdl-spec =
@@ -52,12 +82,17 @@ read-cdl-spec =
     slice-aggregate-cdl-followed
     slice-aggregate-cdl-followed-2
     cdl-followed-requires
+    enum-known-scan
+    failed-requires
+    same-length
+    same-length-2
+    returns
     slice-aggregate-store-all
     slice-aggregate-store-all-2
     store-all-requires
     slice-aggregate-style-is
     style-is-requires
     finished-requires
-    same-length
-    same-length-2
-    returns)
+    same-length-3
+    same-length-4
+    returns-2)

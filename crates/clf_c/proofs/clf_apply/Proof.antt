@@ -1,5 +1,6 @@
 use Rattle.clf_c.proofs.Applying.{no-threes, no-number, slice-passes}
 use denote.Ref.{now}
+use Rattle.room.specs.Room.{lent}
 use borrow.Author.Needs.{needs}
 use Rattle.clf_c.proofs.clf_apply.Statement.{statement}
 use Rattle.clf_c.proofs.clf_apply.Tie as tie
@@ -10,7 +11,7 @@ use Rattle.pixel_run.proofs.first_not_finite.Reads as first-not-finite-reads
 
 -- src/lib.rt:69:9
 returns : tie.Need-returns
-returns c = let a = c .before .before .before .args in no-threes (now (a .file)) (now (a .coefficients)) (now (a .powers)) (now (a .pixels)) (c .if1 .taken)
+returns c = let a = c .before .before .before .args in no-threes (now (a .file)) (lent (now (a .coefficients)) (now (a .powers))) (now (a .pixels)) (c .if1 .taken)
 
 -- src/lib.rt:74:9
 first-not-finite-requires : tie.Need-first-not-finite-requires
@@ -24,7 +25,7 @@ same-length c = search needs
 returns-2 : tie.Need-returns-2
 returns-2 c =
     let a = c .before .before .before .before .before .before .args in
-    no-number (now (a .file)) (now (a .coefficients)) (now (a .powers)) (now (a .pixels)) (c .before .first-not-finite .result) (c .before .before .before .if1 .left) (c .before .first-not-finite .ensures) (c .if2 .taken)
+    no-number (now (a .file)) (lent (now (a .coefficients)) (now (a .powers))) (now (a .pixels)) (c .before .first-not-finite .result) (c .before .before .before .if1 .left) (c .before .first-not-finite .ensures) (c .if2 .taken)
 
 -- src/lib.rt:81:5
 read-and-run-requires : tie.Need-read-and-run-requires

@@ -20,7 +20,9 @@ same-length-2 : tie.Need-same-length-2
 same-length-2 c = search needs
 
 returns : tie.Need-returns
-returns c = (file-read _ _ _ _ (c .before .before .before .before .before .read .ensures .answer) (c .used .ensures), search needs, search needs)
+returns c =
+    let r = c .before .before .before .before .before .read .ensures in
+    record { answer = file-read _ _ _ _ (r .answer) (c .used .ensures); room = r .room }
 
 pub clf-read-file-spec : {M : Type 1} → statement M
 clf-read-file-spec =

@@ -1,4 +1,3 @@
-use borrow.Author.Tests.{le-leb, lt-leb}
 use Rattle.file_text.specs.Code.{isOver}
 use Rattle.file_text.proofs.is_over.Statement.{statement}
 use Rattle.file_text.proofs.is_over.Tie as tie

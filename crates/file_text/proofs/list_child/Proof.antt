@@ -1,5 +1,5 @@
-use mathlib.Core.Path.{refl, sym, _∙_}
-use Rattle.file_text.proofs.Children.{passes-reads, child-description, child-input, child-output, child-info, child-node, node-outside}
+use Rattle.file_text.proofs.Children.{child-description, child-input, child-output, child-info, child-node, child-by-node}
+use mathlib.Core.Path.{sym, _∙_}
 use borrow.Author.Needs.{needs}
 use Rattle.file_text.proofs.list_child.Statement.{statement}
 use Rattle.file_text.proofs.list_child.Tie as tie
@@ -16,11 +16,19 @@ slice-aggregate-same c = search needs
 same-requires : tie.Need-same-requires
 same-requires c κs = search needs
 
-text-child-requires : tie.Need-text-child-requires
-text-child-requires c κs = search needs
+text-element-requires : tie.Need-text-element-requires
+text-element-requires c κs = search needs
+
+step-of-requires : tie.Need-step-of-requires
+step-of-requires c κs = search needs
 
 returns : tie.Need-returns
-returns c = rw (← c .before .before .before .before .part .ensures) (child-description _ _ _ _ _ _ _ _ _ (sym (c .before .before .same .ensures) ∙ c .before .if1 .taken) (c .text-child .ensures))
+returns c =
+    let if1 = c .before .before .if1 in
+    let text-element = c .before .text-element in
+    let same = c .before .before .before .same in
+    let part = c .before .before .before .before .before .part in
+    rw (← part .ensures, c .step-of .ensures) (child-description _ _ _ _ _ _ _ _ (sym (same .ensures) ∙ if1 .taken) (text-element .ensures))
 
 slice-aggregate-same-2 : tie.Need-slice-aggregate-same-2
 slice-aggregate-same-2 c = search needs
@@ -28,14 +36,21 @@ slice-aggregate-same-2 c = search needs
 same-requires-2 : tie.Need-same-requires-2
 same-requires-2 c κs = search needs
 
-text-child-requires-2 : tie.Need-text-child-requires-2
-text-child-requires-2 c κs = search needs
+text-element-requires-2 : tie.Need-text-element-requires-2
+text-element-requires-2 c κs = search needs
 
 input-step-requires : tie.Need-input-step-requires
 input-step-requires c κs = search needs
 
 returns-2 : tie.Need-returns-2
-returns-2 c = rw (← c .before .before .before .before .before .before .before .before .part .ensures, c .input-step .ensures) (child-input _ _ _ _ _ _ _ _ _ (sym (c .before .before .before .before .before .before .same .ensures) ∙ c .before .before .before .before .before .if1 .left) (sym (c .before .before .before .same2 .ensures) ∙ c .before .before .if2 .taken) (c .before .text-child2 .ensures))
+returns-2 c =
+    let if2 = c .before .before .if2 in
+    let text-element2 = c .before .text-element2 in
+    let same2 = c .before .before .before .same2 in
+    let if1 = c .before .before .before .before .before .if1 in
+    let same = c .before .before .before .before .before .before .same in
+    let part = c .before .before .before .before .before .before .before .before .part in
+    rw (← part .ensures, c .input-step .ensures) (child-input _ _ _ _ _ _ _ _ (sym (same .ensures) ∙ if1 .left) (sym (same2 .ensures) ∙ if2 .taken) (text-element2 .ensures))
 
 slice-aggregate-same-3 : tie.Need-slice-aggregate-same-3
 slice-aggregate-same-3 c = search needs
@@ -43,14 +58,23 @@ slice-aggregate-same-3 c = search needs
 same-requires-3 : tie.Need-same-requires-3
 same-requires-3 c κs = search needs
 
-text-child-requires-3 : tie.Need-text-child-requires-3
-text-child-requires-3 c κs = search needs
+text-element-requires-3 : tie.Need-text-element-requires-3
+text-element-requires-3 c κs = search needs
 
 output-step-requires : tie.Need-output-step-requires
 output-step-requires c κs = search needs
 
 returns-3 : tie.Need-returns-3
-returns-3 c = rw (← c .before .before .before .before .before .before .before .before .before .before .before .part .ensures, c .output-step .ensures) (child-output _ _ _ _ _ _ _ _ _ (sym (c .before .before .before .before .before .before .before .before .before .same .ensures) ∙ c .before .before .before .before .before .before .before .before .if1 .left) (sym (c .before .before .before .before .before .before .same2 .ensures) ∙ c .before .before .before .before .before .if2 .left) (sym (c .before .before .before .same3 .ensures) ∙ c .before .before .if3 .taken) (c .before .text-child3 .ensures))
+returns-3 c =
+    let if3 = c .before .before .if3 in
+    let text-element3 = c .before .text-element3 in
+    let same3 = c .before .before .before .same3 in
+    let if2 = c .before .before .before .before .before .if2 in
+    let same2 = c .before .before .before .before .before .before .same2 in
+    let if1 = c .before .before .before .before .before .before .before .before .if1 in
+    let same = c .before .before .before .before .before .before .before .before .before .same in
+    let part = c .before .before .before .before .before .before .before .before .before .before .before .part in
+    rw (← part .ensures, c .output-step .ensures) (child-output _ _ _ _ _ _ _ _ (sym (same .ensures) ∙ if1 .left) (sym (same2 .ensures) ∙ if2 .left) (sym (same3 .ensures) ∙ if3 .taken) (text-element3 .ensures))
 
 slice-aggregate-same-4 : tie.Need-slice-aggregate-same-4
 slice-aggregate-same-4 c = search needs
@@ -65,7 +89,18 @@ info-step-requires : tie.Need-info-step-requires
 info-step-requires c κs = search needs
 
 returns-4 : tie.Need-returns-4
-returns-4 c = rw (← c .before .before .before .before .before .before .before .before .before .before .before .before .before .before .part .ensures, c .info-step .ensures) (child-info _ _ _ _ _ _ _ _ _ (sym (c .before .before .before .before .before .before .before .before .before .before .before .before .same .ensures) ∙ c .before .before .before .before .before .before .before .before .before .before .before .if1 .left) (sym (c .before .before .before .before .before .before .before .before .before .same2 .ensures) ∙ c .before .before .before .before .before .before .before .before .if2 .left) (sym (c .before .before .before .before .before .before .same3 .ensures) ∙ c .before .before .before .before .before .if3 .left) (sym (c .before .before .before .same4 .ensures) ∙ c .before .before .if4 .taken) (passes-reads _ _ _ _ (c .before .info .ensures)))
+returns-4 c =
+    let info = c .before .info in
+    let if4 = c .before .before .if4 in
+    let same4 = c .before .before .before .same4 in
+    let if3 = c .before .before .before .before .before .if3 in
+    let same3 = c .before .before .before .before .before .before .same3 in
+    let if2 = c .before .before .before .before .before .before .before .before .if2 in
+    let same2 = c .before .before .before .before .before .before .before .before .before .same2 in
+    let if1 = c .before .before .before .before .before .before .before .before .before .before .before .if1 in
+    let same = c .before .before .before .before .before .before .before .before .before .before .before .before .same in
+    let part = c .before .before .before .before .before .before .before .before .before .before .before .before .before .before .part in
+    rw (← part .ensures, c .info-step .ensures) (child-info _ _ _ _ _ _ _ _ (sym (same .ensures) ∙ if1 .left) (sym (same2 .ensures) ∙ if2 .left) (sym (same3 .ensures) ∙ if3 .left) (sym (same4 .ensures) ∙ if4 .taken) (info .ensures))
 
 node-name-requires : tie.Need-node-name-requires
 node-name-requires c κs = search needs
@@ -74,13 +109,25 @@ node-child-requires : tie.Need-node-child-requires
 node-child-requires c κs = search needs
 
 same-length : tie.Need-same-length
-same-length c = (node-outside _ _ _ _ _ _ _ _ _ _ _ (c .before .before .node-child .ensures)) .coefficients
+same-length c = (child-by-node (c .before .before .node-child .ensures)) .coefficients .size
 
 same-length-2 : tie.Need-same-length-2
-same-length-2 c = (node-outside _ _ _ _ _ _ _ _ _ _ _ (c .before .before .node-child .ensures)) .powers
+same-length-2 c = (child-by-node (c .before .before .node-child .ensures)) .powers .size
 
 returns-5 : tie.Need-returns-5
-returns-5 c = rw (← c .before .before .before .before .before .before .before .before .before .before .before .before .before .before .before .before .before .before .part .ensures) (child-node _ _ _ _ _ _ _ _ _ _ _ _ (sym (c .before .before .before .before .before .before .before .before .before .before .before .before .before .before .before .before .same .ensures) ∙ c .before .before .before .before .before .before .before .before .before .before .before .before .before .before .before .if1 .left) (sym (c .before .before .before .before .before .before .before .before .before .before .before .before .before .same2 .ensures) ∙ c .before .before .before .before .before .before .before .before .before .before .before .before .if2 .left) (sym (c .before .before .before .before .before .before .before .before .before .before .same3 .ensures) ∙ c .before .before .before .before .before .before .before .before .before .if3 .left) (sym (c .before .before .before .before .before .before .before .same4 .ensures) ∙ c .before .before .before .before .before .before .if4 .left) (c .before .before .before .before .before .node-name .ensures) (c .before .before .node-child .ensures))
+returns-5 c =
+    let node-child = c .before .before .node-child in
+    let node-name = c .before .before .before .before .before .node-name in
+    let if4 = c .before .before .before .before .before .before .if4 in
+    let same4 = c .before .before .before .before .before .before .before .same4 in
+    let if3 = c .before .before .before .before .before .before .before .before .before .if3 in
+    let same3 = c .before .before .before .before .before .before .before .before .before .before .same3 in
+    let if2 = c .before .before .before .before .before .before .before .before .before .before .before .before .if2 in
+    let same2 = c .before .before .before .before .before .before .before .before .before .before .before .before .before .same2 in
+    let if1 = c .before .before .before .before .before .before .before .before .before .before .before .before .before .before .before .if1 in
+    let same = c .before .before .before .before .before .before .before .before .before .before .before .before .before .before .before .before .same in
+    let part = c .before .before .before .before .before .before .before .before .before .before .before .before .before .before .before .before .before .before .part in
+    rw (← part .ensures) (child-node _ _ _ _ _ _ _ _ _ _ (sym (same .ensures) ∙ if1 .left) (sym (same2 .ensures) ∙ if2 .left) (sym (same3 .ensures) ∙ if3 .left) (sym (same4 .ensures) ∙ if4 .left) (node-name .ensures) (node-child .ensures))
 
 pub list-child-spec : {M : Type 1} → statement M
 list-child-spec =
@@ -90,16 +137,17 @@ list-child-spec =
     part-requires
     slice-aggregate-same
     same-requires
-    text-child-requires
+    text-element-requires
+    step-of-requires
     returns
     slice-aggregate-same-2
     same-requires-2
-    text-child-requires-2
+    text-element-requires-2
     input-step-requires
     returns-2
     slice-aggregate-same-3
     same-requires-3
-    text-child-requires-3
+    text-element-requires-3
     output-step-requires
     returns-3
     slice-aggregate-same-4

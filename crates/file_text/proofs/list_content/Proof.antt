@@ -1,23 +1,24 @@
-use native.Mathlib.Omega.{arith}
-use Prim.Native.Nat.{_-_}
-use lib.ListN.{length}
+use Rattle.file_text.proofs.Content.{ContentInv, content-start, content-size, child-size, content-gap, content-fault, content-cut, content-end, content-child, content-moves, content-failed, content-past}
+use Rattle.room.specs.Room.{lent}
 use Rattle.xml.proofs.Answers.{failed}
-use Rattle.file_text.proofs.Content.{ContentInv, content-start, content-gap, content-fault, content-cut, content-end, content-child, content-moves, content-failed, content-past}
+use lib.ListN.{length}
+use Prim.Native.Nat.{_-_}
+use native.Mathlib.Omega.{arith}
 use borrow.Author.Needs.{needs}
 use Rattle.file_text.proofs.list_content.Statement.{statement}
 use Rattle.file_text.proofs.list_content.Tie as tie
 
 abbrev Inv-loop : tie.InvT-loop
-Inv-loop s at wanted coefficients powers state₀ i₀ word₀ coefficients₁ powers₁ state i = ContentInv wanted s at i state coefficients powers coefficients₁ powers₁
+Inv-loop s at wanted coefficients₀ powers₀ state₀ i₀ t17 coefficients powers state i = ContentInv wanted s at i state (lent coefficients₀ powers₀) (lent coefficients powers)
 
 abbrev μ-loop : tie.MeasureT-loop
-μ-loop s at wanted coefficients powers state₀ i₀ word₀ coefficients₁ powers₁ state i = length s - i
+μ-loop s at wanted coefficients₀ powers₀ state₀ i₀ t17 coefficients powers state i = length s - i
 
 no-list-requires : tie.Need-no-list-requires Inv-loop μ-loop
 no-list-requires c κs = search needs
 
 loop-holds : tie.Need-loop-holds Inv-loop μ-loop
-loop-holds c = rw (c .no-list .ensures) (content-start _ _ _ _ _)
+loop-holds c = rw (c .no-list .ensures) (content-start _ _ _ _)
 
 lead-at-requires : tie.Need-lead-at-requires Inv-loop μ-loop
 lead-at-requires c κs = search needs
@@ -29,7 +30,11 @@ loop-less : tie.Need-loop-less Inv-loop μ-loop
 loop-less c = omega (arith, (rw (c .before .l .given .1) at (c .before .before .before .lead-at .ensures)) .inside)
 
 loop-again : tie.Need-loop-again Inv-loop μ-loop
-loop-again c = content-gap _ _ _ _ _ _ _ _ _ (c .before .before .before .before .before .loop .inv) (omega arith) _ (rw (c .before .l .given .1) at (c .before .before .before .lead-at .ensures))
+loop-again c =
+    let l = c .before .l in
+    let lead-at = c .before .before .before .lead-at in
+    let loop = c .before .before .before .before .before .loop in
+    content-gap _ _ _ _ _ _ _ (loop .inv) (omega arith) _ (rw (l .given .1) at (lead-at .ensures))
 
 enum-known-l-2 : tie.Need-enum-known-l-2 Inv-loop μ-loop
 enum-known-l-2 c = search needs
@@ -40,20 +45,51 @@ list-child-requires c κs = omega arith
 enum-known-scan : tie.Need-enum-known-scan Inv-loop μ-loop
 enum-known-scan c = search needs
 
+step-of-requires : tie.Need-step-of-requires Inv-loop μ-loop
+step-of-requires c κs = search needs
+
 same-length : tie.Need-same-length Inv-loop μ-loop
-same-length c = (content-failed _ _ _ _ _ _ _ _ _ (c .before .before .before .before .before .before .before .before .before .before .before .loop .inv) (omega arith) _ (rw (c .before .before .before .before .before .before .before .l2 .given .1) at (c .before .before .before .before .before .before .before .before .before .lead-at .ensures)) _ _ _ (failed (c .before .before .before .list-child .result .scan) (c .match2 .keys2)) (c .before .before .before .list-child .ensures)) .outside .coefficients
+same-length c =
+    let list-child = c .before .before .before .before .before .list-child in
+    let loop = c .before .before .before .before .before .before .before .before .before .before .before .before .before .loop in
+    (child-size _ _ _ _ _ _ _ (loop .inv) _ _ _ _ (list-child .ensures)) .coefficients .size
 
 same-length-2 : tie.Need-same-length-2 Inv-loop μ-loop
-same-length-2 c = (content-failed _ _ _ _ _ _ _ _ _ (c .before .before .before .before .before .before .before .before .before .before .before .loop .inv) (omega arith) _ (rw (c .before .before .before .before .before .before .before .l2 .given .1) at (c .before .before .before .before .before .before .before .before .before .lead-at .ensures)) _ _ _ (failed (c .before .before .before .list-child .result .scan) (c .match2 .keys2)) (c .before .before .before .list-child .ensures)) .outside .powers
+same-length-2 c =
+    let list-child = c .before .before .before .before .before .list-child in
+    let loop = c .before .before .before .before .before .before .before .before .before .before .before .before .before .loop in
+    (child-size _ _ _ _ _ _ _ (loop .inv) _ _ _ _ (list-child .ensures)) .powers .size
 
 returns : tie.Need-returns Inv-loop μ-loop
-returns c = content-failed _ _ _ _ _ _ _ _ _ (c .before .before .before .before .before .before .before .before .before .before .before .loop .inv) (omega arith) _ (rw (c .before .before .before .before .before .before .before .l2 .given .1) at (c .before .before .before .before .before .before .before .before .before .lead-at .ensures)) _ _ _ (failed (c .before .before .before .list-child .result .scan) (c .match2 .keys2)) (c .before .before .before .list-child .ensures)
+returns c =
+    let match2 = c .before .match2 in
+    let list-child = c .before .before .before .before .before .list-child in
+    let l2 = c .before .before .before .before .before .before .before .before .before .l2 in
+    let lead-at = c .before .before .before .before .before .before .before .before .before .before .before .lead-at in
+    let test = c .before .before .before .before .before .before .before .before .before .before .before .before .loop-test in
+    let loop = c .before .before .before .before .before .before .before .before .before .before .before .before .before .loop in
+    rw (c .step-of .ensures) (content-failed _ _ _ _ _ _ _ (loop .inv) (omega (arith, test .taken)) _ (rw (l2 .given .1) at (lead-at .ensures)) _ _ (failed (list-child .result .scan) (match2 .keys2)) (list-child .ensures))
 
 loop-less-2 : tie.Need-loop-less-2 Inv-loop μ-loop
-loop-less-2 c = omega (arith, content-moves _ _ _ _ _ _ _ _ _ (c .before .before .before .before .before .before .before .before .before .before .before .before .before .before .loop .inv) (omega arith) _ (rw (c .before .before .before .before .before .before .before .before .before .before .l2 .given .1) at (c .before .before .before .before .before .before .before .before .before .before .before .before .lead-at .ensures)) _ _ _ _ (c .before .before .scan .given .1) (c .before .before .before .before .before .before .list-child .ensures))
+loop-less-2 c =
+    let scan = c .before .scan in
+    let list-child = c .before .before .before .before .before .before .list-child in
+    let l2 = c .before .before .before .before .before .before .before .before .before .before .l2 in
+    let lead-at = c .before .before .before .before .before .before .before .before .before .before .before .before .lead-at in
+    let test = c .before .before .before .before .before .before .before .before .before .before .before .before .before .loop-test in
+    let loop = c .before .before .before .before .before .before .before .before .before .before .before .before .before .before .loop in
+    omega (arith, content-moves _ _ _ _ _ _ _ (loop .inv) (omega (arith, test .taken)) _ (rw (l2 .given .1) at (lead-at .ensures)) _ _ _ (scan .given .1) (list-child .ensures))
 
 loop-again-2 : tie.Need-loop-again-2 Inv-loop μ-loop
-loop-again-2 c = content-child _ _ _ _ _ _ _ _ _ (c .before .before .before .before .before .before .before .before .before .before .before .before .before .before .loop .inv) (omega arith) _ (rw (c .before .before .before .before .before .before .before .before .before .before .l2 .given .1) at (c .before .before .before .before .before .before .before .before .before .before .before .before .lead-at .ensures)) _ _ _ _ (c .before .before .scan .given .1) (c .before .before .before .before .before .before .list-child .ensures)
+loop-again-2 c =
+    let scan = c .before .scan in
+    let list-child = c .before .before .before .before .before .before .list-child in
+    let l2 = c .before .before .before .before .before .before .before .before .before .before .l2 in
+    let lead-at = c .before .before .before .before .before .before .before .before .before .before .before .before .lead-at in
+    let test = c .before .before .before .before .before .before .before .before .before .before .before .before .before .loop-test in
+    let loop = c .before .before .before .before .before .before .before .before .before .before .before .before .before .before .loop in
+    content-child _ _ _ _ _ _ _ (loop .inv) (omega (arith, test .taken)) _ (rw (l2 .given .1) at (lead-at .ensures)) _ _ _ (scan .given .1)
+    (list-child .ensures)
 
 enum-told : tie.Need-enum-told Inv-loop μ-loop
 enum-told c = search needs
@@ -64,47 +100,72 @@ slice-aggregate-end-tag c = search needs
 end-tag-requires : tie.Need-end-tag-requires Inv-loop μ-loop
 end-tag-requires c κs = search needs
 
+step-of-requires-2 : tie.Need-step-of-requires-2 Inv-loop μ-loop
+step-of-requires-2 c κs = search needs
+
 same-length-3 : tie.Need-same-length-3 Inv-loop μ-loop
-same-length-3 c = search needs
+same-length-3 c = (content-size _ _ _ _ _ _ _ (c .before .before .before .before .before .before .before .loop .inv)) .coefficients .size
 
 same-length-4 : tie.Need-same-length-4 Inv-loop μ-loop
-same-length-4 c = search needs
+same-length-4 c = (content-size _ _ _ _ _ _ _ (c .before .before .before .before .before .before .before .loop .inv)) .powers .size
 
 returns-2 : tie.Need-returns-2 Inv-loop μ-loop
-returns-2 c = content-end _ _ _ _ _ _ _ _ _ (c .before .before .before .before .before .before .loop .inv) (omega arith) _ (rw (c .before .before .enum-told .given .1) at (c .before .before .before .before .lead-at .ensures)) (c .end-tag .ensures)
+returns-2 c =
+    let end-tag = c .before .end-tag in
+    let enum-told = c .before .before .before .enum-told in
+    let lead-at = c .before .before .before .before .before .lead-at in
+    let loop = c .before .before .before .before .before .before .before .loop in
+    rw (c .step-of2 .ensures) (content-end _ _ _ _ _ _ _ (loop .inv) (omega arith) _ (rw (enum-told .given .1) at (lead-at .ensures)) (end-tag .ensures))
 
 enum-known-l-3 : tie.Need-enum-known-l-3 Inv-loop μ-loop
 enum-known-l-3 c = search needs
 
+step-of-requires-3 : tie.Need-step-of-requires-3 Inv-loop μ-loop
+step-of-requires-3 c κs = search needs
+
 same-length-5 : tie.Need-same-length-5 Inv-loop μ-loop
-same-length-5 c = search needs
+same-length-5 c = (content-size _ _ _ _ _ _ _ (c .before .before .before .before .before .before .loop .inv)) .coefficients .size
 
 same-length-6 : tie.Need-same-length-6 Inv-loop μ-loop
-same-length-6 c = search needs
+same-length-6 c = (content-size _ _ _ _ _ _ _ (c .before .before .before .before .before .before .loop .inv)) .powers .size
 
 returns-3 : tie.Need-returns-3 Inv-loop μ-loop
-returns-3 c = content-fault _ _ _ _ _ _ _ _ _ (c .before .before .before .before .before .loop .inv) (omega arith) _ _ (rw (c .before .l3 .given .1) at (c .before .before .before .lead-at .ensures))
+returns-3 c =
+    let l3 = c .before .before .l3 in
+    let lead-at = c .before .before .before .before .lead-at in
+    let loop = c .before .before .before .before .before .before .loop in
+    rw (c .step-of3 .ensures) (content-fault _ _ _ _ _ _ _ (loop .inv) (omega arith) _ _ (rw (l3 .given .1) at (lead-at .ensures)))
 
 enum-told-2 : tie.Need-enum-told-2 Inv-loop μ-loop
 enum-told-2 c = search needs
 
+step-of-requires-4 : tie.Need-step-of-requires-4 Inv-loop μ-loop
+step-of-requires-4 c κs = search needs
+
 same-length-7 : tie.Need-same-length-7 Inv-loop μ-loop
-same-length-7 c = search needs
+same-length-7 c = (content-size _ _ _ _ _ _ _ (c .before .before .before .before .before .loop .inv)) .coefficients .size
 
 same-length-8 : tie.Need-same-length-8 Inv-loop μ-loop
-same-length-8 c = search needs
+same-length-8 c = (content-size _ _ _ _ _ _ _ (c .before .before .before .before .before .loop .inv)) .powers .size
 
 returns-4 : tie.Need-returns-4 Inv-loop μ-loop
-returns-4 c = content-cut _ _ _ _ _ _ _ _ _ (c .before .before .before .before .loop .inv) (omega arith) (rw (c .enum-told2 .given .1) at (c .before .before .lead-at .ensures))
+returns-4 c =
+    let enum-told2 = c .before .enum-told2 in
+    let lead-at = c .before .before .before .lead-at in
+    let loop = c .before .before .before .before .before .loop in
+    rw (c .step-of4 .ensures) (content-cut _ _ _ _ _ _ _ (loop .inv) (omega arith) (rw (enum-told2 .given .1) at (lead-at .ensures)))
+
+step-of-requires-5 : tie.Need-step-of-requires-5 Inv-loop μ-loop
+step-of-requires-5 c κs = search needs
 
 same-length-9 : tie.Need-same-length-9 Inv-loop μ-loop
-same-length-9 c = search needs
+same-length-9 c = (content-size _ _ _ _ _ _ _ (c .before .before .loop .inv)) .coefficients .size
 
 same-length-10 : tie.Need-same-length-10 Inv-loop μ-loop
-same-length-10 c = search needs
+same-length-10 c = (content-size _ _ _ _ _ _ _ (c .before .before .loop .inv)) .powers .size
 
 returns-5 : tie.Need-returns-5 Inv-loop μ-loop
-returns-5 c = content-past _ _ _ _ _ _ _ _ _ (c .before .loop .inv) (omega arith)
+returns-5 c = rw (c .step-of5 .ensures) (content-past _ _ _ _ _ _ _ (c .before .before .loop .inv) (omega arith))
 
 pub list-content-spec : {M : Type 1} → statement M
 list-content-spec =
@@ -121,6 +182,7 @@ list-content-spec =
     enum-known-l-2
     list-child-requires
     enum-known-scan
+    step-of-requires
     same-length
     same-length-2
     returns
@@ -129,17 +191,21 @@ list-content-spec =
     enum-told
     slice-aggregate-end-tag
     end-tag-requires
+    step-of-requires-2
     same-length-3
     same-length-4
     returns-2
     enum-known-l-3
+    step-of-requires-3
     same-length-5
     same-length-6
     returns-3
     enum-told-2
+    step-of-requires-4
     same-length-7
     same-length-8
     returns-4
+    step-of-requires-5
     same-length-9
     same-length-10
     returns-5)

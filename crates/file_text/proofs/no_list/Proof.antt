@@ -5,16 +5,8 @@ use Rattle.file_text.proofs.no_list.Tie as tie
 empty-requires : tie.Need-empty-requires
 empty-requires c κs = search needs
 
-no-about-requires : tie.Need-no-about-requires
-no-about-requires c κs = search needs
-
 returns : tie.Need-returns
-returns c = rw (c .before .empty .ensures, c .no-about .ensures)
+returns c = rw (c .empty .ensures)
 
 pub no-list-spec : {M : Type 1} → statement M
-no-list-spec =
-    tie.close
-    (tie.spec
-    empty-requires
-    no-about-requires
-    returns)
+no-list-spec = tie.close (tie.spec empty-requires returns)

@@ -1,8 +1,9 @@
 use native.Mathlib.Omega.{arith}
 use lib.ListN.{length}
-use Rattle.xml.specs.Elements.{infoElement}
+use Rattle.xml.specs.Elements.{infoContent, infoElement}
 use Rattle.xml.proofs.Answers.{failed}
-use Rattle.info.proofs.Contents.{ContentInv, content-start, content-ended, content-passed, content-forward, content-passed-failed, content-end, content-child, content-child-failed, rest-open, rest-empty, rest-fault, rest-cut, element-unnamed, element-deep, element-rest}
+use Rattle.info.proofs.Behind.{rest-open, rest-empty, rest-fault, rest-cut}
+use Rattle.info.proofs.Contents.{ContentInv, content-start, content-ended, content-passed, content-forward, content-passed-failed, content-end, content-child, content-child-failed, element-unnamed, element-deep, element-rest}
 use borrow.Author.Needs.{needs}
 use Prim.Native.Nat.{ℕ, _+_, _-_, _*_, _<_}
 use borrow.Fn.Kinds.{In}
@@ -381,7 +382,7 @@ element-returns-3 : (t : ℕ) → element-lts.Need-returns-3 (
   content-below t,
   content.Post,
 ) (element-at t) element.Post
-element-returns-3 t c = element-rest _ _ _ _ (rw (c .before .before .before .before .before .before .before .before .r .given .1) at (c .before .before .before .before .before .before .before .before .before .before .open-name .ensures)) _ (c .before .before .before .before .before .before .if1 .left) (rest-open (infoElement (c .before .before .before .before .before .before .before .before .before .before .before .before .args .left - 1)) _ _ _ (c .before .before .before .before .before .plain-tag .result) (c .before .before .before .before .before .plain-tag .ensures) _ _ (c .before .before .before .end .given .1) (rw (c .before .part .ensures) at (c .content .ensures)))
+element-returns-3 t c = element-rest _ _ _ _ (rw (c .before .before .before .before .before .before .before .before .r .given .1) at (c .before .before .before .before .before .before .before .before .before .before .open-name .ensures)) _ (c .before .before .before .before .before .before .if1 .left) (rest-open (infoContent (infoElement (c .before .before .before .before .before .before .before .before .before .before .before .before .args .left - 1)) _) _ _ (c .before .before .before .before .before .plain-tag .result) (c .before .before .before .before .before .plain-tag .ensures) _ _ (c .before .before .before .end .given .1) (rw (c .before .part .ensures) at (c .content .ensures)))
 
 element-returns-4 : (t : ℕ) → element-lts.Need-returns-4 (
   open-name-reads.Asked,
@@ -393,7 +394,7 @@ element-returns-4 : (t : ℕ) → element-lts.Need-returns-4 (
   content-below t,
   content.Post,
 ) (element-at t) element.Post
-element-returns-4 t c = element-rest _ _ _ _ (rw (c .before .before .before .before .before .before .r .given .1) at (c .before .before .before .before .before .before .before .before .open-name .ensures)) _ (c .before .before .before .before .if1 .left) (rest-empty (infoElement (c .before .before .before .before .before .before .before .before .before .before .args .left - 1)) _ _ _ (c .before .before .before .plain-tag .result) (c .before .before .before .plain-tag .ensures) _ (c .before .end2 .given .1))
+element-returns-4 t c = element-rest _ _ _ _ (rw (c .before .before .before .before .before .before .r .given .1) at (c .before .before .before .before .before .before .before .before .open-name .ensures)) _ (c .before .before .before .before .if1 .left) (rest-empty (infoContent (infoElement (c .before .before .before .before .before .before .before .before .before .before .args .left - 1)) _) _ _ (c .before .before .before .plain-tag .result) (c .before .before .before .plain-tag .ensures) _ (c .before .end2 .given .1))
 
 element-returns-5 : (t : ℕ) → element-lts.Need-returns-5 (
   open-name-reads.Asked,
@@ -405,7 +406,7 @@ element-returns-5 : (t : ℕ) → element-lts.Need-returns-5 (
   content-below t,
   content.Post,
 ) (element-at t) element.Post
-element-returns-5 t c = element-rest _ _ _ _ (rw (c .before .before .before .before .before .before .r .given .1) at (c .before .before .before .before .before .before .before .before .open-name .ensures)) _ (c .before .before .before .before .if1 .left) (rest-fault (infoElement (c .before .before .before .before .before .before .before .before .before .before .args .left - 1)) _ _ _ (c .before .before .before .plain-tag .result) (c .before .before .before .plain-tag .ensures) _ _ (c .before .end3 .given .1))
+element-returns-5 t c = element-rest _ _ _ _ (rw (c .before .before .before .before .before .before .r .given .1) at (c .before .before .before .before .before .before .before .before .open-name .ensures)) _ (c .before .before .before .before .if1 .left) (rest-fault (infoContent (infoElement (c .before .before .before .before .before .before .before .before .before .before .args .left - 1)) _) _ _ (c .before .before .before .plain-tag .result) (c .before .before .before .plain-tag .ensures) _ _ (c .before .end3 .given .1))
 
 element-returns-6 : (t : ℕ) → element-lts.Need-returns-6 (
   open-name-reads.Asked,
@@ -417,7 +418,7 @@ element-returns-6 : (t : ℕ) → element-lts.Need-returns-6 (
   content-below t,
   content.Post,
 ) (element-at t) element.Post
-element-returns-6 t c = element-rest _ _ _ _ (rw (c .before .before .before .before .before .r .given .1) at (c .before .before .before .before .before .before .before .open-name .ensures)) _ (c .before .before .before .if1 .left) (rest-cut (infoElement (c .before .before .before .before .before .before .before .before .before .args .left - 1)) _ _ _ (c .before .before .plain-tag .result) (c .before .before .plain-tag .ensures) (c .enum-told .given .1))
+element-returns-6 t c = element-rest _ _ _ _ (rw (c .before .before .before .before .before .r .given .1) at (c .before .before .before .before .before .before .before .open-name .ensures)) _ (c .before .before .before .if1 .left) (rest-cut (infoContent (infoElement (c .before .before .before .before .before .before .before .before .before .args .left - 1)) _) _ _ (c .before .before .plain-tag .result) (c .before .before .plain-tag .ensures) (c .enum-told .given .1))
 
 pub +content+element-spec : {M : Type 1} → statement M
 +content+element-spec = close μ-content μ-element (λ t. content-lts.spec (

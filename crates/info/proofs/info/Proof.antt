@@ -1,5 +1,6 @@
-use Rattle.xml.specs.Elements.{infoElement}
-use Rattle.info.proofs.Contents.{rest-open, rest-empty, rest-fault, rest-cut, info-rest}
+use Rattle.xml.specs.Elements.{infoContent, infoElement}
+use Rattle.info.proofs.Behind.{rest-open, rest-empty, rest-fault, rest-cut}
+use Rattle.info.proofs.Contents.{info-rest}
 use borrow.Author.Needs.{needs}
 use Rattle.info.proofs.info.Statement.{statement}
 use Rattle.info.proofs.info.Tie as tie
@@ -26,16 +27,16 @@ enum-told : tie.Need-enum-told
 enum-told c = search needs
 
 returns : tie.Need-returns
-returns c = info-rest _ _ _ (rest-open (infoElement 16) _ _ _ (c .before .before .before .before .before .plain-tag .result) (c .before .before .before .before .before .plain-tag .ensures) _ _ (c .before .before .before .end .given .1) (c .content .ensures))
+returns c = info-rest _ _ _ (rest-open (infoContent (infoElement 16) _) _ _ (c .before .before .before .before .before .plain-tag .result) (c .before .before .before .before .before .plain-tag .ensures) _ _ (c .before .before .before .end .given .1) (c .content .ensures))
 
 returns-2 : tie.Need-returns-2
-returns-2 c = info-rest _ _ _ (rest-empty (infoElement 16) _ _ _ (c .before .before .before .plain-tag .result) (c .before .before .before .plain-tag .ensures) _ (c .before .end2 .given .1))
+returns-2 c = info-rest _ _ _ (rest-empty (infoContent (infoElement 16) _) _ _ (c .before .before .before .plain-tag .result) (c .before .before .before .plain-tag .ensures) _ (c .before .end2 .given .1))
 
 returns-3 : tie.Need-returns-3
-returns-3 c = info-rest _ _ _ (rest-fault (infoElement 16) _ _ _ (c .before .before .before .plain-tag .result) (c .before .before .before .plain-tag .ensures) _ _ (c .before .end3 .given .1))
+returns-3 c = info-rest _ _ _ (rest-fault (infoContent (infoElement 16) _) _ _ (c .before .before .before .plain-tag .result) (c .before .before .before .plain-tag .ensures) _ _ (c .before .end3 .given .1))
 
 returns-4 : tie.Need-returns-4
-returns-4 c = info-rest _ _ _ (rest-cut (infoElement 16) _ _ _ (c .before .before .plain-tag .result) (c .before .before .plain-tag .ensures) (c .enum-told .given .1))
+returns-4 c = info-rest _ _ _ (rest-cut (infoContent (infoElement 16) _) _ _ (c .before .before .plain-tag .result) (c .before .before .plain-tag .ensures) (c .enum-told .given .1))
 
 pub info-spec : {M : Type 1} → statement M
 info-spec =

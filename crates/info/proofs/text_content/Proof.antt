@@ -10,11 +10,8 @@ text-to-requires c κs = search needs
 enum-known-r : tie.Need-enum-known-r
 enum-known-r c = search needs
 
-no-text-requires : tie.Need-no-text-requires
-no-text-requires c κs = search needs
-
 returns : tie.Need-returns
-returns c = rw (c .no-text .ensures) (content-failed _ _ _ _ (failed (c .before .before .text-to .result) (c .before .match .keys2)) (c .before .before .text-to .ensures))
+returns c = content-failed _ _ _ _ (failed (c .before .text-to .result) (c .match .keys2)) (c .before .text-to .ensures)
 
 only-end-requires : tie.Need-only-end-requires
 only-end-requires c κs = search needs
@@ -24,5 +21,4 @@ returns-2 c = content-closed _ _ _ _ _ (rw (c .before .before .r .given .1) at (
 
 pub text-content-spec : {M : Type 1} → statement M
 text-content-spec =
-    tie.close
-    (tie.spec text-to-requires enum-known-r no-text-requires returns only-end-requires returns-2)
+    tie.close (tie.spec text-to-requires enum-known-r returns only-end-requires returns-2)

@@ -22,10 +22,10 @@ unfolding roomLength
 shared-slice-copy-out-t10 c = search needs
 
 returns : tie.Need-returns
-returns c = rw (toZ-ofZ (sfits-of (c .before .t8 .given)), toZ-ofZ (sfits-of (c .t10 .given))) (number-in _ _ _ (omega arith))
+returns c = rw (toZ-ofZ (sfits-of (c .before .t8 .given)), toZ-ofZ (sfits-of (c .t10 .given))) (number-in _ _ (omega arith))
 
 returns-2 : tie.Need-returns-2
-returns-2 c = number-out _ _ _ (omega arith)
+returns-2 c = number-out _ _ (omega arith)
 
 pub number-at-spec : {M : Type 1} → statement M
 number-at-spec =

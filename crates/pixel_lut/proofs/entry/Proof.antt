@@ -1,5 +1,5 @@
-use Rattle.room.specs.Room.{roomLength}
 -- `pixel_lut::entry` meets its contract. Assumes nothing.
+use Rattle.room.specs.Room.{roomLength}
 use Prim.Native.Nat.{ℕ, _+_, _*_, _<_}
 use native.Mathlib.Nat.{mul-le-mul-right, suc-mul}
 use native.Mathlib.Omega.{arith}

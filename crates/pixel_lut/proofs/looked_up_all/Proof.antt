@@ -1,14 +1,14 @@
 -- `pixel_lut::looked_up_all` meets its contract. Assumes nothing.
 use denote.Ref.{now}
-use Rattle.room.specs.Room.{roomLength}
+use Rattle.room.specs.Room.{lent, roomLength}
 use Rattle.pixel_lut.specs.Table.{lookedUpAll}
 use Rattle.pixel_lut.specs.TableLaws.{Held, held}
 use borrow.Author.Needs.{needs}
 use Rattle.pixel_lut.proofs.looked_up_all.Statement.{statement}
 use Rattle.pixel_lut.proofs.looked_up_all.Tie as tie
 
-room : (c : tie.Start) → Held (roomLength (now (c .args .coefficients)) (now (c .args .powers))) (c .args .at) (c .args .n) (c .args .columns)
-room c = held (roomLength (now (c .args .coefficients)) (now (c .args .powers))) (c .args .at) (c .args .n) (c .args .columns) (c .pre)
+room : (c : tie.Start) → Held (roomLength (lent (now (c .args .coefficients)) (now (c .args .powers)))) (c .args .at) (c .args .n) (c .args .columns)
+room c = held (roomLength (lent (now (c .args .coefficients)) (now (c .args .powers)))) (c .args .at) (c .args .n) (c .args .columns) (c .pre)
 
 column-of-requires : tie.Need-column-of-requires
 column-of-requires c κs = search needs

@@ -1,7 +1,9 @@
+-- `pixel_room::number_from` meets its contract. Assumes nothing.
 use mathlib.Core.Path.{sym}
 use Prim.Native.Nat.{_+_}
 use native.Mathlib.Omega.{arith}
 use denote.Ref.{now}
+use Rattle.room.specs.Room.{lent}
 use Rattle.pixel_room.specs.RoomLaws.{number-past}
 use borrow.Author.Needs.{needs}
 use Rattle.pixel_room.proofs.number_from.Statement.{statement}
@@ -11,13 +13,13 @@ length-requires : tie.Need-length-requires
 length-requires c κs = search needs
 
 returns : tie.Need-returns
-returns c = let a = c .before .before .args in sym (number-past (now (a .coefficients)) (now (a .powers)) (a .at + a .k) (omega (arith, c .before .length .ensures)))
+returns c = let a = c .before .before .args in sym (number-past (lent (now (a .coefficients)) (now (a .powers))) (a .at + a .k) (omega (arith, c .before .length .ensures)))
 
 sub-if2 : tie.Need-sub-if2
 sub-if2 c = omega arith
 
 returns-2 : tie.Need-returns-2
-returns-2 c = let a = c .before .before .before .args in sym (number-past (now (a .coefficients)) (now (a .powers)) (a .at + a .k) (omega (arith, c .before .before .length .ensures)))
+returns-2 c = let a = c .before .before .before .args in sym (number-past (lent (now (a .coefficients)) (now (a .powers))) (a .at + a .k) (omega (arith, c .before .before .length .ensures)))
 
 add-number-inside : tie.Need-add-number-inside
 add-number-inside c = omega (arith, c .before .before .length .ensures)

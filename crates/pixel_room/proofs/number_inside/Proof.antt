@@ -1,5 +1,5 @@
-use Rattle.room.specs.Room.{roomLength}
 -- `pixel_room::number_inside` meets its contract. Assumes nothing.
+use Rattle.room.specs.Room.{lent, roomLength}
 use Rattle.pixel_room.specs.RoomLaws.{number-inside}
 use mathlib.Core.Path.{_≡_, sym, _∙_, ap}
 use lib.IntN.{ℤ, pos}
@@ -39,7 +39,7 @@ returns c =
     let a = s .args in
     c .value .ensures
     ∙ ap valueOf (same (getD (now (a .coefficients)) (a .k) (pos 0)) (getD (now (a .powers)) (a .k) (pos 0)) (record { sfits = c .before .before .t6 .given }) (record { sfits = c .before .t8 .given }))
-    ∙ sym (number-inside (now (a .coefficients)) (now (a .powers)) (a .k) (s .pre))
+    ∙ sym (number-inside (lent (now (a .coefficients)) (now (a .powers))) (a .k) (s .pre))
 
 pub number-inside-spec : {M : Type 1} → statement M
 number-inside-spec =

@@ -2,6 +2,7 @@
 use Prim.Native.Nat.{_-_}
 use native.Mathlib.Omega.{arith}
 use lib.ListN.{length}
+use Rattle.room.specs.Room.{lent}
 use Rattle.pixel_lut.specs.Table.{lut1dPixel}
 use Rattle.pixel_run.specs.EachLaws.{Passed, passed-start, passed-more, passed-end}
 use borrow.Author.Needs.{needs}
@@ -9,7 +10,7 @@ use Rattle.pixel_run.proofs.run_lut1d.Statement.{statement}
 use Rattle.pixel_run.proofs.run_lut1d.Tie as tie
 
 abbrev Inv-loop : tie.InvT-loop
-Inv-loop pixels₀ coefficients powers at entries columns in-scale i₀ pixels i = Passed (lut1dPixel coefficients powers at entries columns in-scale) pixels₀ pixels i
+Inv-loop pixels₀ coefficients powers at entries columns in-scale i₀ pixels i = Passed (lut1dPixel (lent coefficients powers) at entries columns in-scale) pixels₀ pixels i
 
 abbrev μ-loop : tie.MeasureT-loop
 μ-loop pixels₀ coefficients powers at entries columns in-scale i₀ pixels i = length pixels - i

@@ -1,5 +1,6 @@
 -- `pixel_run::run_node` meets its contract. Assumes nothing.
 use denote.Ref.{now}
+use Rattle.room.specs.Room.{lent}
 use Rattle.pixel_run.specs.Step.{stepPixel}
 use Rattle.pixel_run.proofs.ClampRuns.{node-ran}
 use borrow.Author.Needs.{needs}
@@ -39,7 +40,7 @@ returns c =
     let r = c .before .before in
     let m = r .before .before .before in
     let a = m .before .before .before .args in
-    node-ran (a .rows) (a .in-scale) (a .out-scale) (now (a .coefficients)) (now (a .powers)) (now (a .pixels)) _ (a .p) (simp (m .p .given .1) (r .run-range .ensures .0))
+    node-ran (a .rows) (a .in-scale) (a .out-scale) (lent (now (a .coefficients)) (now (a .powers))) (now (a .pixels)) _ (a .p) (simp (m .p .given .1) (r .run-range .ensures .0))
 
 same-length-2 : tie.Need-same-length-2
 same-length-2 c = search needs
@@ -50,7 +51,7 @@ returns-2 c =
     let r = c .before .before in
     let m = r .before .before .before in
     let a = m .before .before .before .args in
-    node-ran (a .rows) (a .in-scale) (a .out-scale) (now (a .coefficients)) (now (a .powers)) (now (a .pixels)) _ (a .p) (simp (m .p2 .given .1) (r .run-cdls .ensures))
+    node-ran (a .rows) (a .in-scale) (a .out-scale) (lent (now (a .coefficients)) (now (a .powers))) (now (a .pixels)) _ (a .p) (simp (m .p2 .given .1) (r .run-cdls .ensures))
 
 same-length-3 : tie.Need-same-length-3
 same-length-3 c = search needs
@@ -61,7 +62,7 @@ returns-3 c =
     let r = c .before .before in
     let m = r .before .before .before in
     let a = m .before .before .before .args in
-    node-ran (a .rows) (a .in-scale) (a .out-scale) (now (a .coefficients)) (now (a .powers)) (now (a .pixels)) _ (a .p) (simp (m .p3 .given .1) (r .run-matrix .ensures))
+    node-ran (a .rows) (a .in-scale) (a .out-scale) (lent (now (a .coefficients)) (now (a .powers))) (now (a .pixels)) _ (a .p) (simp (m .p3 .given .1) (r .run-matrix .ensures))
 
 same-length-4 : tie.Need-same-length-4
 same-length-4 c = search needs
@@ -72,7 +73,7 @@ returns-4 c =
     let r = c .before .before in
     let m = r .before .before .before in
     let a = m .before .before .before .args in
-    node-ran (a .rows) (a .in-scale) (a .out-scale) (now (a .coefficients)) (now (a .powers)) (now (a .pixels)) _ (a .p) (simp (m .p4 .given .1) (r .run-lut1d .ensures))
+    node-ran (a .rows) (a .in-scale) (a .out-scale) (lent (now (a .coefficients)) (now (a .powers))) (now (a .pixels)) _ (a .p) (simp (m .p4 .given .1) (r .run-lut1d .ensures))
 
 pub run-node-spec : {M : Type 1} → statement M
 run-node-spec =

@@ -1,6 +1,6 @@
-use mathlib.Core.Path.{refl, sym, _∙_}
+use mathlib.Core.Path.{sym, _∙_}
 use Rattle.values.specs.Code.{ruleOf}
-use Rattle.range_node.proofs.Ranges.{body-about, body-value}
+use Rattle.range_node.proofs.Ranges.{body-text, body-value}
 use borrow.Author.Needs.{needs}
 use Rattle.range_node.proofs.range_body.Statement.{statement}
 use Rattle.range_node.proofs.range_body.Tie as tie
@@ -14,11 +14,13 @@ same-requires c κs = search needs
 text-element-requires : tie.Need-text-element-requires
 text-element-requires c κs = search needs
 
-with-about-requires : tie.Need-with-about-requires
-with-about-requires c κs = search needs
+range-with-requires : tie.Need-range-with-requires
+range-with-requires c κs = search needs
 
 returns : tie.Need-returns
-returns c = λ st v. body-about _ _ _ _ st v _ _ (c .before .text-element .result) _ refl (c .with-about .ensures) (sym (c .before .before .before .same .ensures) ∙ c .before .before .if1 .taken) (c .before .text-element .ensures)
+returns c = λ st v.
+    let test = c .before .before in
+    rw (c .range-with .ensures) (body-text _ _ _ st v _ _ _ (sym (test .before .same .ensures) ∙ test .if1 .taken) (c .before .text-element .ensures))
 
 range-index-requires : tie.Need-range-index-requires
 range-index-requires c κs = search needs
@@ -37,7 +39,11 @@ same-length-2 c = search needs
 
 returns-2 : tie.Need-returns-2
 unfolding ruleOf
-returns-2 c = λ st v. body-value _ _ _ _ st v _ _ _ _ _ _ (c .before .before .before .before .before .before .range-index .ensures) refl (c .with-found .ensures) _ (sym (c .before .before .before .before .before .before .before .before .same .ensures) ∙ c .before .before .before .before .before .before .before .if1 .left) (c .before .before .before .value-element .ensures)
+returns-2 c = λ st v.
+    let value = c .before .before .before in
+    let index = value .before .before .before in
+    let test = index .before .before in
+    body-value _ _ _ st v _ _ _ _ _ (index .range-index .ensures) (c .with-found .ensures) _ (sym (test .before .same .ensures) ∙ test .if1 .left) (value .value-element .ensures)
 
 pub range-body-spec : {M : Type 1} → statement M
 range-body-spec =
@@ -46,7 +52,7 @@ range-body-spec =
     slice-aggregate-same
     same-requires
     text-element-requires
-    with-about-requires
+    range-with-requires
     returns
     range-index-requires
     value-element-requires

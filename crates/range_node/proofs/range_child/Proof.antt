@@ -16,7 +16,7 @@ range-with-requires : tie.Need-range-with-requires
 range-with-requires c κs = search needs
 
 returns : tie.Need-returns
-returns c = λ st v. rw (c .range-with .ensures) (range-refused _ _ _ _ st v _ _ _ (c .before .before .before .before .part .ensures) (c .before .before .before .before .before .before .pre .0) (c .before .before .before .before .before .before .pre .1) _ (c .before .before .range-fault .ensures) _ (c .before .if1 .taken))
+returns c = λ st v. rw (c .range-with .ensures) (range-refused _ _ _ st v _ _ _ (c .before .before .before .before .part .ensures) (c .before .before .before .before .before .before .pre .0) (c .before .before .before .before .before .before .pre .1) _ (c .before .before .range-fault .ensures) _ (c .before .if1 .taken))
 
 range-body-requires : tie.Need-range-body-requires
 range-body-requires c κs = search needs
@@ -28,7 +28,7 @@ same-length-2 : tie.Need-same-length-2
 same-length-2 c = search needs
 
 returns-2 : tie.Need-returns-2
-returns-2 c = λ st v. range-goes _ _ _ _ st v _ _ _ (c .before .before .before .before .before .before .before .before .part .ensures) (c .before .before .before .before .before .before .before .before .before .before .pre .0) (c .before .before .before .before .before .before .before .before .before .before .pre .1) _ (c .before .before .before .before .before .before .range-fault .ensures) _ _ (c .before .before .before .before .before .if1 .left) (c .before .before .range-body .ensures st v)
+returns-2 c = λ st v. range-goes _ _ _ st v _ _ _ (c .before .before .before .before .before .before .before .before .part .ensures) (c .before .before .before .before .before .before .before .before .before .before .pre .0) (c .before .before .before .before .before .before .before .before .before .before .pre .1) _ (c .before .before .before .before .before .before .range-fault .ensures) _ _ (c .before .before .before .before .before .if1 .left) (c .before .before .range-body .ensures st v)
 
 pub range-child-spec : {M : Type 1} → statement M
 range-child-spec =

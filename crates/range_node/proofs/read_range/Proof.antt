@@ -4,7 +4,7 @@ use Rattle.tags.specs.Rules.{rulesOf}
 use Rattle.tags.specs.declared.TagKind.the-variants.{Range}
 use Rattle.markup.proofs.Answers.{failed}
 use Rattle.tags.specs.Ended.{tag-reads}
-use Rattle.range_node.proofs.Ranges.{range-failed, range-node}
+use Rattle.range_node.proofs.Ranges.{tag-failed, content-failed, range-node}
 use borrow.Author.Needs.{needs}
 use Rattle.range_node.proofs.read_range.Statement.{statement}
 use Rattle.range_node.proofs.read_range.Tie as tie
@@ -18,12 +18,24 @@ behind-requires c κs = search needs
 enum-known-r : tie.Need-enum-known-r
 enum-known-r c = search needs
 
-no-node-requires : tie.Need-no-node-requires
-no-node-requires c κs = search needs
+failed-requires : tie.Need-failed-requires
+failed-requires c κs = search needs
+
+same-length : tie.Need-same-length
+same-length c = search needs
+
+same-length-2 : tie.Need-same-length-2
+same-length-2 c = search needs
 
 returns : tie.Need-returns
 unfolding rulesOf
-returns c = rw (c .no-node .ensures) (range-failed _ _ _ (c .before .before .before .before .start-tag .result) _ _ _ (failed (c .before .before .behind .result) (c .before .match .keys2)) (tag-reads _ Range refl _ _ (c .before .before .before .before .start-tag .result) (c .before .before .before .before .start-tag .ensures) _ (c .before .before .behind .ensures)))
+returns c =
+    let fails = c .before .before in
+    let match = fails .before .before .before in
+    let behind = match .before .behind in
+    let tag = match .before .before .before .start-tag in
+    tag-failed _ _ _ (tag .result) _ _ _ _ (failed (behind .result) (match .match .keys2)) (fails .failed .ensures .0) (fails .failed .ensures .1)
+    (tag-reads _ Range refl _ _ (tag .result) (tag .ensures) _ (behind .ensures))
 
 slice-aggregate-range-content : tie.Need-slice-aggregate-range-content
 slice-aggregate-range-content c = search needs
@@ -33,6 +45,32 @@ slice-aggregate-range-content-2 c = search needs
 
 range-content-requires : tie.Need-range-content-requires
 range-content-requires c κs = search needs
+
+enum-known-scan : tie.Need-enum-known-scan
+enum-known-scan c = search needs
+
+failed-requires-2 : tie.Need-failed-requires-2
+failed-requires-2 c κs = search needs
+
+same-length-3 : tie.Need-same-length-3
+same-length-3 c = search needs
+
+same-length-4 : tie.Need-same-length-4
+same-length-4 c = search needs
+
+returns-2 : tie.Need-returns-2
+unfolding rulesOf
+returns-2 c =
+    let fails = c .before .before in
+    let match = fails .before .before .before in
+    let read = match .before .before .before in
+    let content = read .range-content in
+    let known = read .before .before .before .before in
+    let behind = known .before .before in
+    let tag = behind .before .before .start-tag in
+    content-failed _ _ _ (tag .result) _ _ _ (content .result) _ _
+    (tag-reads _ Range refl _ _ (tag .result) (tag .ensures) _ (sym (known .r .given .1) ∙ behind .behind .ensures))
+    (content .ensures) (failed (content .result .scan) (match .match2 .keys2)) (fails .failed2 .ensures .0) (fails .failed2 .ensures .1)
 
 slice-aggregate-store-all : tie.Need-slice-aggregate-store-all
 slice-aggregate-store-all c = search needs
@@ -52,15 +90,25 @@ style-is-requires c κs = search needs
 finished-requires : tie.Need-finished-requires
 finished-requires c κs = search needs
 
-same-length : tie.Need-same-length
-same-length c = search needs
+same-length-5 : tie.Need-same-length-5
+same-length-5 c = search needs
 
-same-length-2 : tie.Need-same-length-2
-same-length-2 c = search needs
+same-length-6 : tie.Need-same-length-6
+same-length-6 c = search needs
 
-returns-2 : tie.Need-returns-2
+returns-3 : tie.Need-returns-3
 unfolding rulesOf
-returns-2 c = rw (c .finished .ensures) (range-node _ _ _ (c .before .before .before .before .before .before .before .before .before .before .before .before .before .before .before .before .before .before .before .before .before .start-tag .result) _ _ _ _ _ _ (c .before .before .before .before .before .before .before .before .before .before .before .before .before .range-content .result) _ (ap not (c .before .style-is .ensures)) (c .before .before .before .before .before .before .store-all .ensures) _ (tag-reads _ Range refl _ _ (c .before .before .before .before .before .before .before .before .before .before .before .before .before .before .before .before .before .before .before .before .before .start-tag .result) (c .before .before .before .before .before .before .before .before .before .before .before .before .before .before .before .before .before .before .before .before .before .start-tag .ensures) _ (sym (c .before .before .before .before .before .before .before .before .before .before .before .before .before .before .before .before .before .r .given .1) ∙ c .before .before .before .before .before .before .before .before .before .before .before .before .before .before .before .before .before .before .before .behind .ensures)) (c .before .before .before .before .before .before .before .before .before .before .before .before .before .range-content .ensures))
+returns-3 c =
+    let stored = c .before .before .before .before .before in
+    let next = stored .before .before .before .before .before .before in
+    let read = next .before .before .before .before in
+    let content = read .range-content in
+    let known = read .before .before .before .before in
+    let behind = known .before .before in
+    let tag = behind .before .before .start-tag in
+    range-node _ _ _ (tag .result) _ _ _ (content .result) _ _
+    (tag-reads _ Range refl _ _ (tag .result) (tag .ensures) _ (sym (known .r .given .1) ∙ behind .behind .ensures))
+    (content .ensures) _ (next .scan .given .1) _ (ap not (c .before .style-is .ensures)) (stored .store-all .ensures) (c .finished .ensures)
 
 pub read-range-spec : {M : Type 1} → statement M
 read-range-spec =
@@ -69,17 +117,24 @@ read-range-spec =
     start-tag-requires
     behind-requires
     enum-known-r
-    no-node-requires
+    failed-requires
+    same-length
+    same-length-2
     returns
     slice-aggregate-range-content
     slice-aggregate-range-content-2
     range-content-requires
+    enum-known-scan
+    failed-requires-2
+    same-length-3
+    same-length-4
+    returns-2
     slice-aggregate-store-all
     slice-aggregate-store-all-2
     store-all-requires
     slice-aggregate-style-is
     style-is-requires
     finished-requires
-    same-length
-    same-length-2
-    returns-2)
+    same-length-5
+    same-length-6
+    returns-3)

@@ -1,48 +1,23 @@
+use Rattle.reading.proofs.Laws.{verdict-fine, verdict-refused}
+use mathlib.Core.Path.{sym, _∙_}
 use borrow.Author.Needs.{needs}
 use Rattle.reading.proofs.by_verdict.Statement.{statement}
 use Rattle.reading.proofs.by_verdict.Tie as tie
 
-enum-told : tie.Need-enum-told
-enum-told c = search needs
-
-enum-told-2 : tie.Need-enum-told-2
-enum-told-2 c = search needs
-
-enum-told-3 : tie.Need-enum-told-3
-enum-told-3 c = search needs
-
-enum-known-v : tie.Need-enum-known-v
-enum-known-v c = search needs
-
-enum-told-4 : tie.Need-enum-told-4
-enum-told-4 c = search needs
+refusal-requires : tie.Need-refusal-requires
+refusal-requires c κs = search needs
 
 returns : tie.Need-returns
-returns c = rw (c .enum-told .given .1)
+returns c = verdict-fine (c .before .before .args .v) (sym (c .before .refusal .ensures) ∙ c .if1 .taken)
+
+place-requires : tie.Need-place-requires
+place-requires c κs = search needs
 
 returns-2 : tie.Need-returns-2
-returns-2 c = rw (c .enum-told2 .given .1)
-
-returns-3 : tie.Need-returns-3
-returns-3 c = rw (c .enum-told3 .given .1)
-
-returns-4 : tie.Need-returns-4
-returns-4 c = rw (c .before .v .given .1)
-
-returns-5 : tie.Need-returns-5
-returns-5 c = rw (c .enum-told4 .given .1)
+returns-2 c =
+    let if1 = c .before .if1 in
+    let refusal = c .before .before .refusal in
+    rw (refusal .ensures, c .place .ensures) (verdict-refused (c .before .before .before .args .v) (λ z. if1 .left (refusal .ensures ∙ z)))
 
 pub by-verdict-spec : {M : Type 1} → statement M
-by-verdict-spec =
-    tie.close
-    (tie.spec
-    enum-told
-    enum-told-2
-    enum-told-3
-    enum-known-v
-    enum-told-4
-    returns
-    returns-2
-    returns-3
-    returns-4
-    returns-5)
+by-verdict-spec = tie.close (tie.spec refusal-requires returns place-requires returns-2)

@@ -1,8 +1,10 @@
-use mathlib.Core.Path.{refl, sym}
-use Rattle.reading.proofs.Laws.{large-refused, large-lengths, read-small}
+use Rattle.reading.proofs.Laws.{over-limit, within-limit, large-refused, large-size, read-small}
 use borrow.Author.Needs.{needs}
 use Rattle.reading.proofs.read.Statement.{statement}
 use Rattle.reading.proofs.read.Tie as tie
+
+too-long-requires : tie.Need-too-long-requires
+too-long-requires c κs = search needs
 
 length-requires : tie.Need-length-requires
 length-requires c κs = search needs
@@ -14,13 +16,27 @@ refused-requires : tie.Need-refused-requires
 refused-requires c κs = search needs
 
 same-length : tie.Need-same-length
-same-length c = (large-lengths (c .before .before .before .before .before .before .before .before .before .before .before .args .file .now) _ _ _ _ _ (c .before .before .before .before .before .before .length .ensures) (c .before .before .before .clear .ensures .0) (c .before .before .before .clear .ensures .1) (c .before .before .before .before .before .before .before .before .before .if1 .taken)) .coefficients
+same-length c =
+    let clear = c .before .before .before .clear in
+    let the-length = c .before .before .before .before .before .before .length in
+    (large-size (c .before .before .before .before .before .before .before .before .before .before .before .before .args .file .now) _ _ _ (the-length .ensures) (clear .ensures))
+    .coefficients .size
 
 same-length-2 : tie.Need-same-length-2
-same-length-2 c = (large-lengths (c .before .before .before .before .before .before .before .before .before .before .before .args .file .now) _ _ _ _ _ (c .before .before .before .before .before .before .length .ensures) (c .before .before .before .clear .ensures .0) (c .before .before .before .clear .ensures .1) (c .before .before .before .before .before .before .before .before .before .if1 .taken)) .powers
+same-length-2 c =
+    let clear = c .before .before .before .clear in
+    let the-length = c .before .before .before .before .before .before .length in
+    (large-size (c .before .before .before .before .before .before .before .before .before .before .before .before .args .file .now) _ _ _ (the-length .ensures) (clear .ensures))
+    .powers .size
 
 returns : tie.Need-returns
-returns c = rw (c .refused .ensures) (large-refused _ _ _ _ _ _ (c .before .before .before .before .before .before .length .ensures) (c .before .before .before .clear .ensures .0) (c .before .before .before .clear .ensures .1) (c .before .before .before .before .before .before .before .before .before .if1 .taken))
+returns c =
+    let clear = c .before .before .before .clear in
+    let the-length = c .before .before .before .before .before .before .length in
+    let if1 = c .before .before .before .before .before .before .before .before .before .if1 in
+    let too-long = c .before .before .before .before .before .before .before .before .before .before .too-long in
+    let given = c .before .before .before .before .before .before .before .before .before .before .before .before .args in
+    rw (c .refused .ensures) (large-refused _ _ _ _ (the-length .ensures) (clear .ensures) (over-limit (given .file .now) _ (too-long .ensures) (if1 .taken)))
 
 read-text-requires : tie.Need-read-text-requires
 read-text-requires c κs = search needs
@@ -32,12 +48,18 @@ same-length-4 : tie.Need-same-length-4
 same-length-4 c = search needs
 
 returns-2 : tie.Need-returns-2
-returns-2 c = rw (read-small _ _ (c .before .before .before .before .before .if1 .left)) (c .before .before .read-text .ensures)
+returns-2 c =
+    let read-text = c .before .before .read-text in
+    let if1 = c .before .before .before .before .before .if1 in
+    let too-long = c .before .before .before .before .before .before .too-long in
+    let given = c .before .before .before .before .before .before .before .before .args in
+    rw (read-small _ _ (within-limit (given .file .now) _ (too-long .ensures) (if1 .left))) (read-text .ensures)
 
 pub read-spec : {M : Type 1} → statement M
 read-spec =
     tie.close
     (tie.spec
+    too-long-requires
     length-requires
     clear-requires
     refused-requires

@@ -16,10 +16,10 @@ same-length-2 : tie.Need-same-length-2
 same-length-2 c = search needs
 
 returns : tie.Need-returns
-returns c = rw (c .refused .ensures) (call-refused _ _ _ _ _ _ (c .before .before .call-fault .ensures) (c .before .if1 .taken))
+returns c = rw (c .refused .ensures) (call-refused _ _ _ _ _ (c .before .before .call-fault .ensures) (c .before .if1 .taken))
 
 replace-valid-requires : tie.Need-replace-valid-requires
-replace-valid-requires c κs = call-well _ _ _ _ _ _ (c .before .before .before .call-fault .ensures) (c .before .before .if1 .left)
+replace-valid-requires c κs = call-well _ _ _ _ _ (c .before .before .before .call-fault .ensures) (c .before .before .if1 .left)
 
 same-length-3 : tie.Need-same-length-3
 same-length-3 c = search needs

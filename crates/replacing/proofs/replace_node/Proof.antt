@@ -31,7 +31,7 @@ same-length-2 : tie.Need-same-length-2
 same-length-2 c = search needs
 
 returns : tie.Need-returns
-returns c = rw (c .refused .ensures) (code-refused _ _ _ _ _ _ (c .before .before .before .before .before .before .before .before .before .before .pre) _ (c .before .before .before .before .before .before .before .before .replaced .ensures) _ (c .before .before .before .before .before .length .ensures) (c .before .before .before .before .judge .result) (c .before .before .before .before .judge .ensures) _ (c .before .before .before .refusal .ensures) (c .before .before .if1 .taken) _ (c .before .place .ensures))
+returns c = rw (c .refused .ensures) (code-refused _ _ _ _ _ (c .before .before .before .before .before .before .before .before .before .before .pre) _ (c .before .before .before .before .before .before .before .before .replaced .ensures) _ (c .before .before .before .before .before .length .ensures) (c .before .before .before .before .judge .result) (c .before .before .before .before .judge .ensures) _ (c .before .before .before .refusal .ensures) (c .before .before .if1 .taken) _ (c .before .place .ensures))
 
 store-element-requires : tie.Need-store-element-requires
 store-element-requires c κs = search needs
@@ -46,7 +46,7 @@ same-length-4 : tie.Need-same-length-4
 same-length-4 c = search needs
 
 returns-2 : tie.Need-returns-2
-returns-2 c = code-replaced _ _ _ _ _ _ (c .before .before .before .before .before .before .before .before .before .before .before .before .before .before .pre) _ (c .before .before .before .before .before .before .before .before .before .before .before .before .replaced .ensures) _ (c .before .before .before .before .before .before .before .before .before .length .ensures) (c .before .before .before .before .before .before .before .before .judge .result) (c .before .before .before .before .before .before .before .before .judge .ensures) _ (c .before .before .before .before .before .before .before .refusal .ensures) (c .before .before .before .before .before .before .if1 .left) _ _ (c .before .before .before .store-element .ensures) _ (c .placed .ensures)
+returns-2 c = code-replaced _ _ _ _ _ (c .before .before .before .before .before .before .before .before .before .before .before .before .before .before .pre) _ (c .before .before .before .before .before .before .before .before .before .before .before .before .replaced .ensures) _ (c .before .before .before .before .before .before .before .before .before .length .ensures) (c .before .before .before .before .before .before .before .before .judge .result) (c .before .before .before .before .before .before .before .before .judge .ensures) _ (c .before .before .before .before .before .before .before .refusal .ensures) (c .before .before .before .before .before .before .if1 .left) _ (c .before .before .before .store-element .ensures) _ (c .placed .ensures)
 
 pub replace-node-spec : {M : Type 1} → statement M
 replace-node-spec =

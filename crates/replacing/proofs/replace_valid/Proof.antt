@@ -20,10 +20,10 @@ enum-told : tie.Need-enum-told
 enum-told c = search needs
 
 replace-node-requires : tie.Need-replace-node-requires
-replace-node-requires c κs = element-well _ _ _ _ _ (c .before .before .before .before .before .before .before .before .pre) _ (c .before .before .before .before .before .before .element-alone .ensures) (sym (c .before .before .before .before .judge-element .ensures) ∙ c .before .before .enum-told .given .1)
+replace-node-requires c κs = element-well _ _ _ _ (c .before .before .before .before .before .before .before .before .pre) _ (c .before .before .before .before .before .before .element-alone .ensures) (sym (c .before .before .before .before .judge-element .ensures) ∙ c .before .before .enum-told .given .1)
 
 returns : tie.Need-returns
-returns c = rw (c .refused .ensures) (element-refused _ _ _ _ _ (c .before .before .before .before .before .before .before .before .pre) _ (c .before .before .before .before .before .before .element-alone .ensures) _ _ (sym (c .before .before .before .before .judge-element .ensures) ∙ c .before .before .j .given .1))
+returns c = rw (c .refused .ensures) (element-refused _ _ _ _ (c .before .before .before .before .before .before .before .before .pre) _ (c .before .before .before .before .before .before .element-alone .ensures) _ _ (sym (c .before .before .before .before .judge-element .ensures) ∙ c .before .before .j .given .1))
 
 same-length : tie.Need-same-length
 same-length c = search needs

@@ -28,7 +28,7 @@ same-length-2 : tie.Need-same-length-2
 same-length-2 c = search needs
 
 returns : tie.Need-returns
-returns c = stores _ _ _ _ _ _ _ _ _ _ (c .before .before .before .before .before .before .before .before .before .before .before .before .before .get .result) _ _ _ (c .before .before .before .before .before .before .before .before .before .before .before .before .before .get .ensures) (c .before .before .before .before .before .before .before .before .before .before .before .before .numbers-of .ensures) (c .before .before .before .before .before .before .before .before .before .before .before .numbers-of2 .ensures) (c .before .before .before .before .before .before .before .before .before .before .used .ensures) (c .before .before .before .before .before .before .before .resize .ensures .0) (c .before .before .before .before .before .before .before .resize .ensures .1) _ (c .before .before .element .ensures)
+returns c = stores _ _ _ _ _ _ _ (c .before .before .before .before .before .before .before .before .before .before .before .before .before .get .result) _ _ _ (c .before .before .before .before .before .before .before .before .before .before .before .before .before .get .ensures) (c .before .before .before .before .before .before .before .before .before .before .before .before .numbers-of .ensures) (c .before .before .before .before .before .before .before .before .before .before .before .numbers-of2 .ensures) (c .before .before .before .before .before .before .before .before .before .before .used .ensures) (c .before .before .before .before .before .before .before .resize .ensures) _ (c .before .before .element .ensures)
 
 pub store-element-spec : {M : Type 1} → statement M
 store-element-spec =

@@ -3,10 +3,10 @@ use mathlib.Core.Path.{_≡_, refl}
 use mathlib.Core.Logic.{inl, inr}
 use mathlib.Core.List.{List, [], _∷_}
 use native.Mathlib.Omega.{arith}
-use lib.IntN.{ℤ}
 use types.Run.{OneOf}
 use denote.Enum.Declared.{tagOf}
 use denote.Ref.{now}
+use Rattle.room.specs.Room.{Room, lent}
 use Rattle.pixel_run.proofs.Prepared.{the-type}
 use Rattle.pixel_run.specs.declared.Prepared.{Prepared}
 use Rattle.pixel_run.specs.declared.Prepared.the-variants.{Matrix, Lut1d, Range, Cdl}
@@ -16,17 +16,17 @@ use Rattle.running.proofs.rows.Statement.{statement}
 use Rattle.running.proofs.rows.Tie as tie
 
 -- the three kinds that use no rows
-others : (cs ps : List ℤ) (p : Prepared) → OneOf (0 ∷ 1 ∷ 3 ∷ []) (tagOf the-type p) → noRows ≡ rowsAs cs ps p
+others : (m : Room) (p : Prepared) → OneOf (0 ∷ 1 ∷ 3 ∷ []) (tagOf the-type p) → noRows ≡ rowsAs m p
 unfolding rowsAs
-others cs ps (Matrix at wide) h = absurd (no h)
+others m (Matrix at wide) h = absurd (no h)
   where
     no : OneOf (0 ∷ 1 ∷ 3 ∷ []) 2 → ⊥
     no (inl e) = omega arith
     no (inr (inl e)) = omega arith
     no (inr (inr e)) = omega arith
-others cs ps (Lut1d at entries columns) h = refl
-others cs ps (Range minIn maxIn minOut maxOut clamp) h = refl
-others cs ps (Cdl sr sg sb or og ob pr pg pb sat clamp) h = refl
+others m (Lut1d at entries columns) h = refl
+others m (Range minIn maxIn minOut maxOut clamp) h = refl
+others m (Cdl sr sg sb or og ob pr pg pb sat clamp) h = refl
 
 enum-known-step : tie.Need-enum-known-step
 enum-known-step c = search needs
@@ -39,7 +39,7 @@ unfolding rowsAs
 returns c = simp (c .before .before .step .given .1) (c .rows-from .ensures)
 
 returns-2 : tie.Need-returns-2
-returns-2 c = let a = c .before .args in others (now (a .coefficients)) (now (a .powers)) (a .step) (c .match .keys2)
+returns-2 c = let a = c .before .args in others (lent (now (a .coefficients)) (now (a .powers))) (a .step) (c .match .keys2)
 
 pub rows-spec : {M : Type 1} → statement M
 rows-spec = tie.close (tie.spec enum-known-step rows-from-requires returns returns-2)

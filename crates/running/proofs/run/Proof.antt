@@ -6,12 +6,12 @@ use Prim.Native.Nat.{ℕ, _%_, _≤_, _<_}
 use native.Mathlib.Omega.{arith}
 use borrow.Author.Tests.{not-true, not-false, eq-eqb, ne-eqb, lt-ltb, le-ltb}
 use borrow.Author.Needs.{needs}
-use lib.IntN.{ℤ}
 use lib.ListN.{length}
 use lib.Ieee.{Float}
 use denote.Ref.{now}
 use Rattle.process_list.specs.declared.ProcessList.{ProcessList}
 use Rattle.process_list.specs.List.{nodesOf}
+use Rattle.room.specs.Room.{Room, lent}
 use Rattle.valid.specs.Valid.{isValid}
 use Rattle.pixel_run.specs.Finite.{firstNotFinite}
 use Rattle.running.specs.declared.Ran.{Ran}
@@ -37,30 +37,30 @@ not-found : (xs : List Float) (k : ℕ) → k ≡ firstNotFinite xs → length x
 unfolding notFinite
 not-found xs k e h = rw (← e) (le-ltb k (length xs) h)
 
-module _ (l : ProcessList) (cs ps : List ℤ) (xs : List Float) where
+module _ (l : ProcessList) (m : Room) (xs : List Float) where
   -- both promises: the answer, and the slice afterwards
   abbrev Answers : Ran → List Float → Type 0
-  Answers r ys = (r ≡ ranOf l cs ps xs) × (ys ≡ pixelsOf l cs ps xs)
+  Answers r ys = (r ≡ ranOf l m xs) × (ys ≡ pixelsOf l m xs)
 
-  refused : (number place : ℕ) → (number ≡ 0 → ⊥) → ranOf l cs ps xs ≡ ran number place → Answers (ran number place) xs
-  refused number place k e = (sym e, sym (pixels-refused l cs ps xs number place k e))
+  refused : (number place : ℕ) → (number ≡ 0 → ⊥) → ranOf l m xs ≡ ran number place → Answers (ran number place) xs
+  refused number place k e = (sym e, sym (pixels-refused l m xs number place k e))
 
-  accepted : (ys : List Float) → ranOf l cs ps xs ≡ ran 0 0 → ys ≡ runNodes cs ps (nodesOf l) xs → Answers (ran 0 0) ys
-  accepted ys e f = (sym e, f ∙ sym (pixels-accepted l cs ps xs e))
+  accepted : (ys : List Float) → ranOf l m xs ≡ ran 0 0 → ys ≡ runNodes m (nodesOf l) xs → Answers (ran 0 0) ys
+  accepted ys e f = (sym e, f ∙ sym (pixels-accepted l m xs e))
 
-  not-valid : isValid l cs ps ≡ false → Answers (ran 16 0) xs
-  not-valid v = refused 16 0 (λ e. omega arith) (ran-invalid l cs ps xs v)
+  not-valid : isValid l m ≡ false → Answers (ran 16 0) xs
+  not-valid v = refused 16 0 (λ e. omega arith) (ran-invalid l m xs v)
 
-  module _ (v : isValid l cs ps ≡ true) where
+  module _ (v : isValid l m ≡ true) where
     no-threes : (length xs % 3 ≡ 0 → ⊥) → Answers (ran 14 0) xs
-    no-threes h = refused 14 0 (λ e. omega arith) (ran-not-threes l cs ps v xs (some-left xs h))
+    no-threes h = refused 14 0 (λ e. omega arith) (ran-not-threes l m v xs (some-left xs h))
 
     module _ (h : length xs % 3 ≡ 0) (k : ℕ) (e : k ≡ firstNotFinite xs) where
       first : k < length xs → Answers (ran 15 k) xs
-      first i = refused 15 k (λ e. omega arith) (rw e (ran-not-finite l cs ps v xs (none-left xs h) (found xs k e i)))
+      first i = refused 15 k (λ e. omega arith) (rw e (ran-not-finite l m v xs (none-left xs h) (found xs k e i)))
 
-      all : (ys : List Float) → length xs ≤ k → ys ≡ runNodes cs ps (nodesOf l) xs → Answers (ran 0 0) ys
-      all ys i f = accepted ys (ran-accepted l cs ps v xs (none-left xs h) (not-found xs k e i)) f
+      all : (ys : List Float) → length xs ≤ k → ys ≡ runNodes m (nodesOf l) xs → Answers (ran 0 0) ys
+      all ys i f = accepted ys (ran-accepted l m v xs (none-left xs h) (not-found xs k e i)) f
 
 valid-requires : tie.Need-valid-requires
 valid-requires c κs = search needs
@@ -69,14 +69,14 @@ returns : tie.Need-returns
 returns c =
     let v = c .before in
     let a = v .before .before .args in
-    not-valid (a .list) (now (a .coefficients)) (now (a .powers)) (now (a .pixels)) (sym (v .valid .ensures) ∙ not-true _ (c .if1 .taken))
+    not-valid (a .list) (lent (now (a .coefficients)) (now (a .powers))) (now (a .pixels)) (sym (v .valid .ensures) ∙ not-true _ (c .if1 .taken))
 
 returns-2 : tie.Need-returns-2
 returns-2 c =
     let q = c .before in
     let v = q .before in
     let a = v .before .before .args in
-    no-threes (a .list) (now (a .coefficients)) (now (a .powers)) (now (a .pixels)) (sym (v .valid .ensures) ∙ not-false _ (q .if1 .left)) (c .if2 .taken)
+    no-threes (a .list) (lent (now (a .coefficients)) (now (a .powers))) (now (a .pixels)) (sym (v .valid .ensures) ∙ not-false _ (q .if1 .left)) (c .if2 .taken)
 
 first-not-finite-requires : tie.Need-first-not-finite-requires
 first-not-finite-requires c κs = search needs
@@ -91,7 +91,8 @@ returns-3 c =
     let q = t .before in
     let v = q .before in
     let a = v .before .before .args in
-    first (a .list) (now (a .coefficients)) (now (a .powers)) (now (a .pixels)) (sym (v .valid .ensures) ∙ not-false _ (q .if1 .left)) (t .if2 .left) (f .first-not-finite .result) (f .first-not-finite .ensures) (c .if3 .taken)
+    let m = lent (now (a .coefficients)) (now (a .powers)) in
+    first (a .list) m (now (a .pixels)) (sym (v .valid .ensures) ∙ not-false _ (q .if1 .left)) (t .if2 .left) (f .first-not-finite .result) (f .first-not-finite .ensures) (c .if3 .taken)
 
 run-all-requires : tie.Need-run-all-requires
 run-all-requires c κs = search needs
@@ -108,7 +109,9 @@ returns-4 c =
     let q = t .before in
     let v = q .before in
     let a = v .before .before .args in
-    all (a .list) (now (a .coefficients)) (now (a .powers)) (now (a .pixels)) (sym (v .valid .ensures) ∙ not-false _ (q .if1 .left)) (t .if2 .left) (f .first-not-finite .result) (f .first-not-finite .ensures) _ (s .if3 .left) (r .run-all .ensures)
+    let m = lent (now (a .coefficients)) (now (a .powers)) in
+    let valid = sym (v .valid .ensures) ∙ not-false _ (q .if1 .left) in
+    all (a .list) m (now (a .pixels)) valid (t .if2 .left) (f .first-not-finite .result) (f .first-not-finite .ensures) _ (s .if3 .left) (r .run-all .ensures)
 
 pub run-spec : {M : Type 1} → statement M
 run-spec =

@@ -4,7 +4,6 @@ use mathlib.Core.List.{List}
 use Prim.Native.Nat.{ℕ, _+_, _-_, _≤_, _<_}
 use native.Mathlib.Omega.{arith}
 use native.Mathlib.Numerals.{add-one}
-use lib.IntN.{ℤ}
 use lib.ListN.{length, take, drop, getD, drop-of-length-le, length-take}
 use lib.Seq.{drop-cons, getD-take}
 use lib.Ieee.{Float}
@@ -12,29 +11,30 @@ use denote.Ref.{now}
 use Rattle.process_list.specs.declared.Node.{Node}
 use Rattle.process_list.specs.declared.ProcessList.{ProcessList}
 use Rattle.process_list.specs.List.{nodesOf, blankNode, unplaced}
+use Rattle.room.specs.Room.{Room, lent}
 use Rattle.running.specs.Running.{runNode, runNodes}
 use borrow.Author.Needs.{needs}
 use Rattle.running.proofs.run_all.Statement.{statement}
 use Rattle.running.proofs.run_all.Tie as tie
 
 -- one node more
-runs-on : (cs ps : List ℤ) (list : ProcessList) (k : ℕ) (xs : List Float) {ys : List Float} → k < length (nodesOf list) → ys ≡ runNode cs ps (getD (list .nodes) k blankNode) xs
-    → runNodes cs ps (drop (k + 1) (nodesOf list)) ys ≡ runNodes cs ps (drop k (nodesOf list)) xs
+runs-on : (m : Room) (list : ProcessList) (k : ℕ) (xs : List Float) {ys : List Float} → k < length (nodesOf list) → ys ≡ runNode m (getD (list .nodes) k blankNode) xs
+    → runNodes m (drop (k + 1) (nodesOf list)) ys ≡ runNodes m (drop k (nodesOf list)) xs
 unfolding runNodes nodesOf
-runs-on cs ps list k xs h e =
+runs-on m list k xs h e =
     let l : k < list .count = omega (arith, length-take (list .count) (list .nodes), h) in
     rw (add-one, drop-cons (take (list .count) (list .nodes)) k blankNode h, getD-take (list .count) (list .nodes) k blankNode l, e) refl
 
 -- no node left
-ended : (cs ps : List ℤ) (ns : List Node) (k : ℕ) {xs : List Float} → length ns ≤ k → xs ≡ runNodes cs ps (drop k ns) xs
+ended : (m : Room) (ns : List Node) (k : ℕ) {xs : List Float} → length ns ≤ k → xs ≡ runNodes m (drop k ns) xs
 unfolding runNodes
-ended cs ps ns k h = rw (drop-of-length-le ns h) refl
+ended m ns k h = rw (drop-of-length-le ns h) refl
 
 abbrev Inv-loop : tie.InvT-loop
 Inv-loop coefficients powers pixels₀ list count k₀ pixels k =
     (k ≤ count)
     × (length pixels ≡ length pixels₀)
-    × (runNodes coefficients powers (drop k (nodesOf list)) pixels ≡ runNodes coefficients powers (nodesOf list) pixels₀)
+    × (runNodes (lent coefficients powers) (drop k (nodesOf list)) pixels ≡ runNodes (lent coefficients powers) (nodesOf list) pixels₀)
 
 abbrev μ-loop : tie.MeasureT-loop
 μ-loop coefficients powers pixels₀ list count k₀ pixels k = count - k
@@ -69,7 +69,7 @@ loop-again c =
     let a = h .before .before .args in (
       omega arith,
       r .run-one .kept .1 .1 .1 .0 ∙ t .loop .inv .1,
-      runs-on (now (a .coefficients)) (now (a .powers)) (a .t1) (t .loop .k) (t .loop .pixels) (omega (arith, h .held .ensures .nodes)) (r .run-one .ensures) ∙ t .loop .inv .2,
+      runs-on (lent (now (a .coefficients)) (now (a .powers))) (a .t1) (t .loop .k) (t .loop .pixels) (omega (arith, h .held .ensures .nodes)) (r .run-one .ensures) ∙ t .loop .inv .2,
     )
 
 same-length : tie.Need-same-length Inv-loop μ-loop
@@ -80,7 +80,7 @@ returns c =
     let t = c .before in
     let h = t .before in
     let a = h .before .before .args in
-    ended (now (a .coefficients)) (now (a .powers)) (nodesOf (a .t1)) (t .loop .k) (omega (arith, h .held .ensures .nodes)) ∙ t .loop .inv .2
+    ended (lent (now (a .coefficients)) (now (a .powers))) (nodesOf (a .t1)) (t .loop .k) (omega (arith, h .held .ensures .nodes)) ∙ t .loop .inv .2
 
 pub run-all-spec : {M : Type 1} → statement M
 run-all-spec =

@@ -5,13 +5,13 @@ use Rattle.values.proofs.store.Statement.{statement}
 use Rattle.values.proofs.store.Tie as tie
 
 returns : tie.Need-returns
-returns c = laid-outside _ _ _ _ (omega arith)
+returns c = laid-outside _ _ _ (omega arith)
 
 sub-if2 : tie.Need-sub-if2
 sub-if2 c = search needs
 
 returns-2 : tie.Need-returns-2
-returns-2 c = laid-outside _ _ _ _ (omega arith)
+returns-2 c = laid-outside _ _ _ (omega arith)
 
 add-store : tie.Need-add-store
 add-store c = omega arith
@@ -26,7 +26,7 @@ same-length-2 : tie.Need-same-length-2
 same-length-2 c = search needs
 
 returns-3 : tie.Need-returns-3
-returns-3 c = laid-one _ _ _ _ _ _ (c .before .before .store .ensures .0) (c .before .before .store .ensures .1)
+returns-3 c = laid-one _ _ _ _ (c .before .before .store .ensures)
 
 pub store-spec : {M : Type 1} → statement M
 store-spec =

@@ -12,19 +12,19 @@ put-array-requires : tie.Need-put-array-requires
 put-array-requires c κs =
     let h = c .before .before .before .before .before .before .pre in
     let e = (c .before .before .before .kind .given .1) in
-    (wide-asks _ _ e _ _ (c .before .if1 .taken) (h .0), wide-asks _ _ e _ _ (c .before .if1 .taken) (h .1))
+    wide-asks _ _ e _ _ (c .before .if1 .taken) h
 
 same-length : tie.Need-same-length
 same-length c = search needs
 
 returns : tie.Need-returns
-returns c = puts-as (wide-text _ _ (c .before .before .before .before .before .before .kind .given .1) _ _ _ (c .before .before .before .before .if1 .taken)) (c .before .before .put-array .ensures)
+returns c = puts-as (wide-text _ _ (c .before .before .before .before .before .before .kind .given .1) _ _ (c .before .before .before .before .if1 .taken)) (c .before .before .put-array .ensures)
 
 put-array-requires-2 : tie.Need-put-array-requires-2
 put-array-requires-2 c κs =
     let h = c .before .before .before .before .before .before .pre in
     let e = (c .before .before .before .kind .given .1) in
-    (narrow-asks _ _ e _ _ (c .before .if1 .left) (h .0), narrow-asks _ _ e _ _ (c .before .if1 .left) (h .1))
+    narrow-asks _ _ e _ _ (c .before .if1 .left) h
 
 enum-known-kind-2 : tie.Need-enum-known-kind-2
 enum-known-kind-2 c = search needs
@@ -33,7 +33,7 @@ put-array-requires-3 : tie.Need-put-array-requires-3
 put-array-requires-3 c κs =
     let h = c .before .before .before .before .before .pre in
     let e = (c .before .before .kind2 .given .1) in
-    (table-asks _ _ _ e _ _ (h .0), table-asks _ _ _ e _ _ (h .1))
+    table-asks _ _ _ e _ _ h
 
 enum-told : tie.Need-enum-told
 enum-told c = search needs
@@ -42,7 +42,7 @@ put-range-requires : tie.Need-put-range-requires
 put-range-requires c κs =
     let h = c .before .before .before .before .pre in
     let e = (c .before .enum-told .given .1) in
-    (range-asks _ _ e _ _ (h .0), range-asks _ _ e _ _ (h .1))
+    range-asks _ _ e _ _ h
 
 enum-told-2 : tie.Need-enum-told-2
 enum-told-2 c = search needs
@@ -51,37 +51,39 @@ put-sop-requires : tie.Need-put-sop-requires
 put-sop-requires c κs =
     let h = c .before .before .before .before .pre in
     let e = (c .before .enum-told2 .given .1) in
-    (cdl-asks _ _ e _ _ (h .0), cdl-asks _ _ e _ _ (h .1))
+    cdl-asks _ _ e _ _ h
 
 put-sat-requires : tie.Need-put-sat-requires
 put-sat-requires c κs =
     let h = c .before .before .before .before .before .before .before .before .pre in
     let e = (c .before .before .before .before .before .enum-told2 .given .1) in
-    (cdl-asks _ _ e _ _ (h .0), cdl-asks _ _ e _ _ (h .1))
+    cdl-asks _ _ e _ _ h
 
 same-length-2 : tie.Need-same-length-2
 same-length-2 c = search needs
 
 returns-2 : tie.Need-returns-2
-returns-2 c = puts-as (narrow-text _ _ (c .before .before .before .before .before .before .kind .given .1) _ _ _ (c .before .before .before .before .if1 .left)) (c .before .before .put-array2 .ensures)
+returns-2 c = puts-as (narrow-text _ _ (c .before .before .before .before .before .before .kind .given .1) _ _ (c .before .before .before .before .if1 .left)) (c .before .before .put-array2 .ensures)
 
 same-length-3 : tie.Need-same-length-3
 same-length-3 c = search needs
 
 returns-3 : tie.Need-returns-3
-returns-3 c = puts-as (table-text _ _ _ (c .before .before .before .before .before .kind2 .given .1) _ _ _) (c .before .before .put-array3 .ensures)
+returns-3 c = puts-as (table-text _ _ _ (c .before .before .before .before .before .kind2 .given .1) _ _) (c .before .before .put-array3 .ensures)
 
 same-length-4 : tie.Need-same-length-4
 same-length-4 c = search needs
 
 returns-4 : tie.Need-returns-4
-returns-4 c = puts-as (range-text _ _ (c .before .before .before .before .enum-told .given .1) _ _ _) (c .before .before .put-range .ensures)
+returns-4 c = puts-as (range-text _ _ (c .before .before .before .before .enum-told .given .1) _ _) (c .before .before .put-range .ensures)
 
 same-length-5 : tie.Need-same-length-5
 same-length-5 c = search needs
 
 returns-5 : tie.Need-returns-5
-returns-5 c = puts-as (cdl-text _ _ (c .before .before .before .before .before .before .before .before .enum-told2 .given .1) _ _ _) (puts-then (c .before .before .before .before .before .before .put-sop .ensures) (c .before .before .put-sat .ensures))
+returns-5 c =
+    let s = c .before .before .before .before .before .before in
+    puts-as (cdl-text _ _ (s .before .before .enum-told2 .given .1) _ _) (puts-then (s .put-sop .ensures) (c .before .before .put-sat .ensures))
 
 pub put-content-spec : {M : Type 1} → statement M
 put-content-spec =

@@ -2,6 +2,7 @@
 use Prim.Native.Nat.{_-_}
 use native.Mathlib.Omega.{arith}
 use lib.ListN.{drop}
+use Rattle.room.specs.Room.{lent}
 use Rattle.valid.specs.Valid.{elementsOf}
 use Rattle.text_out.specs.Output.{Goes}
 use Rattle.text_out.proofs.Laws.{goes-start, goes-then, goes-end}
@@ -12,7 +13,8 @@ use Rattle.writing.proofs.elements.put_nodes.Statement.{statement}
 use Rattle.writing.proofs.elements.put_nodes.Tie as tie
 
 abbrev Inv-loop : tie.InvT-loop
-Inv-loop out₀ at list coefficients powers count held₀ k₀ out held k = Goes (nodesText (elementsOf list coefficients powers)) (nodesText (drop k (elementsOf list coefficients powers))) at out₀ out held
+Inv-loop out₀ at list coefficients powers count held₀ k₀ out held k =
+    Goes (nodesText (elementsOf list (lent coefficients powers))) (nodesText (drop k (elementsOf list (lent coefficients powers)))) at out₀ out held
 
 abbrev μ-loop : tie.MeasureT-loop
 μ-loop out₀ at list coefficients powers count held₀ k₀ out held k = count - k
@@ -30,7 +32,7 @@ put-node-requires : tie.Need-put-node-requires Inv-loop μ-loop
 put-node-requires c κs =
     let a = c .before .before .before .before .before .before in
     let e = c .before .before .before .before .held .ensures .nodes in
-    node-asks (a .args .coefficients .now) (a .args .powers .now) (a .args .list) (a .pre) (c .before .before .before .loop .k) (omega arith) _ (c .before .get .ensures)
+    node-asks (lent (a .args .coefficients .now) (a .args .powers .now)) (a .args .list) (a .pre) (c .before .before .before .loop .k) (omega arith) _ (c .before .get .ensures)
 
 add-k : tie.Need-add-k Inv-loop μ-loop
 add-k c = search needs
@@ -43,7 +45,8 @@ loop-again c =
     let a = c .before .before .before .before .before .before .before .before .before .args in
     let e = c .before .before .before .before .before .before .before .held .ensures .nodes in
     let l = c .before .before .before .before .before .before in
-    goes-then (l .loop .inv) (nodes-next (a .coefficients .now) (a .powers .now) (a .list) (l .loop .k) (omega arith) _ (c .before .before .before .before .get .ensures)) (c .before .before .put-node .ensures)
+    let n = nodes-next (lent (a .coefficients .now) (a .powers .now)) (a .list) (l .loop .k) (omega arith) _ (c .before .before .before .before .get .ensures) in
+    goes-then (l .loop .inv) n (c .before .before .put-node .ensures)
 
 same-length : tie.Need-same-length Inv-loop μ-loop
 same-length c = search needs
@@ -53,7 +56,7 @@ returns c =
     let a = c .before .before .before .before .args in
     let e = c .before .before .held .ensures .nodes in
     let l = c .before in
-    goes-end (l .loop .inv) (nodes-last (a .coefficients .now) (a .powers .now) (a .list) (l .loop .k) (omega arith))
+    goes-end (l .loop .inv) (nodes-last (lent (a .coefficients .now) (a .powers .now)) (a .list) (l .loop .k) (omega arith))
 
 pub put-nodes-spec : {M : Type 1} → statement M
 put-nodes-spec =

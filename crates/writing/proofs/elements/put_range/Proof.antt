@@ -1,4 +1,5 @@
 -- The four values of a Range. Assumes nothing.
+use Rattle.room.specs.Room.{lent, roomLength}
 use Rattle.text_out.proofs.Laws.{puts-as, puts-then}
 use Rattle.writing.proofs.Laws.{range-as}
 use borrow.Author.Needs.{needs}
@@ -15,6 +16,7 @@ slice-aggregate-put-value-2 : tie.Need-slice-aggregate-put-value-2
 slice-aggregate-put-value-2 c = search needs
 
 add-put-value : tie.Need-add-put-value
+unfolding roomLength
 add-put-value c = search needs
 
 put-value-requires-2 : tie.Need-put-value-requires-2
@@ -24,6 +26,7 @@ slice-aggregate-put-value-3 : tie.Need-slice-aggregate-put-value-3
 slice-aggregate-put-value-3 c = search needs
 
 add-put-value-2 : tie.Need-add-put-value-2
+unfolding roomLength
 add-put-value-2 c = search needs
 
 put-value-requires-3 : tie.Need-put-value-requires-3
@@ -33,6 +36,7 @@ slice-aggregate-put-value-4 : tie.Need-slice-aggregate-put-value-4
 slice-aggregate-put-value-4 c = search needs
 
 add-put-value-3 : tie.Need-add-put-value-3
+unfolding roomLength
 add-put-value-3 c = search needs
 
 put-value-requires-4 : tie.Need-put-value-requires-4
@@ -43,8 +47,14 @@ same-length c = search needs
 
 returns : tie.Need-returns
 returns c =
-    let a = c .before .before .before .before .before .before .before .before .before .before .before .before .before .before .before .before .before .before .before .before .before .args in
-    puts-as (range-as (a .coefficients .now) (a .powers .now) (a .from)) (puts-then (c .before .before .before .before .before .before .before .before .before .before .before .before .before .before .before .before .before .put-value .ensures) (puts-then (c .before .before .before .before .before .before .before .before .before .before .before .before .put-value2 .ensures) (puts-then (c .before .before .before .before .before .before .before .put-value3 .ensures) (c .before .before .put-value4 .ensures))))
+    let third = c .before .before .before .before .before .before .before in
+    let second = third .before .before .before .before .before in
+    let first = second .before .before .before .before .before in
+    let a = first .before .before .before .before .args in
+    puts-as (range-as (lent (a .coefficients .now) (a .powers .now)) (a .from))
+    (puts-then (first .put-value .ensures)
+    (puts-then (second .put-value2 .ensures)
+    (puts-then (third .put-value3 .ensures) (c .before .before .put-value4 .ensures))))
 
 pub put-range-spec : {M : Type 1} → statement M
 put-range-spec =

@@ -1,4 +1,5 @@
 -- Saturation. Assumes nothing.
+use Rattle.room.specs.Room.{lent, roomLength}
 use Rattle.text_out.proofs.Laws.{puts-as, puts-then}
 use Rattle.writing.proofs.Laws.{sat-as}
 use borrow.Author.Needs.{needs}
@@ -15,6 +16,7 @@ slice-aggregate-put-value : tie.Need-slice-aggregate-put-value
 slice-aggregate-put-value c = search needs
 
 add-put-value : tie.Need-add-put-value
+unfolding roomLength
 add-put-value c = search needs
 
 put-value-requires : tie.Need-put-value-requires
@@ -31,8 +33,11 @@ same-length c = search needs
 
 returns : tie.Need-returns
 returns c =
-    let a = c .before .before .before .before .before .before .before .before .before .before .before .before .before .before .before .before .args in
-    puts-as (sat-as (a .coefficients .now) (a .powers .now) (a .from)) (puts-then (c .before .before .before .before .before .before .before .before .before .before .before .before .put .ensures) (puts-then (c .before .before .before .before .before .before .before .put-value .ensures) (c .before .before .put2 .ensures)))
+    let second = c .before .before .before .before .before .before .before in
+    let first = second .before .before .before .before .before in
+    let a = first .before .before .before .before .args in
+    puts-as (sat-as (lent (a .coefficients .now) (a .powers .now)) (a .from))
+    (puts-then (first .put .ensures) (puts-then (second .put-value .ensures) (c .before .before .put2 .ensures)))
 
 pub put-sat-spec : {M : Type 1} → statement M
 put-sat-spec =

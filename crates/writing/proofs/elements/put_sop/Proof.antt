@@ -1,4 +1,5 @@
 -- Slope, Offset, Power. Assumes nothing.
+use Rattle.room.specs.Room.{lent, roomLength}
 use Rattle.text_out.proofs.Laws.{puts-as, puts-then}
 use Rattle.writing.proofs.Laws.{sop-as}
 use borrow.Author.Needs.{needs}
@@ -21,6 +22,7 @@ slice-aggregate-put-value-2 : tie.Need-slice-aggregate-put-value-2
 slice-aggregate-put-value-2 c = search needs
 
 add-put-value : tie.Need-add-put-value
+unfolding roomLength
 add-put-value c = search needs
 
 put-value-requires-2 : tie.Need-put-value-requires-2
@@ -30,6 +32,7 @@ slice-aggregate-put-value-3 : tie.Need-slice-aggregate-put-value-3
 slice-aggregate-put-value-3 c = search needs
 
 add-put-value-2 : tie.Need-add-put-value-2
+unfolding roomLength
 add-put-value-2 c = search needs
 
 put-value-requires-3 : tie.Need-put-value-requires-3
@@ -46,8 +49,16 @@ same-length c = search needs
 
 returns : tie.Need-returns
 returns c =
-    let a = c .before .before .before .before .before .before .before .before .before .before .before .before .before .before .before .before .before .before .before .before .before .before .before .before .before .before .args in
-    puts-as (sop-as (a .coefficients .now) (a .powers .now) (a .from)) (puts-then (c .before .before .before .before .before .before .before .before .before .before .before .before .before .before .before .before .before .before .before .before .before .before .put .ensures) (puts-then (c .before .before .before .before .before .before .before .before .before .before .before .before .before .before .before .before .before .put-value .ensures) (puts-then (c .before .before .before .before .before .before .before .before .before .before .before .before .put-value2 .ensures) (puts-then (c .before .before .before .before .before .before .before .put-value3 .ensures) (c .before .before .put2 .ensures)))))
+    let fourth = c .before .before .before .before .before .before .before in
+    let third = fourth .before .before .before .before .before in
+    let second = third .before .before .before .before .before in
+    let first = second .before .before .before .before .before in
+    let a = first .before .before .before .before .args in
+    puts-as (sop-as (lent (a .coefficients .now) (a .powers .now)) (a .from))
+    (puts-then (first .put .ensures)
+    (puts-then (second .put-value .ensures)
+    (puts-then (third .put-value2 .ensures)
+    (puts-then (fourth .put-value3 .ensures) (c .before .before .put2 .ensures)))))
 
 pub put-sop-spec : {M : Type 1} → statement M
 put-sop-spec =

@@ -4,17 +4,21 @@ use lib.ListN.{getD}
 use lib.IntN.{pos}
 use mir.ValLaws.{toZ-ofZ}
 use mir.Syntax.{w8, w64}
+use Rattle.room.specs.Room.{roomLength}
 use Rattle.valid.specs.Valid.{numberAt}
 use Rattle.writing.proofs.numbers.put_number.Statement.{statement}
 use Rattle.writing.proofs.numbers.put_number.Tie as tie
 
 mul-coefficient : tie.Need-mul-coefficient
+unfolding roomLength
 mul-coefficient c = search needs
 
 shared-slice-copy-out-coefficient : tie.Need-shared-slice-copy-out-coefficient
+unfolding roomLength
 shared-slice-copy-out-coefficient c = search needs
 
 shared-slice-copy-out-power : tie.Need-shared-slice-copy-out-power
+unfolding roomLength
 shared-slice-copy-out-power c = search needs
 
 put-number-requires : tie.Need-put-number-requires

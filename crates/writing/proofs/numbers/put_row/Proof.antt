@@ -1,5 +1,6 @@
 -- The first number, then the others. Assumes nothing.
 use native.Mathlib.Omega.{arith}
+use Rattle.room.specs.Room.{lent, roomLength}
 use Rattle.text_out.proofs.Laws.{goes-start, goes-end, puts-as, puts-then}
 use Rattle.writing.proofs.Laws.{row-none, row-some}
 use borrow.Author.Needs.{needs}
@@ -10,12 +11,13 @@ returns : tie.Need-returns
 returns c =
     let s = c .before .before in
     let a = s .args in
-    goes-end (goes-start _ _ _) (row-none (a .coefficients .now) (a .powers .now) (a .from) (a .count) (s .pre .0) (s .pre .1) (c .if1 .taken))
+    goes-end (goes-start _ _ _) (row-none (lent (a .coefficients .now) (a .powers .now)) (a .from) (a .count) (s .pre) (c .if1 .taken))
 
 put-number-requires : tie.Need-put-number-requires
 put-number-requires c κs = search needs
 
 add-put-spaced : tie.Need-add-put-spaced
+unfolding roomLength
 add-put-spaced c = search needs
 
 sub-put-spaced : tie.Need-sub-put-spaced
@@ -29,9 +31,12 @@ same-length c = search needs
 
 returns-2 : tie.Need-returns-2
 returns-2 c =
-    let s = c .before .before .before .before .before .before .before .before .before .before in
+    let n = c .before .before .before .before .before .before in
+    let i = n .before .before in
+    let s = i .before .before in
     let a = s .args in
-    puts-as (row-some (a .coefficients .now) (a .powers .now) (a .from) (a .count) (s .pre .0) (s .pre .1) (omega (arith, c .before .before .before .before .before .before .before .before .if1 .left))) (puts-then (c .before .before .before .before .before .before .put-number .ensures) (c .before .before .put-spaced .ensures))
+    puts-as (row-some (lent (a .coefficients .now) (a .powers .now)) (a .from) (a .count) (s .pre) (omega (arith, i .if1 .left)))
+    (puts-then (n .put-number .ensures) (c .before .before .put-spaced .ensures))
 
 pub put-row-spec : {M : Type 1} → statement M
 put-row-spec =

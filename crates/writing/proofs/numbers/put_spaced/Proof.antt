@@ -1,6 +1,7 @@
 -- What is left are the numbers from index i on. Assumes nothing.
 use Prim.Native.Nat.{_+_, _-_, _≤_}
 use native.Mathlib.Omega.{arith}
+use Rattle.room.specs.Room.{lent, roomLength}
 use Rattle.valid.specs.Valid.{numbersAt}
 use Rattle.text_out.specs.Output.{Goes}
 use Rattle.text_out.proofs.Laws.{goes-then, goes-end, puts-then}
@@ -11,13 +12,15 @@ use Rattle.writing.proofs.numbers.put_spaced.Statement.{statement}
 use Rattle.writing.proofs.numbers.put_spaced.Tie as tie
 
 abbrev Inv-loop : tie.InvT-loop
-Inv-loop out₀ at coefficients powers from count held₀ i₀ t9 out held i = (i ≤ count) × Goes (spacedText (numbersAt coefficients powers from count)) (spacedText (numbersAt coefficients powers (from + i) (count - i))) at out₀ out held
+Inv-loop out₀ at coefficients powers from count held₀ i₀ t9 out held i =
+    (i ≤ count)
+    × Goes (spacedText (numbersAt (lent coefficients powers) from count)) (spacedText (numbersAt (lent coefficients powers) (from + i) (count - i))) at out₀ out held
 
 abbrev μ-loop : tie.MeasureT-loop
 μ-loop out₀ at coefficients powers from count held₀ i₀ t9 out held i = count - i
 
 loop-holds : tie.Need-loop-holds Inv-loop μ-loop
-loop-holds c = (search needs, spaced-start _ _ _ _ _ _)
+loop-holds c = (search needs, spaced-start _ _ _ _ _)
 
 slice-aggregate-put : tie.Need-slice-aggregate-put Inv-loop μ-loop
 slice-aggregate-put c = search needs
@@ -26,6 +29,7 @@ put-requires : tie.Need-put-requires Inv-loop μ-loop
 put-requires c κs = search needs
 
 add-put-number : tie.Need-add-put-number Inv-loop μ-loop
+unfolding roomLength
 add-put-number c = search needs
 
 put-number-requires : tie.Need-put-number-requires Inv-loop μ-loop
@@ -42,7 +46,8 @@ loop-again c =
     let l = c .before .before .before .before .before .before .before .before .before .before in
     let a = c .before .before .before .before .before .before .before .before .before .before .before .before .args in
     let h = c .before .before .before .before .before .before .before .before .before .before .before .before .pre in
-    (search needs, goes-then (l .loop .inv .1) (spaced-next (a .coefficients .now) (a .powers .now) (a .from) (a .count) (h .0) (h .1) (l .loop .i) (omega arith)) (puts-then (c .before .before .before .before .before .before .put .ensures) (c .before .before .put-number .ensures)))
+    let n = spaced-next (lent (a .coefficients .now) (a .powers .now)) (a .from) (a .count) h (l .loop .i) (omega arith) in
+    (search needs, goes-then (l .loop .inv .1) n (puts-then (c .before .before .before .before .before .before .put .ensures) (c .before .before .put-number .ensures)))
 
 same-length : tie.Need-same-length Inv-loop μ-loop
 same-length c = search needs
@@ -52,7 +57,7 @@ returns c =
     let l = c .before in
     let a = c .before .before .before .args in
     let h = c .before .before .before .pre in
-    goes-end (l .loop .inv .1) (spaced-last (a .coefficients .now) (a .powers .now) (a .from) (a .count) (h .0) (h .1) (l .loop .i) (omega arith))
+    goes-end (l .loop .inv .1) (spaced-last (lent (a .coefficients .now) (a .powers .now)) (a .from) (a .count) h (l .loop .i) (omega arith))
 
 pub put-spaced-spec : {M : Type 1} → statement M
 put-spaced-spec =

@@ -1,0 +1,50 @@
+use Rattle.reading.specs.Code.{checkedBy}
+use Rattle.reading.proofs.Laws.{over-limit, within-limit, checked-large, checked-small}
+use mathlib.Core.Path.{_∙_, ap}
+use borrow.Author.Needs.{needs}
+use Rattle.reading.proofs.check_within.Statement.{statement}
+use Rattle.reading.proofs.check_within.Tie as tie
+
+too-long-requires : tie.Need-too-long-requires
+too-long-requires c κs = search needs
+
+to-checked-requires : tie.Need-to-checked-requires
+to-checked-requires c κs = search needs
+
+returns : tie.Need-returns
+returns c =
+    let if1 = c .before .if1 in
+    let too-long = c .before .before .too-long in
+    let given = c .before .before .before .before .args in
+    c .to-checked .ensures ∙ checked-large _ _ (over-limit (given .file .now) _ (too-long .ensures) (if1 .taken))
+
+text-alone-requires : tie.Need-text-alone-requires
+text-alone-requires c κs = search needs
+
+judge-text-requires : tie.Need-judge-text-requires
+judge-text-requires c κs = search needs
+
+to-checked-requires-2 : tie.Need-to-checked-requires-2
+to-checked-requires-2 c κs = search needs
+
+returns-2 : tie.Need-returns-2
+returns-2 c =
+    let judge-text = c .before .judge-text in
+    let text-alone = c .before .before .text-alone in
+    let if1 = c .before .before .before .if1 in
+    let too-long = c .before .before .before .before .too-long in
+    let given = c .before .before .before .before .before .before .args in
+    c .to-checked2 .ensures ∙ ap checkedBy (judge-text .ensures) ∙ checked-small _ _ _ (text-alone .ensures) (within-limit (given .file .now) _ (too-long .ensures) (if1 .left))
+    _
+
+pub check-within-spec : {M : Type 1} → statement M
+check-within-spec =
+    tie.close
+    (tie.spec
+    too-long-requires
+    to-checked-requires
+    returns
+    text-alone-requires
+    judge-text-requires
+    to-checked-requires-2
+    returns-2)

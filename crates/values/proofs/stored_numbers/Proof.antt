@@ -1,0 +1,136 @@
+use mathlib.Core.Path.{sym, _∙_}
+use Prim.Native.Nat.{_-_}
+use native.Mathlib.Omega.{arith}
+use lib.ListN.{length}
+use Rattle.room.specs.Room.{lent}
+use Rattle.values.specs.Code.{ruleOf}
+use Rattle.values.proofs.Loop.{NumbersInv, numbers-start, numbers-from, numbers-ended, numbers-space, numbers-end, token-forward, numbers-token, numbers-token-fault, numbers-token-cut}
+use borrow.Author.Needs.{needs}
+use Rattle.values.proofs.stored_numbers.Statement.{statement}
+use Rattle.values.proofs.stored_numbers.Tie as tie
+
+abbrev Inv-loop : tie.InvT-loop
+Inv-loop s at w n rule coefficients₀ powers₀ base i₀ count₀ coefficients powers i count =
+    NumbersInv w n (ruleOf rule) s at base (lent coefficients₀ powers₀) i count (lent coefficients powers)
+
+abbrev μ-loop : tie.MeasureT-loop
+μ-loop s at w n rule coefficients₀ powers₀ base i₀ count₀ coefficients powers i count = length s - i
+
+loop-holds : tie.Need-loop-holds Inv-loop μ-loop
+loop-holds c = numbers-start _ _ _ _ _ _ _
+
+shared-slice-read-b : tie.Need-shared-slice-read-b Inv-loop μ-loop
+shared-slice-read-b c = search needs
+
+is-space-requires : tie.Need-is-space-requires Inv-loop μ-loop
+is-space-requires c κs = search needs
+
+add-i : tie.Need-add-i Inv-loop μ-loop
+add-i c = search needs
+
+loop-less : tie.Need-loop-less Inv-loop μ-loop
+loop-less c = search needs
+
+loop-again : tie.Need-loop-again Inv-loop μ-loop
+loop-again c = numbers-space (c .before .before .before .before .loop .inv) (omega arith) (sym (c .before .is-space .ensures) ∙ c .if1 .taken)
+
+too-few-requires : tie.Need-too-few-requires Inv-loop μ-loop
+too-few-requires c κs = search needs
+
+only-end-requires : tie.Need-only-end-requires Inv-loop μ-loop
+only-end-requires c κs = search needs
+
+same-length : tie.Need-same-length Inv-loop μ-loop
+same-length c = numbers-from (c .before .before .before .before .before .before .before .loop .inv) .coefficients .size
+
+same-length-2 : tie.Need-same-length-2 Inv-loop μ-loop
+same-length-2 c = numbers-from (c .before .before .before .before .before .before .before .loop .inv) .powers .size
+
+returns : tie.Need-returns Inv-loop μ-loop
+returns c = numbers-end (c .before .before .before .before .before .before .before .loop .inv) (omega arith) (sym (c .before .before .before .before .is-space .ensures) ∙ c .before .before .before .if1 .left) (c .before .before .if2 .taken) _ _ (c .before .too-few .ensures) (c .only-end .ensures)
+
+token-read-requires : tie.Need-token-read-requires Inv-loop μ-loop
+token-read-requires c κs = search needs
+
+enum-known-t : tie.Need-enum-known-t Inv-loop μ-loop
+enum-known-t c = search needs
+
+store-requires : tie.Need-store-requires Inv-loop μ-loop
+store-requires c κs = search needs
+
+add-count : tie.Need-add-count Inv-loop μ-loop
+add-count c = omega (arith, c .before .before .before .before .before .before .before .before .before .before .before .before .before .before .loop .inv .low)
+
+loop-less-2 : tie.Need-loop-less-2 Inv-loop μ-loop
+loop-less-2 c = omega (arith, token-forward (c .before .before .before .before .before .before .before .before .before .before .before .before .before .before .loop .inv) (omega arith) (sym (c .before .before .before .before .before .before .before .before .before .before .before .is-space .ensures) ∙ c .before .before .before .before .before .before .before .before .before .before .if1 .left) (c .before .before .before .before .before .before .before .before .before .if2 .left) _ _ (rw (c .before .before .before .before .before .before .t .given .1) at (c .before .before .before .before .before .before .before .before .token-read .ensures)))
+
+loop-again-2 : tie.Need-loop-again-2 Inv-loop μ-loop
+loop-again-2 c = numbers-token (c .before .before .before .before .before .before .before .before .before .before .before .before .before .before .loop .inv) (omega arith) (sym (c .before .before .before .before .before .before .before .before .before .before .before .is-space .ensures) ∙ c .before .before .before .before .before .before .before .before .before .before .if1 .left) (c .before .before .before .before .before .before .before .before .before .if2 .left) _ _ _ (rw (c .before .before .before .before .before .before .t .given .1) at (c .before .before .before .before .before .before .before .before .token-read .ensures)) (c .before .before .store .ensures)
+
+enum-known-t-2 : tie.Need-enum-known-t-2 Inv-loop μ-loop
+enum-known-t-2 c = search needs
+
+same-length-3 : tie.Need-same-length-3 Inv-loop μ-loop
+same-length-3 c = numbers-from (c .before .before .before .before .before .before .before .before .before .loop .inv) .coefficients .size
+
+same-length-4 : tie.Need-same-length-4 Inv-loop μ-loop
+same-length-4 c = numbers-from (c .before .before .before .before .before .before .before .before .before .loop .inv) .powers .size
+
+returns-2 : tie.Need-returns-2 Inv-loop μ-loop
+returns-2 c = numbers-token-fault (c .before .before .before .before .before .before .before .before .before .loop .inv) (omega arith) (sym (c .before .before .before .before .before .before .is-space .ensures) ∙ c .before .before .before .before .before .if1 .left) (c .before .before .before .before .if2 .left) _ _ (rw (c .before .t2 .given .1) at (c .before .before .before .token-read .ensures))
+
+enum-told : tie.Need-enum-told Inv-loop μ-loop
+enum-told c = search needs
+
+same-length-5 : tie.Need-same-length-5 Inv-loop μ-loop
+same-length-5 c = numbers-from (c .before .before .before .before .before .before .before .before .loop .inv) .coefficients .size
+
+same-length-6 : tie.Need-same-length-6 Inv-loop μ-loop
+same-length-6 c = numbers-from (c .before .before .before .before .before .before .before .before .loop .inv) .powers .size
+
+returns-3 : tie.Need-returns-3 Inv-loop μ-loop
+returns-3 c = numbers-token-cut (c .before .before .before .before .before .before .before .before .loop .inv) (omega arith) (sym (c .before .before .before .before .before .is-space .ensures) ∙ c .before .before .before .before .if1 .left) (c .before .before .before .if2 .left) (rw (c .enum-told .given .1) at (c .before .before .token-read .ensures))
+
+same-length-7 : tie.Need-same-length-7 Inv-loop μ-loop
+same-length-7 c = numbers-from (c .before .loop .inv) .coefficients .size
+
+same-length-8 : tie.Need-same-length-8 Inv-loop μ-loop
+same-length-8 c = numbers-from (c .before .loop .inv) .powers .size
+
+returns-4 : tie.Need-returns-4 Inv-loop μ-loop
+returns-4 c = numbers-ended (c .before .loop .inv) (omega arith)
+
+pub stored-numbers-spec : {M : Type 1} → statement M
+stored-numbers-spec =
+    tie.close
+    (tie.spec
+    Inv-loop
+    μ-loop
+    loop-holds
+    shared-slice-read-b
+    is-space-requires
+    add-i
+    loop-less
+    loop-again
+    too-few-requires
+    only-end-requires
+    same-length
+    same-length-2
+    returns
+    token-read-requires
+    enum-known-t
+    store-requires
+    add-count
+    loop-less-2
+    loop-again-2
+    enum-known-t-2
+    same-length-3
+    same-length-4
+    returns-2
+    enum-told
+    same-length-5
+    same-length-6
+    returns-3
+    same-length-7
+    same-length-8
+    returns-4)
