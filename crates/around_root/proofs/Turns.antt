@@ -11,16 +11,16 @@ use Rattle.grammar.specs.Parse.{Out, done, fault, cut, Parser, Turn, thenOut, b
 use Rattle.grammar.specs.Laws.{loop-again, loop-last, loop-fault, loop-cut}
 use Rattle.grammar.specs.Grammar.{G, ret, bad}
 use Rattle.xml.specs.Xml.{strayEnd, word}
-use Rattle.xml.specs.Elements.{Part, gap, child, close, between}
+use Rattle.xml.specs.Elements.{Part, misc, child, close, between}
 use Rattle.xml.specs.Bytes.{bytes, same}
 use Rattle.xml.specs.Code.{Reads, ReadsFrom, Inside, scanOut, noValue, part, Failed}
 use Rattle.xml.specs.declared.Scan.{Scan}
 use Rattle.xml.specs.declared.Scan.the-variants.{At, Fault, Cut}
-use Rattle.markup.specs.Leads.{LeadsTo}
-use Rattle.markup.specs.declared.Lead.the-variants as Leads
-use Rattle.markup.specs.Between.{between-gap, between-fault, between-cut, between-refused, between-child, between-end-reads}
+use Rattle.markup.specs.Items.{ItemReads}
+use Rattle.markup.specs.declared.Item.the-variants as Items
+use Rattle.markup.specs.Between.{between-misc, between-fault, between-cut, between-refused, between-child, between-end-reads}
 use Rattle.tags.specs.Code.{partIn}
-use Rattle.around_root.specs.Code.{rootScan, lead}
+use Rattle.around_root.specs.Code.{rootScan, beforeRoot}
 use Rattle.clf.specs.List.{declaration, rootFault, toRoot, prologue, onward, tailPart, tail}
 
 -- a later place leaves fewer bytes
@@ -40,8 +40,8 @@ unfolding prologue
 prologue-is u = refl
 
 module _ (s : List ℕ) (i e : ℕ) (h : i < e) (k : e ≤ length s) where
-  pub root-gap : before-root .run (drop i s) ≡ done gap (drop e s) → loopP toRootP tt (drop i s) ≡ loopP toRootP tt (drop e s)
-  root-gap q = loop-again toRootP tt (drop i s) tt (drop e s) (ap (λ (o : Out (Part (List ℕ))). thenOut o (λ p. retP (toRoot p))) q) (fewer s i e h k)
+  pub root-misc : before-root .run (drop i s) ≡ done misc (drop e s) → loopP toRootP tt (drop i s) ≡ loopP toRootP tt (drop e s)
+  root-misc q = loop-again toRootP tt (drop i s) tt (drop e s) (ap (λ (o : Out (Part (List ℕ))). thenOut o (λ p. retP (toRoot p))) q) (fewer s i e h k)
 
   pub root-stray : before-root .run (drop i s) ≡ done close (drop e s) → loopP toRootP tt (drop i s) ≡ loopP toRootP tt (drop e s)
   root-stray q = loop-again toRootP tt (drop i s) tt (drop e s) (ap (λ (o : Out (Part (List ℕ))). thenOut o (λ p. retP (toRoot p))) q) (fewer s i e h k)
@@ -117,8 +117,8 @@ module _ (s : List ℕ) (at i : ℕ) (v : TailInv s at i) (g : i < length s) whe
     run = v .run ∙ tail-on s i g e p h k q;
   }
 
-  pub tail-gap : (e : ℕ) → LeadsTo s i (Leads.Gap e) → TailInv s at e
-  tail-gap e l = tail-next e gap (omega (arith, l .inside .0)) (l .inside .1) (between-gap strayEnd (λ w. 5) (λ w. bad 5) s i e l)
+  pub tail-misc : (e : ℕ) → ItemReads s i (Items.Misc e) → TailInv s at e
+  tail-misc e l = tail-next e misc (omega (arith, l .inside .0)) (l .inside .1) (between-misc strayEnd (λ w. 5) (λ w. bad 5) s i e l)
 
   ended : (r : Scan) → Failed r → scanOut noValue s r ≡ loopP tailP tt (drop i s) → Inside 0 s i r → ReadsFrom 0 tail noValue s at r
   ended (Fault k p) f q b = record {
@@ -129,15 +129,15 @@ module _ (s : List ℕ) (at i : ℕ) (v : TailInv s at i) (g : i < length s) whe
   ended Cut f q b = record { out = q ∙ sym (v .run); inside = λ x. tt; beyond = λ x. tt }
   ended (At e) f q b = absurd f
 
-  pub tail-open : (e : ℕ) → LeadsTo s i (Leads.Open e) → ReadsFrom 0 tail noValue s at (Fault 5 i)
+  pub tail-open : (e : ℕ) → ItemReads s i (Items.StartTag e) → ReadsFrom 0 tail noValue s at (Fault 5 i)
   tail-open e l =
       ended (Fault 5 i) tt (sym (tail-bad s i g 5 (drop i s) (between-refused strayEnd (λ w. 5) (λ w. bad 5) s i e l 5 refl (λ z. omega arith)))) (omega arith, omega arith)
 
-  pub tail-stray : (e : ℕ) → LeadsTo s i Leads.End → Reads 1 (strayEnd .run) noValue s i (At e) → TailInv s at e
+  pub tail-stray : (e : ℕ) → ItemReads s i Items.EndTag → Reads 1 (strayEnd .run) noValue s i (At e) → TailInv s at e
   tail-stray e l r =
       tail-next e close (omega (arith, r .inside .0)) (r .inside .1) (between-end-reads strayEnd (λ w. 5) (λ w. bad 5) s i l (At e) r)
 
-  stray-run : (r : Scan) → LeadsTo s i Leads.End → Reads 1 (strayEnd .run) noValue s i r → Failed r → scanOut noValue s r ≡ loopP tailP tt (drop i s)
+  stray-run : (r : Scan) → ItemReads s i Items.EndTag → Reads 1 (strayEnd .run) noValue s i r → Failed r → scanOut noValue s r ≡ loopP tailP tt (drop i s)
   stray-run (Fault k p) l r f = sym (tail-bad s i g k (drop p s) (between-end-reads strayEnd (λ w. 5) (λ w. bad 5) s i l (Fault k p) r))
   stray-run Cut l r f = sym (tail-cut s i g (between-end-reads strayEnd (λ w. 5) (λ w. bad 5) s i l Cut r))
   stray-run (At e) l r f = absurd f
@@ -147,13 +147,13 @@ module _ (s : List ℕ) (at i : ℕ) (v : TailInv s at i) (g : i < length s) whe
   looser Cut f b = tt
   looser (At e) f b = absurd f
 
-  pub tail-failed : (r : Scan) → LeadsTo s i Leads.End → Failed r → Reads 1 (strayEnd .run) noValue s i r → ReadsFrom 0 tail noValue s at r
+  pub tail-failed : (r : Scan) → ItemReads s i Items.EndTag → Failed r → Reads 1 (strayEnd .run) noValue s i r → ReadsFrom 0 tail noValue s at r
   tail-failed r l f h = ended r f (stray-run r l h f) (looser r f (h .inside))
 
-  pub tail-fault : (k p : ℕ) → LeadsTo s i (Leads.Fault k p) → ReadsFrom 0 tail noValue s at (Fault k p)
+  pub tail-fault : (k p : ℕ) → ItemReads s i (Items.Fault k p) → ReadsFrom 0 tail noValue s at (Fault k p)
   tail-fault k p l = ended (Fault k p) tt (sym (tail-bad s i g k (drop p s) (between-fault strayEnd (λ w. 5) (λ w. bad 5) s i k p l))) (l .inside)
 
-  pub tail-short : LeadsTo s i Leads.Cut → ReadsFrom 0 tail noValue s at Cut
+  pub tail-short : ItemReads s i Items.Cut → ReadsFrom 0 tail noValue s at Cut
   tail-short l = ended Cut tt (sym (tail-cut s i g (between-cut strayEnd (λ w. 5) (λ w. bad 5) s i l))) tt
 
 pub tail-end : (s : List ℕ) (at i : ℕ) → TailInv s at i → length s ≤ i → ReadsFrom 0 tail noValue s at (At i)
@@ -173,14 +173,14 @@ pub root-start : (s : List ℕ) (at : ℕ) → RootInv s at at
 root-start s at = record { from = omega arith; run = prologue-is (drop at s) }
 
 module _ (s : List ℕ) (at i : ℕ) (v : RootInv s at i) (g : i < length s) where
-  pub lead-gap : (e : ℕ) → LeadsTo s i (Leads.Gap e) → RootInv s at e
-  lead-gap e l = record {
+  pub item-misc : (e : ℕ) → ItemReads s i (Items.Misc e) → RootInv s at e
+  item-misc e l = record {
     from = omega (arith, v .from, l .inside .0);
-    run = v .run ∙ root-gap s i e (omega (arith, l .inside .0)) (l .inside .1) (between-gap strayEnd rootFault (λ w. ret w) s i e l);
+    run = v .run ∙ root-misc s i e (omega (arith, l .inside .0)) (l .inside .1) (between-misc strayEnd rootFault (λ w. ret w) s i e l);
   }
 
-  pub lead-stray : (e : ℕ) → LeadsTo s i Leads.End → Reads 1 (strayEnd .run) noValue s i (At e) → RootInv s at e
-  lead-stray e l r = record {
+  pub item-stray : (e : ℕ) → ItemReads s i Items.EndTag → Reads 1 (strayEnd .run) noValue s i (At e) → RootInv s at e
+  item-stray e l r = record {
     from = omega (arith, v .from, r .inside .0);
     run = v .run ∙ root-stray s i e (omega (arith, r .inside .0)) (r .inside .1) (between-end-reads strayEnd rootFault (λ w. ret w) s i l (At e) r);
   }
@@ -190,29 +190,29 @@ module _ (s : List ℕ) (at i : ℕ) (v : RootInv s at i) (g : i < length s) whe
   stopped Cut f q b = record { out = q ∙ sym (v .run); inside = tt }
   stopped (At e) f q b = absurd f
 
-  lead-run : (r : Scan) → LeadsTo s i Leads.End → Reads 1 (strayEnd .run) noValue s i r → Failed r → scanOut noValue s r ≡ loopP toRootP tt (drop i s)
-  lead-run (Fault k p) l r f = sym (root-bad (drop i s) k (drop p s) (between-end-reads strayEnd rootFault (λ w. ret w) s i l (Fault k p) r))
-  lead-run Cut l r f = sym (root-cut (drop i s) (between-end-reads strayEnd rootFault (λ w. ret w) s i l Cut r))
-  lead-run (At e) l r f = absurd f
+  item-run : (r : Scan) → ItemReads s i Items.EndTag → Reads 1 (strayEnd .run) noValue s i r → Failed r → scanOut noValue s r ≡ loopP toRootP tt (drop i s)
+  item-run (Fault k p) l r f = sym (root-bad (drop i s) k (drop p s) (between-end-reads strayEnd rootFault (λ w. ret w) s i l (Fault k p) r))
+  item-run Cut l r f = sym (root-cut (drop i s) (between-end-reads strayEnd rootFault (λ w. ret w) s i l Cut r))
+  item-run (At e) l r f = absurd f
 
   closer : (r : Scan) → Failed r → Inside 1 s i r → Inside 0 s i r
   closer (Fault k p) f b = b
   closer Cut f b = tt
   closer (At e) f b = absurd f
 
-  pub lead-failed : (r : Scan) → LeadsTo s i Leads.End → Failed r → Reads 1 (strayEnd .run) noValue s i r → Reads 1 (prologue .run) noValue s at r
-  lead-failed r l f h = stopped r f (lead-run r l h f) (closer r f (h .inside))
+  pub item-failed : (r : Scan) → ItemReads s i Items.EndTag → Failed r → Reads 1 (strayEnd .run) noValue s i r → Reads 1 (prologue .run) noValue s at r
+  item-failed r l f h = stopped r f (item-run r l h f) (closer r f (h .inside))
 
-  pub lead-fault : (k p : ℕ) → LeadsTo s i (Leads.Fault k p) → Reads 1 (prologue .run) noValue s at (Fault k p)
-  lead-fault k p l = stopped (Fault k p) tt (sym (root-bad (drop i s) k (drop p s) (between-fault strayEnd rootFault (λ w. ret w) s i k p l))) (l .inside)
+  pub before-fault : (k p : ℕ) → ItemReads s i (Items.Fault k p) → Reads 1 (prologue .run) noValue s at (Fault k p)
+  before-fault k p l = stopped (Fault k p) tt (sym (root-bad (drop i s) k (drop p s) (between-fault strayEnd rootFault (λ w. ret w) s i k p l))) (l .inside)
 
-  pub lead-short : LeadsTo s i Leads.Cut → Reads 1 (prologue .run) noValue s at Cut
-  lead-short l = stopped Cut tt (sym (root-cut (drop i s) (between-cut strayEnd rootFault (λ w. ret w) s i l))) tt
+  pub item-short : ItemReads s i Items.Cut → Reads 1 (prologue .run) noValue s at Cut
+  item-short l = stopped Cut tt (sym (root-cut (drop i s) (between-cut strayEnd rootFault (λ w. ret w) s i l))) tt
 
   -- a start tag: the root's own, or 5
-  pub lead-open : (e : ℕ) → LeadsTo s i (Leads.Open e) → Reads 1 (prologue .run) noValue s at (rootScan s i e)
+  pub item-open : (e : ℕ) → ItemReads s i (Items.StartTag e) → Reads 1 (prologue .run) noValue s at (rootScan s i e)
   unfolding rootScan partIn
-  lead-open e l =
+  item-open e l =
       ap-part (leb e (length s)) (le-leb e (length s) (l .inside .1)) (by (same (part s (i + 1) e) (bytes "ProcessList")) refl)
     where
       by : (t : Bool) → same (part s (i + 1) e) (bytes "ProcessList") ≡ t → Reads 1 (prologue .run) noValue s at (cond t (At e) (Fault 5 i))
@@ -235,8 +235,8 @@ root-end s at i v h = record { out = sym (v .run ∙ root-past s i h); inside = 
 -- ---- the declaration
 
 module _ (s : List ℕ) where
-  declared : (o : Out (Unit {0})) → (word declaration 3) .run (drop 0 s) ≡ o → lead (drop 0 s) ≡ thenOut (blameOut o (drop 0 s)) (λ u. prologue .run)
-  unfolding lead
+  declared : (o : Out (Unit {0})) → (word declaration 3) .run (drop 0 s) ≡ o → beforeRoot (drop 0 s) ≡ thenOut (blameOut o (drop 0 s)) (λ u. prologue .run)
+  unfolding beforeRoot
   declared o q = ap (λ (x : Out (Unit {0})). thenOut (blameOut x (drop 0 s)) (λ u. prologue .run)) q
 
   onward-inside : (e : ℕ) (r : Scan) → Inside 1 s e r → Inside 1 s 0 r
@@ -244,11 +244,11 @@ module _ (s : List ℕ) where
   onward-inside e (Fault k p) b = (omega arith, b .1)
   onward-inside e Cut b = tt
 
-  pub lead-declared : (n e : ℕ) (r : Scan) → ReadsFrom n ((word declaration 3) .run) noValue s 0 (At e) → Reads 1 (prologue .run) noValue s e r → Reads 1 lead noValue s 0 r
-  lead-declared n e r h k = record { out = k .out ∙ sym (declared (done tt (drop e s)) (sym (h .out))); inside = onward-inside e r (k .inside) }
+  pub before-declared : (n e : ℕ) (r : Scan) → ReadsFrom n ((word declaration 3) .run) noValue s 0 (At e) → Reads 1 (prologue .run) noValue s e r → Reads 1 beforeRoot noValue s 0 r
+  before-declared n e r h k = record { out = k .out ∙ sym (declared (done tt (drop e s)) (sym (h .out))); inside = onward-inside e r (k .inside) }
 
-  pub lead-other : (n k p : ℕ) → ReadsFrom n ((word declaration 3) .run) noValue s 0 (Fault k p) → Reads 1 lead noValue s 0 (Fault k 0)
-  lead-other n k p h = record { out = sym (declared (fault k (drop p s)) (sym (h .out))); inside = (omega arith, omega arith) }
+  pub before-other : (n k p : ℕ) → ReadsFrom n ((word declaration 3) .run) noValue s 0 (Fault k p) → Reads 1 beforeRoot noValue s 0 (Fault k 0)
+  before-other n k p h = record { out = sym (declared (fault k (drop p s)) (sym (h .out))); inside = (omega arith, omega arith) }
 
-  pub lead-ended : (n : ℕ) → ReadsFrom n ((word declaration 3) .run) noValue s 0 Cut → Reads 1 lead noValue s 0 Cut
-  lead-ended n h = record { out = sym (declared cut (sym (h .out))); inside = tt }
+  pub before-ended : (n : ℕ) → ReadsFrom n ((word declaration 3) .run) noValue s 0 Cut → Reads 1 beforeRoot noValue s 0 Cut
+  before-ended n h = record { out = sym (declared cut (sym (h .out))); inside = tt }

@@ -11,8 +11,8 @@ use Rattle.tags.specs.Code.{partIn}
 use Rattle.clf.specs.List.{declaration, prologue}
 
 -- the declaration, and what stands before the root, to the end of its name
-unfoldable pub lead : Parser (Unit {0})
-lead s = thenOut (blameOut ((word declaration 3) .run s) s) (λ u. prologue .run)
+unfoldable pub beforeRoot : Parser (Unit {0})
+beforeRoot s = thenOut (blameOut ((word declaration 3) .run s) s) (λ u. prologue .run)
 
 -- a start tag before the root, whose `<` stands at `at` and whose name ends at e: the root's own, or 5
 unfoldable pub rootScan : List ℕ → ℕ → ℕ → Scan

@@ -4,8 +4,8 @@ ghost use Prim.Native.Nat.{_<_};
 ghost use lib.ListN.{length};
 ghost use Rattle.xml.specs.Code.{Reads, ReadsFrom, noValue};
 ghost use Rattle.clf.specs.List as List;
-ghost use Rattle.around_root.specs.Code.{rootScan, lead};
-use markup::Lead;
+ghost use Rattle.around_root.specs.Code.{rootScan, beforeRoot};
+use markup::Item;
 use xml::Scan;
 
 // A start tag before the root: the root's own, or another.
@@ -25,25 +25,25 @@ fn prologue(s: &[u8], at: usize) -> Scan
 {
     let mut i = at;
     while i < s.len() {
-        let l = markup::lead_at(s, i);
+        let l = markup::item_at(s, i);
         match l {
-            Lead::Gap(e) => {
+            Item::Misc(e) => {
                 i = e;
             }
-            Lead::Open(e) => {
+            Item::StartTag(e) => {
                 return root_name(s, i, e);
             }
-            Lead::End => {
+            Item::EndTag => {
                 let r = markup::stray_end(s, i);
                 let Scan::At(e) = r else {
                     return r;
                 };
                 i = e;
             }
-            Lead::Fault(k, p) => {
+            Item::Fault(k, p) => {
                 return Scan::Fault(k, p);
             }
-            Lead::Cut => {
+            Item::Cut => {
                 return Scan::Cut;
             }
         }
@@ -57,25 +57,25 @@ pub fn epilogue(s: &[u8], at: usize) -> Scan
 {
     let mut i = at;
     while i < s.len() {
-        let l = markup::lead_at(s, i);
+        let l = markup::item_at(s, i);
         match l {
-            Lead::Gap(e) => {
+            Item::Misc(e) => {
                 i = e;
             }
-            Lead::Open(e) => {
+            Item::StartTag(e) => {
                 return Scan::Fault(5, i);
             }
-            Lead::End => {
+            Item::EndTag => {
                 let r = markup::stray_end(s, i);
                 let Scan::At(e) = r else {
                     return r;
                 };
                 i = e;
             }
-            Lead::Fault(k, p) => {
+            Item::Fault(k, p) => {
                 return Scan::Fault(k, p);
             }
-            Lead::Cut => {
+            Item::Cut => {
                 return Scan::Cut;
             }
         }
@@ -85,7 +85,7 @@ pub fn epilogue(s: &[u8], at: usize) -> Scan
 
 // The declaration, and all up to the end of the root's name.
 pub fn to_root(s: &[u8]) -> Scan
-    ensures { λ r. ⌜ Reads 1 lead noValue (now (s .entry)) 0 r ⌝ }
+    ensures { λ r. ⌜ Reads 1 beforeRoot noValue (now (s .entry)) 0 r ⌝ }
 {
     let r = xml::word(s, 0, b"<?xml version=\"1.0\" encoding=\"UTF-8\"?>", 3);
     match r {

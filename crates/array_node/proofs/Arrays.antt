@@ -12,21 +12,21 @@ use Rattle.grammar.specs.Parse.{Out, done, fault, cut, Parser, bindP, retP, bad
 use Rattle.grammar.specs.Laws.{nope}
 use Rattle.process_list.specs.declared.Kind.{Kind}
 use Rattle.process_list.specs.declared.Kind.the-variants.{Matrix}
-use Rattle.process_list.specs.List.{numbersOf, capped}
+use Rattle.process_list.specs.List.{Element, numbersOf, capped}
 use Rattle.xml.specs.Bytes.{same, bytes}
 use Rattle.xml.specs.Xml.{Tag, textOf, startTag, endTag}
 use Rattle.xml.specs.Elements.{held, textElement}
 use Rattle.xml.specs.Code.{Reads, noValue, Failed}
 use Rattle.xml.specs.declared.Scan.{Scan}
 use Rattle.xml.specs.declared.Scan.the-variants.{At, Fault, Cut}
-use Rattle.markup.specs.Leads.{LeadsTo}
-use Rattle.markup.specs.declared.Lead.the-variants as Leads
+use Rattle.markup.specs.Items.{ItemReads}
+use Rattle.markup.specs.declared.Item.the-variants as Items
 use Rattle.tags.specs.Code.{partIn, attributesOf}
 use Rattle.tags.specs.Ended.{tagOf}
 use Rattle.tags.specs.declared.StartTag.{StartTag}
 use Rattle.values.specs.Code.{Laid, NumbersRead}
 use Rattle.clf.specs.Numbers.{numbers, anyNumber}
-use Rattle.clf.specs.Nodes.{isSome, arrayRules, arrayOf, array, ArrayState, noArray, arrayBody, tableNode, nodeRules, matrix, lut1d, Table, NodeRead}
+use Rattle.clf.specs.Nodes.{isSome, arrayRules, arrayOf, array, ArrayState, noArray, arrayBody, tableNode, nodeRules, matrix, lut1d, Table}
 use Rattle.node_parts.specs.Code.{NumbersIn, finishedNode, noNode, NodeReads}
 use Rattle.node_parts.specs.Held.{Went, Goes, HeldAt, ReadsTo}
 use Rattle.node_parts.specs.declared.NodeStep.{NodeStep}
@@ -173,7 +173,7 @@ module _ (table : TableKind) (s : List ℕ) (at i base : ℕ) (m₀ m : Room) (s
   kept-here = cleared-laid base (v .stands .xs) m₀ m (v .stands .room)
 
   -- the end tag
-  module _ (l : LeadsTo s i Leads.End) (missing : ℕ) (r : Scan) (q : missing ≡ cond (state .found) 0 5) (w : Reads 1 ((endTag (nameOf table) missing) .run) noValue s i r) where
+  module _ (l : ItemReads s i Items.EndTag) (missing : ℕ) (r : Scan) (q : missing ≡ cond (state .found) 0 5) (w : Reads 1 ((endTag (nameOf table) missing) .run) noValue s i r) where
     lacking : (st : ArrayState) → Stands st → (holderOf table) .missing st ≡ missing
     lacking st z = go (state .found) (z .table) q
       where
@@ -207,7 +207,7 @@ module _ (table : TableKind) (s : List ℕ) (at base : ℕ) (tag : StartTag) whe
   abbrev content-of : Parser ArrayState
   content-of = (held (holderOf table) noArray) .run
 
-  abbrev rest-of : Tag → Parser NodeRead
+  abbrev rest-of : Tag → Parser Element
   rest-of t = bindP content-of (λ st. retP (tableNode (t .attributes) st))
 
   by-name : (step : NodeStep) (m₀ m₁ : Room) → NodeReads (bindP opens rest-of) s at base step m₀ m₁ → NodeReads ((nodeFor table) .run) s at base step m₀ m₁
@@ -241,16 +241,16 @@ module _ (table : TableKind) (s : List ℕ) (at base : ℕ) (tag : StartTag) whe
         (to-map content-of s q (λ t. Unit {0}) (SameCleared base m₀ m₁) (λ st. tableNode ((tagOf s tag) .attributes) st) (r .scan) (ArrayWhole base m₀ m₁ r) (λ st z. tt) w)))
 
     abbrev step : ℕ → NodeStep
-    step e = finishedNode s (tag .seen) (At e) (r .kind)
+    step e = finishedNode s (tag .attributes) (At e) (r .kind)
 
-    is : (i : ℕ) (st : ArrayState) → ArrayWhole base m₀ m₁ r st → NodeIs base (step i) m₀ m₁ (tableNode (attributesOf s (tag .seen)) st)
+    is : (i : ℕ) (st : ArrayState) → ArrayWhole base m₀ m₁ r st → NodeIs base (step i) m₀ m₁ (tableNode (attributesOf s (tag .attributes)) st)
     is i st w = go (r .found) (w .found) (w .stands .table) (w .stands .all)
       where
         go : (f : Bool) → f ≡ true → st .table ≡ tableOf f (r .kind) (w .stands .xs) → Filled f (r .kind) (w .stands .xs)
-            → NodeIs base (step i) m₀ m₁ (tableNode (attributesOf s (tag .seen)) st)
+            → NodeIs base (step i) m₀ m₁ (tableNode (attributesOf s (tag .attributes)) st)
         go true z e a =
-            subst (λ (t : Option Table). NodeIs base (step i) m₀ m₁ (tableNode (attributesOf s (tag .seen)) (record { table = t }))) (sym e)
-            (finished-is s base m₀ m₁ (tag .seen) (At i) (r .kind) (w .stands .xs) a (w .stands .room))
+            subst (λ (t : Option Table). NodeIs base (step i) m₀ m₁ (tableNode (attributesOf s (tag .attributes)) (record { table = t }))) (sym e)
+            (finished-is s base m₀ m₁ (tag .attributes) (At i) (r .kind) (w .stands .xs) a (w .stands .room))
         go false z e a = nope cc
 
     pub table-node : (e : ℕ) → r .scan ≡ At e → NodeReads ((nodeFor table) .run) s at base (step e) m₀ m₁
@@ -259,5 +259,5 @@ module _ (table : TableKind) (s : List ℕ) (at base : ℕ) (tag : StartTag) whe
         by-name (step e) m₀ m₁
         (node-reads base (step e) m₀ m₁ (bindP opens rest-of) s at e (SameCleared base m₀ m₁) refl
         (to-then opens s at (NodeIs base (step e) m₀ m₁) (SameCleared base m₀ m₁) rest-of (λ e. tagOf s tag) q (At e) v
-        (to-map content-of s q (NodeIs base (step e) m₀ m₁) (SameCleared base m₀ m₁) (λ st. tableNode (attributesOf s (tag .seen)) st) (At e) (ArrayWhole base m₀ m₁ r) (is e)
+        (to-map content-of s q (NodeIs base (step e) m₀ m₁) (SameCleared base m₀ m₁) (λ st. tableNode (attributesOf s (tag .attributes)) st) (At e) (ArrayWhole base m₀ m₁ r) (is e)
         (subst (λ (x : Scan). ReadsTo content-of s q x (ArrayWhole base m₀ m₁ r) (SameCleared base m₀ m₁)) z w))))

@@ -7,13 +7,13 @@ use Prim.Native.Nat.{ℕ}
 use lib.ListN.{length}
 use Rattle.decimal.specs.declared.Decimal.{Decimal}
 use Rattle.process_list.specs.declared.Kind.{Kind}
-use Rattle.process_list.specs.List.{numbersOf}
+use Rattle.process_list.specs.List.{Element, numbersOf}
 use Rattle.grammar.specs.Grammar.{G}
 use Rattle.xml.specs.Bytes.{bytes}
 use Rattle.xml.specs.Elements.{Holder}
 use Rattle.room.specs.Room.{Room, clearedFrom}
 use Rattle.values.specs.Code.{Laid}
-use Rattle.clf.specs.Nodes.{matrixShape, lutShape, lutNames, lutTexts, ArrayState, arrayHolder, Table, NodeRead, matrix, lut1d}
+use Rattle.clf.specs.Nodes.{matrixShape, lutShape, lutNames, lutTexts, ArrayState, arrayHolder, Table, matrix, lut1d}
 use Rattle.xml.specs.declared.Scan.{Scan}
 use Rattle.xml.specs.declared.Scan.the-variants.{At}
 use Rattle.process_list.specs.declared.Kind.the-variants.{Matrix}
@@ -25,7 +25,7 @@ use Rattle.array_node.specs.declared.KindRead.{KindRead}
 use Rattle.array_node.specs.declared.KindRead.the-variants as Kinds
 
 -- the grammar, the shapes, the name and the rules of each
-abbrev pub nodeFor : TableKind → G NodeRead
+abbrev pub nodeFor : TableKind → G Element
 nodeFor Tables.Matrix = matrix
 nodeFor Tables.Lut1d = lut1d
 

@@ -1,4 +1,5 @@
 // Matrix and LUT1D: Descriptions, then one Array, whose numbers go into the table room from `base` on.
+ghost use Rattle.process_list.specs.List.{Element};
 ghost use mathlib.Core.Path.{_≡_};
 ghost use mathlib.Core.Bool.{cond};
 ghost use Prim.Native.Nat.{_+_, _≤_};
@@ -14,10 +15,10 @@ ghost use Rattle.room.specs.Room.{Room, lent};
 ghost use Rattle.node_parts.specs.Code.{NodeReads};
 ghost use Rattle.node_parts.specs.Held.{Goes, ReadsTo};
 ghost use Rattle.array_node.specs.Code as Code;
-use markup::Lead;
+use markup::Item;
 use node_parts::NodeStep;
 use process_list::Kind;
-use tags::Seen;
+use tags::Attributes;
 use tags::ShapeRead;
 use tags::TagKind;
 use values::Rule;
@@ -70,10 +71,10 @@ fn lut_kind(text: &[u8]) -> KindRead
 }
 
 // The shape that an Array's tag says.
-fn kind_of(s: &[u8], seen: Seen, table: TableKind) -> KindRead
-    ensures { λ r. ⌜ Code.kindRead r ≡ Code.shapeOf table (textOf (bytes "dim") (attributesOf (now (s .entry)) seen)) ⌝ }
+fn kind_of(s: &[u8], attributes: Attributes, table: TableKind) -> KindRead
+    ensures { λ r. ⌜ Code.kindRead r ≡ Code.shapeOf table (textOf (bytes "dim") (attributesOf (now (s .entry)) attributes)) ⌝ }
 {
-    let span = tags::text_of(s, seen, b"dim");
+    let span = tags::text_of(s, attributes, b"dim");
     let a = span.start;
     let e = span.end;
     let text = tags::part(s, a, e);
@@ -114,12 +115,12 @@ fn array(
 {
     let tag = tags::start_tag(s, at, array_tag(table));
     let end = tag.end;
-    let seen = tag.seen;
+    let attributes = tag.attributes;
     let r = tags::behind(end);
     let Scan::At(q) = r else {
         return no_table(r);
     };
-    let k = kind_of(s, seen, table);
+    let k = kind_of(s, attributes, table);
     match k {
         KindRead::Is(kind) => {
             let n = process_list::numbers_of(kind);
@@ -223,12 +224,12 @@ fn array_content(
     let mut state = no_array(at);
     let mut i = at;
     while i < s.len() {
-        let l = markup::lead_at(s, i);
+        let l = markup::item_at(s, i);
         match l {
-            Lead::Gap(e) => {
+            Item::Misc(e) => {
                 i = e;
             }
-            Lead::Open(e) => {
+            Item::StartTag(e) => {
                 state = array_child(s, i, e, table, state, coefficients, powers, base);
                 let r = state.scan;
                 let Scan::At(q) = r else {
@@ -236,14 +237,14 @@ fn array_content(
                 };
                 i = q;
             }
-            Lead::End => {
+            Item::EndTag => {
                 let r = node_end(s, i, table, array_missing(state.found));
                 return array_with(state, r);
             }
-            Lead::Fault(k, p) => {
+            Item::Fault(k, p) => {
                 return array_with(state, Scan::Fault(k, p));
             }
-            Lead::Cut => {
+            Item::Cut => {
                 return array_with(state, Scan::Cut);
             }
         }
@@ -273,7 +274,7 @@ pub fn table_node(
 {
     let tag = tags::start_tag(s, at, node_tag(table));
     let end = tag.end;
-    let seen = tag.seen;
+    let attributes = tag.attributes;
     let r = tags::behind(end);
     let Scan::At(q) = r else {
         return node_parts::failed(r, coefficients, powers, base);
@@ -284,5 +285,5 @@ pub fn table_node(
         return node_parts::failed(scan, coefficients, powers, base);
     };
     let kind = c.kind;
-    node_parts::finished(s, seen, scan, kind)
+    node_parts::finished(s, attributes, scan, kind)
 }

@@ -10,7 +10,7 @@ use lib.Seq.{take-at, drop-at}
 use Rattle.decimal.specs.declared.Decimal.{Decimal}
 use Rattle.grammar.specs.Parse.{Out, Parser, thenOut, bindP, retP}
 use Rattle.process_list.specs.declared.Kind.the-variants.{Cdl}
-use Rattle.process_list.specs.List.{numbersOf}
+use Rattle.process_list.specs.List.{Element, numbersOf}
 use Rattle.room.specs.Room.{Room, roomLength, laid, clearedFrom}
 use Rattle.room.proofs.Contents.{laid-fits}
 use Rattle.xml.specs.Bytes.{same, bytes}
@@ -19,8 +19,8 @@ use Rattle.xml.specs.Elements.{held, textElement}
 use Rattle.xml.specs.Code.{Reads, noValue, Failed}
 use Rattle.xml.specs.declared.Scan.{Scan}
 use Rattle.xml.specs.declared.Scan.the-variants.{At, Fault, Cut}
-use Rattle.markup.specs.Leads.{LeadsTo}
-use Rattle.markup.specs.declared.Lead.the-variants as Leads
+use Rattle.markup.specs.Items.{ItemReads}
+use Rattle.markup.specs.declared.Item.the-variants as Items
 use Rattle.tags.specs.Code.{partIn, attributesOf}
 use Rattle.tags.specs.Rules.{rulesOf}
 use Rattle.tags.specs.Ended.{TagRead, tagWith, tag-open, tag-empty, tag-fault, tag-cut}
@@ -29,7 +29,7 @@ use Rattle.tags.specs.declared.TagEnd.{TagEnd}
 use Rattle.tags.specs.declared.TagEnd.the-variants as Ends
 use Rattle.tags.specs.declared.TagKind.the-variants as Tags
 use Rattle.values.specs.Code.{Laid}
-use Rattle.clf.specs.Nodes.{NodeRead, isSome, CdlState, noCdl, cdlBody, cdlFault, cdlHolder, cdlRules, cdlContent, cdlNode, ascCdl, sopNode, satNode, sopNumbers, satNumbers}
+use Rattle.clf.specs.Nodes.{isSome, CdlState, noCdl, cdlBody, cdlFault, cdlHolder, cdlRules, cdlContent, cdlNode, ascCdl, sopNode, satNode, sopNumbers, satNumbers}
 use Rattle.node_parts.specs.Code.{NumbersIn, finishedNode, noNode, smallNumbers, NodeReads}
 use Rattle.node_parts.specs.Held.{Went, Goes, HeldAt, ReadsTo}
 use Rattle.node_parts.specs.declared.NodeStep.{NodeStep}
@@ -148,7 +148,7 @@ module _ (s : List ℕ) (at i : ℕ) (m : Room) (state : CdlStep) (v : HeldAt cd
   either Cut A a = tt
 
   -- the end tag
-  pub content-end : LeadsTo s i Leads.End → (r : Scan) → Reads 1 ((endTag (bytes "ASC_CDL") 0) .run) noValue s i r
+  pub content-end : ItemReads s i Items.EndTag → (r : Scan) → Reads 1 ((endTag (bytes "ASC_CDL") 0) .run) noValue s i r
       → ReadsTo ((held cdlHolder noCdl) .run) s at r (CdlStands m (withScan state r)) (Unit {0})
   content-end l r w =
       held-end cdlHolder noCdl s at i (CdlStands m state) v (CdlStands m (withScan state r)) (Unit {0}) r l
@@ -160,11 +160,11 @@ module _ (s : List ℕ) (at base : ℕ) (tag : StartTag) (m₀ m₁ m : Room) (c
   abbrev opens : Parser Tag
   opens = (startTag cdlRules) .run
 
-  abbrev rest-of : Tag → Parser NodeRead
+  abbrev rest-of : Tag → Parser Element
   rest-of x = bindP ((cdlContent x) .run) (λ st. retP (cdlNode (x .attributes) st))
 
   -- what holds of the content's state, of the node made of it
-  module _ (R : NodeRead → Type 0) (g : (st : CdlState) → CdlStands m c st → R (cdlNode (attributesOf s (tag .seen)) st)) where
+  module _ (R : Element → Type 0) (g : (st : CdlState) → CdlStands m c st → R (cdlNode (attributesOf s (tag .attributes)) st)) where
     abbrev Answered : Scan → Type 0
     Answered x = ReadsTo (bindP opens rest-of) s at x R (Unit {0})
 
@@ -175,12 +175,12 @@ module _ (s : List ℕ) (at base : ℕ) (tag : StartTag) (m₀ m₁ m : Room) (c
     unfolding rulesOf
     reads (Ends.Open q) e f =
         to-then opens s at R (Unit {0}) rest-of (λ i. tagWith s tag false) q (c .scan) (tag-open cdlRules Tags.Cdl refl s at tag t q e)
-        (to-map ((held cdlHolder noCdl) .run) s q R (Unit {0}) (λ st. cdlNode (attributesOf s (tag .seen)) st) (c .scan) (CdlStands m c) g f)
+        (to-map ((held cdlHolder noCdl) .run) s q R (Unit {0}) (λ st. cdlNode (attributesOf s (tag .attributes)) st) (c .scan) (CdlStands m c) g f)
     reads (Ends.Empty q) e f =
         let o : Reads 1 opens (λ i. tagWith s tag true) s at (At q) = tag-empty cdlRules Tags.Cdl refl s at tag t q e in
         subst Answered (sym (f .0))
         (record {
-          value = cdlNode (attributesOf s (tag .seen)) noCdl;
+          value = cdlNode (attributesOf s (tag .attributes)) noCdl;
           reads = record { out = ap (λ (x : Out Tag). thenOut x rest-of) (o .out); inside = o .inside };
           left = g noCdl (f .1);
         })
@@ -193,16 +193,16 @@ module _ (s : List ℕ) (at base : ℕ) (tag : StartTag) (m₀ m₁ m : Room) (c
   cdl-failed f z y =
       node-failed (bindP opens rest-of) s at base (c .scan) step m₀ m₁ (λ n. Unit {0}) (Unit {0}) f z y (reads (λ n. Unit {0}) (λ st x. tt) (tag .end) refl w)
 
-  module _ (e : ℕ) (i : c .scan ≡ At e) (clamp : Bool) (z : clamp ≡ not (same (textOf (bytes "style") (attributesOf s (tag .seen))) (bytes "FwdNoClamp")))
-      (h : Laid base (smallNumbers m) m₀ m₁) (y : step ≡ finishedNode s (tag .seen) (At e) (Cdl clamp)) where
+  module _ (e : ℕ) (i : c .scan ≡ At e) (clamp : Bool) (z : clamp ≡ not (same (textOf (bytes "style") (attributesOf s (tag .attributes))) (bytes "FwdNoClamp")))
+      (h : Laid base (smallNumbers m) m₀ m₁) (y : step ≡ finishedNode s (tag .attributes) (At e) (Cdl clamp)) where
     ten : (st : CdlState) → CdlStands m c st → length (smallNumbers m) ≡ numbersOf (Cdl clamp)
     unfolding numbersOf
     ten st x = ap length (x .numbers) ∙ length-append (sopNumbers st) (satNumbers st) ∙ omega (arith, x .nine, x .one)
 
-    is : (st : CdlState) → CdlStands m c st → NodeIs base step m₀ m₁ (cdlNode (attributesOf s (tag .seen)) st)
+    is : (st : CdlState) → CdlStands m c st → NodeIs base step m₀ m₁ (cdlNode (attributesOf s (tag .attributes)) st)
     is st x =
         let n = x .numbers in
-        rw (y, ← z, ← n) (finished-is s base m₀ m₁ (tag .seen) (At e) (Cdl clamp) (smallNumbers m) (ten st x) h)
+        rw (y, ← z, ← n) (finished-is s base m₀ m₁ (tag .attributes) (At e) (Cdl clamp) (smallNumbers m) (ten st x) h)
 
     pub cdl-node : NodeReads (ascCdl .run) s at base step m₀ m₁
     unfolding ascCdl finishedNode

@@ -16,8 +16,8 @@ use Rattle.xml.specs.Elements.{held}
 use Rattle.xml.specs.Code.{Reads, noValue, Failed}
 use Rattle.xml.specs.declared.Scan.{Scan}
 use Rattle.xml.specs.declared.Scan.the-variants.{At, Fault, Cut}
-use Rattle.markup.specs.Leads.{LeadsTo}
-use Rattle.markup.specs.declared.Lead.the-variants as Leads
+use Rattle.markup.specs.Items.{ItemReads}
+use Rattle.markup.specs.declared.Item.the-variants as Items
 use Rattle.tags.specs.Code.{partIn}
 use Rattle.tags.proofs.Words.{part-in}
 use Rattle.values.specs.Code.{Laid, NumbersRead}
@@ -131,7 +131,7 @@ inner-start part m = record { counted = refl; few = omega arith; room = laid-non
 pub inner-few : (part : CdlPart) (m₀ m : Room) (count : ℕ) (l : List Decimal) → InnerStands part m₀ m count l → count ≤ 9
 inner-few part m₀ m count l v = omega (arith, v .counted, v .few, top-nine part)
 
-module _ (part : CdlPart) (s : List ℕ) (at i : ℕ) (m₀ m : Room) (count : ℕ) (v : HeldAt (innerHolder part) [] s at i (InnerStands part m₀ m count)) (l : LeadsTo s i Leads.End)
+module _ (part : CdlPart) (s : List ℕ) (at i : ℕ) (m₀ m : Room) (count : ℕ) (v : HeldAt (innerHolder part) [] s at i (InnerStands part m₀ m count)) (l : ItemReads s i Items.EndTag)
     (missing : ℕ) (q : missing ≡ cond (ltb count (topOf part)) 5 0) where
   abbrev All : List Decimal → Type 0
   All = NumbersIn (topOf part) (baseOf part) m₀ m

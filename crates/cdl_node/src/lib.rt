@@ -1,4 +1,5 @@
 // ASC_CDL: Descriptions, then an optional SOPNode, then an optional SatNode.
+ghost use Rattle.process_list.specs.List.{Element};
 ghost use mathlib.Core.Path.{_≡_};
 ghost use mathlib.Core.Bool.{cond, _||_};
 ghost use mathlib.Core.List.{List, []};
@@ -17,7 +18,7 @@ ghost use Rattle.clf.specs.Nodes as Nodes;
 ghost use Rattle.node_parts.specs.Code.{NodeReads, NumbersIn, smallNumbers};
 ghost use Rattle.node_parts.specs.Held.{Goes, ReadsTo};
 ghost use Rattle.cdl_node.specs.Code as Code;
-use markup::Lead;
+use markup::Item;
 use node_parts::NodeStep;
 use process_list::Kind;
 use tags::TagEnd;
@@ -182,12 +183,12 @@ fn inner_content(
     let mut count: usize = 0;
     let mut i = at;
     while i < s.len() {
-        let l = markup::lead_at(s, i);
+        let l = markup::item_at(s, i);
         match l {
-            Lead::Gap(e) => {
+            Item::Misc(e) => {
                 i = e;
             }
-            Lead::Open(e) => {
+            Item::StartTag(e) => {
                 let r = inner_child(s, i, e, part, count, coefficients, powers);
                 let Scan::At(q) = r else {
                     return r;
@@ -195,13 +196,13 @@ fn inner_content(
                 count += width;
                 i = q;
             }
-            Lead::End => {
+            Item::EndTag => {
                 return inner_end(s, i, part, inner_missing(part, count));
             }
-            Lead::Fault(k, p) => {
+            Item::Fault(k, p) => {
                 return Scan::Fault(k, p);
             }
-            Lead::Cut => {
+            Item::Cut => {
                 return Scan::Cut;
             }
         }
@@ -341,12 +342,12 @@ fn cdl_content(s: &[u8], at: usize, coefficients: &mut [i64], powers: &mut [i8])
     let mut state = no_cdl(Scan::At(at));
     let mut i = at;
     while i < s.len() {
-        let l = markup::lead_at(s, i);
+        let l = markup::item_at(s, i);
         match l {
-            Lead::Gap(e) => {
+            Item::Misc(e) => {
                 i = e;
             }
-            Lead::Open(e) => {
+            Item::StartTag(e) => {
                 state = cdl_child(s, i, e, state, coefficients, powers);
                 let r = state.scan;
                 let Scan::At(q) = r else {
@@ -354,14 +355,14 @@ fn cdl_content(s: &[u8], at: usize, coefficients: &mut [i64], powers: &mut [i8])
                 };
                 i = q;
             }
-            Lead::End => {
+            Item::EndTag => {
                 let r = markup::end_tag(s, i, b"ASC_CDL", 0);
                 return cdl_with(state, r);
             }
-            Lead::Fault(k, p) => {
+            Item::Fault(k, p) => {
                 return cdl_with(state, Scan::Fault(k, p));
             }
-            Lead::Cut => {
+            Item::Cut => {
                 return cdl_with(state, Scan::Cut);
             }
         }
@@ -394,7 +395,7 @@ pub fn read_cdl(
 {
     let tag = tags::start_tag(s, at, TagKind::Cdl);
     let end = tag.end;
-    let seen = tag.seen;
+    let attributes = tag.attributes;
     let mut small: [i64; 10] = [1, 1, 1, 0, 0, 0, 1, 1, 1, 1];
     let mut small_powers = [0i8; 10];
     let c = cdl_followed(s, end, &mut small, &mut small_powers);
@@ -403,6 +404,6 @@ pub fn read_cdl(
         return node_parts::failed(scan, coefficients, powers, base);
     };
     node_parts::store_all(&small, &small_powers, coefficients, powers, base);
-    let clamp = !node_parts::style_is(s, seen, b"FwdNoClamp");
-    node_parts::finished(s, seen, scan, Kind::Cdl { clamp })
+    let clamp = !node_parts::style_is(s, attributes, b"FwdNoClamp");
+    node_parts::finished(s, attributes, scan, Kind::Cdl { clamp })
 }

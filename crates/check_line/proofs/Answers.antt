@@ -5,21 +5,21 @@ use Prim.Native.Nat.{ℕ, _≤_, _<_}
 use borrow.Author.Tests.{eq-eqb, ne-eqb, lt-ltb, le-ltb}
 use lib.ListN.{length}
 use Rattle.process_list.specs.List.{nodesOf, total, capped}
-use Rattle.clf.specs.Reading.{read, numberOf, placeNumber}
+use Rattle.clf.specs.Reading.{read, readingNumber, readingPlace}
 use Rattle.reading.specs.declared.Answer.{Answer}
-use Rattle.reading.specs.Code.{answerOf}
+use Rattle.reading.specs.Code.{readingAnswer}
 use Rattle.reading.specs.Counts.{nodeCount, numberCount}
 use Rattle.reading.proofs.Counts.{answer-count, answer-numbers}
 use Rattle.check_line.specs.declared.Line.{Line}
 use Rattle.check_line.specs.Line.{lineFrom, textOf, tooLong, answerText, readingText, checkText, acceptedText, refusalText}
 
-module _ (room : ℕ) (s : List ℕ) (a : Answer) (e : a ≡ answerOf (read room s)) where
-  number-is : a .number ≡ numberOf (read room s)
-  unfolding answerOf
+module _ (room : ℕ) (s : List ℕ) (a : Answer) (e : a ≡ readingAnswer (read room s)) where
+  number-is : a .number ≡ readingNumber (read room s)
+  unfolding readingAnswer
   number-is = ap (λ (x : Answer). x .number) e
 
-  place-is : a .place ≡ placeNumber (read room s)
-  unfolding answerOf
+  place-is : a .place ≡ readingPlace (read room s)
+  unfolding readingAnswer
   place-is = ap (λ (x : Answer). x .place) e
 
   pub answer-text : answerText a ≡ readingText (read room s)

@@ -6,7 +6,7 @@ use Prim.Native.Nat.{ℕ, _+_, _-_, _≤_}
 use lib.Dec.{eqb, ltb}
 use lib.ListN.{length, replicate}
 use Rattle.process_list.specs.List.{nodesOf, total, capped}
-use Rattle.clf.specs.Reading.{Reading, read, numberOf, placeNumber}
+use Rattle.clf.specs.Reading.{Reading, read, readingNumber, readingPlace}
 use Rattle.xml.specs.Bytes.{bytes}
 use Rattle.decimal_write.specs.Written.{digits}
 use Rattle.reading.specs.Counts.{nodeCount, numberCount}
@@ -33,7 +33,7 @@ textOf number place nodes numbers = cond (eqb number 0) (acceptedText nodes numb
 
 -- the line for what reading answers
 unfoldable pub readingText : Reading → List ℕ
-readingText r = textOf (numberOf r) (placeNumber r) (nodeCount r) (numberCount r)
+readingText r = textOf (readingNumber r) (readingPlace r) (nodeCount r) (numberCount r)
 
 -- the same for reading's record
 unfoldable pub answerText : Answer → List ℕ

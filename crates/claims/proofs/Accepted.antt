@@ -5,17 +5,17 @@ use mathlib.Core.List.{List, [], _∷_}
 use Prim.Native.Nat.{ℕ}
 use Rattle.process_list.specs.declared.Verdict.{Verdict}
 use Rattle.process_list.specs.declared.Verdict.the-variants.{Accepted, NoNode, TooManyNodes, DepthDiffers, TooManyNumbers}
-use Rattle.process_list.specs.List.{verdict}
+use Rattle.process_list.specs.List.{Element, verdict}
 use Rattle.valid.specs.Valid.{sound}
 use Rattle.grammar.specs.Parse.{Out, done, fault, cut, Turn, again, last}
 use Rattle.grammar.specs.Laws.{nope}
 use Rattle.grammar.specs.Grammar.{kept, added, items}
 use Rattle.xml.specs.Bytes.{bytes, same}
 use Rattle.xml.specs.Xml.{Tag}
-use Rattle.xml.specs.Elements.{Part, gap, child, close, textElement, info}
-use Rattle.clf.specs.Nodes.{NodeRead, NodeName, isMatrix, isLut1d, isRange, isCdl, notCarried, noNode, nodeName, nodeBody}
+use Rattle.xml.specs.Elements.{Part, misc, child, close, textElement, info}
+use Rattle.clf.specs.Nodes.{NodeName, isMatrix, isLut1d, isRange, isCdl, notCarried, noNode, nodeName, nodeBody}
 use Rattle.clf.specs.List.{Child, node, description, inputDescriptor, outputDescriptor, infoChild, Flags, noFlags, childBody, listItem, nextFlags, head, Document, listContent, document, tail}
-use Rattle.clf.specs.Reading.{accepted, withChild, withPart, nodesOf, elementsOf, byVerdict, listReading, tailReading, textReading, readText}
+use Rattle.clf.specs.Reading.{accepted, withChild, withPart, nodesAmong, byVerdict, listReading, tailReading, textReading, readText}
 use Rattle.claims.proofs.Always.{Holds, holds-ret, holds-bad, holds-cond, holds-strict, holds-kept, holds-seq, holds-then, TurnHolds, holds-loop}
 use Rattle.claims.proofs.Numbers.{Each, each-more, endTag-holds}
 use Rattle.claims.proofs.Held.{PartHolds, between-holds}
@@ -25,8 +25,8 @@ use Rattle.claims.proofs.Cdls.{cdl-holds}
 
 -- ---- nodes among the children
 
-abbrev pub SoundNode : NodeRead → Type 0
-SoundNode n = sound (n .element) ≡ true
+abbrev pub SoundNode : Element → Type 0
+SoundNode n = sound n ≡ true
 
 pub node-holds : (name : NodeName) → Holds SoundNode (nodeBody name)
 node-holds isMatrix = matrix-holds
@@ -82,52 +82,52 @@ document-holds : Holds (λ d. SoundItems (d .parts)) document
 unfolding document
 document-holds = holds-then (kept head) (λ h. holds-seq SoundItems (content-holds (h .0)) (λ l k. holds-ret k))
 
-with-child : (c : Child) (l : List NodeRead) → SoundChild c → Each SoundNode l → Each SoundNode (withChild c l)
+with-child : (c : Child) (l : List Element) → SoundChild c → Each SoundNode l → Each SoundNode (withChild c l)
 with-child (node n) l k e = (k, e)
 with-child description l k e = e
 with-child inputDescriptor l k e = e
 with-child outputDescriptor l k e = e
 with-child infoChild l k e = e
 
-with-part : (p : Part Child) (l : List NodeRead) → SoundPart p → Each SoundNode l → Each SoundNode (withPart p l)
-with-part gap l k e = e
+with-part : (p : Part Child) (l : List Element) → SoundPart p → Each SoundNode l → Each SoundNode (withPart p l)
+with-part misc l k e = e
 with-part (child c) l k e = with-child c l k e
 with-part close l k e = e
 
-nodes-sound : (l : List (Part Child × List ℕ)) → SoundItems l → Each SoundNode (nodesOf l)
-unfolding nodesOf
+nodes-sound : (l : List (Part Child × List ℕ)) → SoundItems l → Each SoundNode (nodesAmong l)
+unfolding nodesAmong
 nodes-sound [] h = tt
-nodes-sound (x ∷ l) h = with-part (x .0) (nodesOf l) (h .0) (nodes-sound l (h .1))
+nodes-sound (x ∷ l) h = with-part (x .0) (nodesAmong l) (h .0) (nodes-sound l (h .1))
 
 -- ---- reading
 
 -- a list that is accepted is the list that was judged
-pub judged-same : (room : ℕ) (m l : List NodeRead) → listReading room m ≡ accepted l → (m ≡ l) × (verdict room (elementsOf m) ≡ Accepted)
+pub judged-same : (room : ℕ) (m l : List Element) → listReading room m ≡ accepted l → (m ≡ l) × (verdict room m ≡ Accepted)
 unfolding listReading
-judged-same room m l e = go (verdict room (elementsOf m)) refl e
+judged-same room m l e = go (verdict room m) refl e
   where
-    go : (v : Verdict) → verdict room (elementsOf m) ≡ v → byVerdict m v ≡ accepted l → (m ≡ l) × (verdict room (elementsOf m) ≡ Accepted)
+    go : (v : Verdict) → verdict room m ≡ v → byVerdict m v ≡ accepted l → (m ≡ l) × (verdict room m ≡ Accepted)
     go Accepted q z = (cc, q)
     go NoNode q z = nope cc
     go TooManyNodes q z = nope cc
     go (DepthDiffers k) q z = nope cc
     go TooManyNumbers q z = nope cc
 
-pub record Whole (room : ℕ) (l : List NodeRead) : Type 0 where
+pub record Whole (room : ℕ) (l : List Element) : Type 0 where
   pub nodes : Each SoundNode l
-  pub fits : verdict room (elementsOf l) ≡ Accepted
+  pub fits : verdict room l ≡ Accepted
 
-pub text-whole : (room : ℕ) (s : List ℕ) (l : List NodeRead) → readText room s ≡ accepted l → Whole room l
+pub text-whole : (room : ℕ) (s : List ℕ) (l : List Element) → readText room s ≡ accepted l → Whole room l
 unfolding readText
 text-whole room s l e = by-document (document .run s) refl e
   where
-    by-list : (m : List NodeRead) → Each SoundNode m → listReading room m ≡ accepted l → Whole room l
+    by-list : (m : List Element) → Each SoundNode m → listReading room m ≡ accepted l → Whole room l
     by-list m h q =
-        let k : (m ≡ l) × (verdict room (elementsOf m) ≡ Accepted) = judged-same room m l q in
-        record { nodes = subst (Each SoundNode) (k .0) h; fits = subst (λ (x : List NodeRead). verdict room (elementsOf x) ≡ Accepted) (k .0) (k .1) }
+        let k : (m ≡ l) × (verdict room m ≡ Accepted) = judged-same room m l q in
+        record { nodes = subst (Each SoundNode) (k .0) h; fits = subst (λ (x : List Element). verdict room x ≡ Accepted) (k .0) (k .1) }
 
     by-tail : (d : Document) → SoundItems (d .parts) → (o : Out (Unit {0})) → tailReading room s d o ≡ accepted l → Whole room l
-    by-tail d h (done u r) q = by-list (nodesOf (d .parts)) (nodes-sound (d .parts) h) q
+    by-tail d h (done u r) q = by-list (nodesAmong (d .parts)) (nodes-sound (d .parts) h) q
     by-tail d h (fault k r) q = nope cc
     by-tail d h cut q = nope cc
 

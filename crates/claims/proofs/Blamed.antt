@@ -9,7 +9,7 @@ use Rattle.grammar.specs.Parse.{again, last}
 use Rattle.grammar.specs.Grammar.{G}
 use Rattle.xml.specs.Bytes.{bytes, same, isSpace, isLetter, isNameByte, isQuote, lessThan, greaterThan, slash, exclamation, question, ampersand, equals, dash}
 use Rattle.xml.specs.Xml.{spaces, name, entity, commentPart, comment, text, Attribute, isNamed, Rules, plain, nameFault, attribute, TagState, Tag, tagByte, startTag, openName, closeName, endTag, strayEnd}
-use Rattle.xml.specs.Elements.{gap, child, close, markup, between, Holder, afterPart, held, stranger, onlyEnd, textContent, textElement, infoByte, infoRest, infoElement, info}
+use Rattle.xml.specs.Elements.{misc, child, close, markup, between, Holder, afterPart, held, forbidden, onlyEnd, textContent, textElement, infoByte, infoRest, infoElement, info}
 use Rattle.claims.specs.Refusals.{isTextFault}
 use Rattle.claims.proofs.Faults.{Blames, Fair, fair-zero, fair-by, fair-cond, blames-ret, blames-bad, blames-cond, blames-look, blames-lookTwo, blames-judge, blames-settle, blames-blame, blames-kept, blames-eat, blames-span, blames-byte, blames-word, blames-seq, blames-loop}
 
@@ -79,10 +79,10 @@ pub plain-right : RightRules plain
 plain-right = record { names = λ w. fair-zero; texts = λ w t. fair-zero; opened = λ l. fair-zero; emptied = λ l. fair-zero }
 
 module _ (rules : Rules) (right : RightRules rules) where
-  attribute-well : (seen : List Attribute) → Well (attribute rules seen)
+  attribute-well : (attributes : List Attribute) → Well (attribute rules attributes)
   unfolding attribute
-  attribute-well seen =
-      blames-seq (blames-judge (nameFault rules seen) (λ w. fair-cond (isNamed w seen) two (fair-cond (leb 16 (length seen)) three (right .names w))) name-well)
+  attribute-well attributes =
+      blames-seq (blames-judge (nameFault rules attributes) (λ w. fair-cond (isNamed w attributes) two (fair-cond (leb 16 (length attributes)) three (right .names w))) name-well)
       (λ w. blames-seq spaces-well (λ a. blames-seq (blames-byte equals 2 two) (λ a. blames-seq spaces-well
       (λ a. blames-seq (blames-judge (λ b. cond (isQuote b) 0 2) (λ b. fair-cond (isQuote b) fair-zero two) blames-eat)
       (λ q. blames-seq (blames-judge (λ x. rules .texts w (x .1)) (λ x. right .texts w (x .1)) (text-well (λ b. eqb b q)))
@@ -90,16 +90,16 @@ module _ (rules : Rules) (right : RightRules rules) where
 
   tag-well : (st : TagState) (b : ℕ) → Well (tagByte rules st b)
   tag-well st b =
-      blames-cond (isSpace b) (blames-seq blames-eat (λ a. blames-ret (again (record { spaced = true; seen = st .seen }))))
+      blames-cond (isSpace b) (blames-seq blames-eat (λ a. blames-ret (again (record { spaced = true; attributes = st .attributes }))))
       (blames-cond (eqb b greaterThan)
-      (blames-seq (blames-judge (λ x. rules .opened (st .seen)) (λ x. right .opened (st .seen)) blames-eat) (λ a. blames-ret (last (record { attributes = st .seen; empty = false }))))
+      (blames-seq (blames-judge (λ x. rules .opened (st .attributes)) (λ x. right .opened (st .attributes)) blames-eat) (λ a. blames-ret (last (record { attributes = st .attributes; empty = false }))))
       (blames-cond (eqb b slash)
-      (blames-seq (blames-judge (λ x. rules .emptied (st .seen)) (λ x. right .emptied (st .seen)) (blames-word (bytes "/>") 2 two)) (λ a. blames-ret (last (record { attributes = st .seen; empty = true }))))
-      (blames-cond (st .spaced) (blames-seq (attribute-well (st .seen)) (λ a. blames-ret (again (record { spaced = false; seen = st .seen ++ a ∷ [] })))) (blames-bad 2 refl))))
+      (blames-seq (blames-judge (λ x. rules .emptied (st .attributes)) (λ x. right .emptied (st .attributes)) (blames-word (bytes "/>") 2 two)) (λ a. blames-ret (last (record { attributes = st .attributes; empty = true }))))
+      (blames-cond (st .spaced) (blames-seq (attribute-well (st .attributes)) (λ a. blames-ret (again (record { spaced = false; attributes = st .attributes ++ a ∷ [] })))) (blames-bad 2 refl))))
 
   pub startTag-well : Well (startTag rules)
   unfolding startTag
-  startTag-well = blames-loop (λ st. blames-look (tag-well st)) (record { spaced = false; seen = [] })
+  startTag-well = blames-loop (λ st. blames-look (tag-well st)) (record { spaced = false; attributes = [] })
 
 pub openName-well : Well openName
 unfolding openName
@@ -125,14 +125,14 @@ module _ {C : Type 0} {end : G (Unit {0})} (fault : List ℕ → ℕ) {body : Li
   markup-well : (a b : ℕ) → Well (markup end fault body a b)
   markup-well a b =
       blames-cond (eqb b slash) (blames-seq ends (λ u. blames-ret close))
-      (blames-cond (eqb b exclamation) (blames-seq comment-well (λ u. blames-ret gap))
+      (blames-cond (eqb b exclamation) (blames-seq comment-well (λ u. blames-ret misc))
       (blames-cond (eqb b question) (blames-bad 3 refl)
       (blames-seq (blames-judge fault names openName-well) (λ w. blames-seq (bodies w) (λ v. blames-ret (child v))))))
 
   pub between-well : Well (between end fault body)
   unfolding between
   between-well =
-      blames-look (λ b. blames-cond (isSpace b) (blames-seq blames-eat (λ u. blames-ret gap))
+      blames-look (λ b. blames-cond (isSpace b) (blames-seq blames-eat (λ u. blames-ret misc))
       (blames-cond (eqb b lessThan) (blames-lookTwo markup-well)
       (blames-cond (eqb b ampersand) (blames-seq (blames-settle 5 five entity-well) (λ u. blames-bad 5 refl)) (blames-bad 5 refl))))
 
@@ -143,7 +143,7 @@ held-well h m f b st =
 
 -- ---- where no element may stand, and text
 
-stranger-well : {A : Type 0} (b : ℕ) → Well (stranger {A = A} b)
+stranger-well : {A : Type 0} (b : ℕ) → Well (forbidden {A = A} b)
 stranger-well b =
     blames-cond (eqb b exclamation) (blames-seq (blames-settle 3 three comment-well) (λ u. blames-bad 3 refl))
     (blames-cond (eqb b question) (blames-bad 3 refl) (blames-seq (blames-judge (λ w. 5) (λ w. five) openName-well) (λ u. blames-bad 5 refl)))

@@ -11,7 +11,7 @@ use lib.ListN.{length, length-append}
 use borrow.Author.Tests.{ltb-false}
 use Rattle.decimal.specs.declared.Decimal.{Decimal}
 use Rattle.decimal.specs.Decimal as Decimals
-use Rattle.decimal_write.specs.Written.{normal}
+use Rattle.decimal_write.specs.Written.{isNormal}
 use Rattle.decimal_value.specs.Value.{notNegative, positive, isOne, valueOf, powered, ten}
 use Rattle.process_list.specs.declared.Kind.the-variants.{Cdl}
 use Rattle.process_list.specs.List.{numbersOf}
@@ -126,7 +126,7 @@ sat-holds =
 -- ---- 'Absent parts read as 1, 0, 1 and 1'
 
 one-carried : Carried oneNumber
-unfolding normal
+unfolding isNormal
 one-carried = record { ranged = refl; settled = refl }
 
 one-not-below : Kept notBelowZero oneNumber
@@ -244,9 +244,9 @@ cdl-right clamp l m n k = record {
   rules = cdl-rules l m n k;
 }
 
-pub cdl-holds : Holds (λ n. sound (n .element) ≡ true) ascCdl
+pub cdl-holds : Holds (λ n. sound n ≡ true) ascCdl
 unfolding ascCdl
 cdl-holds =
     holds-then (startTag cdlRules) (λ tag. holds-seq Begun (content-holds tag)
-    (λ st i. holds-ret (sound-by (cdlNode (tag .attributes) st .element)
+    (λ st i. holds-ret (sound-by (cdlNode (tag .attributes) st)
     (cdl-right (not (same (textOf (bytes "style") (tag .attributes)) (bytes "FwdNoClamp"))) (sopNumbers st) (satNumbers st) (sop-there (st .sop) (i .sop)) (sat-there (st .sat) (i .sat))))))

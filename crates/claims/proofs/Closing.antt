@@ -14,7 +14,7 @@ use Rattle.grammar.specs.Grammar.{G, ret, bad, look, lookTwo, judge, settle, ea
 use Rattle.grammar.specs.Splice.{done-law, bind-inv, strict-inv}
 use Rattle.xml.specs.Bytes.{bytes, same, isSpace, lessThan, greaterThan, slash, exclamation, question, ampersand}
 use Rattle.xml.specs.Xml.{byte, word, spaces, entity, comment, Rules, TagState, Tag, attribute, tagByte, startTag, openName, closeName, endTag}
-use Rattle.xml.specs.Elements.{Part, gap, child, close, markup, between, Holder, afterPart, held}
+use Rattle.xml.specs.Elements.{Part, misc, child, close, markup, between, Holder, afterPart, held}
 use Rattle.claims.proofs.Element.{byte-done, word-done}
 
 -- what stands before r ends with `>`
@@ -124,35 +124,35 @@ tag-last rules st [] tag r e = nope cc
 tag-last rules st (b ∷ s) tag r e = go (isSpace b) (eqb b greaterThan) (eqb b slash) (st .spaced) refl e
   where
     opened : G (Turn TagState Tag)
-    opened = judge (λ x. rules .opened (st .seen)) eat >> ret (last (record { attributes = st .seen; empty = false }))
+    opened = judge (λ x. rules .opened (st .attributes)) eat >> ret (last (record { attributes = st .attributes; empty = false }))
 
     emptied : G (Turn TagState Tag)
-    emptied = judge (λ x. rules .emptied (st .seen)) (word (bytes "/>") 2) >> ret (last (record { attributes = st .seen; empty = true }))
+    emptied = judge (λ x. rules .emptied (st .attributes)) (word (bytes "/>") 2) >> ret (last (record { attributes = st .attributes; empty = true }))
 
     more : G (Turn TagState Tag)
-    more = seq (attribute rules (st .seen)) (λ a. ret (again (record { spaced = false; seen = st .seen ++ a ∷ [] })))
+    more = seq (attribute rules (st .attributes)) (λ a. ret (again (record { spaced = false; attributes = st .attributes ++ a ∷ [] })))
 
     go : (v w y z : Bool) → eqb b greaterThan ≡ w
-        → (cond v (eat >> ret (again (record { spaced = true; seen = st .seen }))) (cond w opened (cond y emptied (cond z more (bad 2))))) .run (b ∷ s) ≡ done (last tag) r → Ended (b ∷ s) r
+        → (cond v (eat >> ret (again (record { spaced = true; attributes = st .attributes }))) (cond w opened (cond y emptied (cond z more (bad 2))))) .run (b ∷ s) ≡ done (last tag) r → Ended (b ∷ s) r
     go true w y z q f = nope cc
     go false true y z q f =
-        let i = bind-inv ((judge (λ x. rules .opened (st .seen)) eat) .run) (λ a. retP (last (record { attributes = st .seen; empty = false }))) (b ∷ s) (last tag) r f in
-        let k : done b s ≡ done (i .0) (i .1) = judge-done (λ x. rules .opened (st .seen)) (done b s) (b ∷ s) (i .0) (i .1) (i .2) in
+        let i = bind-inv ((judge (λ x. rules .opened (st .attributes)) eat) .run) (λ a. retP (last (record { attributes = st .attributes; empty = false }))) (b ∷ s) (last tag) r f in
+        let k : done b s ≡ done (i .0) (i .1) = judge-done (λ x. rules .opened (st .attributes)) (done b s) (b ∷ s) (i .0) (i .1) (i .2) in
         let l : s ≡ r = cc in
         record { c = []; is = ap (λ (x : ℕ). x ∷ s) (eqb-true b greaterThan q) ∙ ap (λ (x : List ℕ). 62 ∷ x) l }
     go false false true z q f =
-        let i = bind-inv ((judge (λ x. rules .emptied (st .seen)) (word (bytes "/>") 2)) .run) (λ a. retP (last (record { attributes = st .seen; empty = true }))) (b ∷ s) (last tag) r f in
-        let k = judge-done (λ x. rules .emptied (st .seen)) ((word (bytes "/>") 2) .run (b ∷ s)) (b ∷ s) (i .0) (i .1) (i .2) in
+        let i = bind-inv ((judge (λ x. rules .emptied (st .attributes)) (word (bytes "/>") 2)) .run) (λ a. retP (last (record { attributes = st .attributes; empty = true }))) (b ∷ s) (last tag) r f in
+        let k = judge-done (λ x. rules .emptied (st .attributes)) ((word (bytes "/>") 2) .run (b ∷ s)) (b ∷ s) (i .0) (i .1) (i .2) in
         let l : i .1 ≡ r = cc in
         record { c = 47 ∷ []; is = word-done (bytes "/>") 2 (omega arith) (b ∷ s) (i .0) (i .1) k ∙ ap (λ (x : List ℕ). 47 ∷ 62 ∷ x) l }
     go false false false true q f =
-        let i = bind-inv ((attribute rules (st .seen)) .run) (λ a. retP (again (record { spaced = false; seen = st .seen ++ a ∷ [] }))) (b ∷ s) (last tag) r f in
+        let i = bind-inv ((attribute rules (st .attributes)) .run) (λ a. retP (again (record { spaced = false; attributes = st .attributes ++ a ∷ [] }))) (b ∷ s) (last tag) r f in
         nope (cc (i .3))
     go false false false false q f = nope cc
 
 pub startTag-closes : (rules : Rules) → Closes (startTag rules)
 unfolding startTag
-startTag-closes rules = closes-loop (λ st. look (tagByte rules st)) (tag-last rules) (record { spaced = false; seen = [] })
+startTag-closes rules = closes-loop (λ st. look (tagByte rules st)) (tag-last rules) (record { spaced = false; attributes = [] })
 
 pub endTag-closes : (w : List ℕ) (missing : ℕ) → Closes (endTag w missing)
 unfolding endTag
@@ -171,9 +171,9 @@ module _ {C : Type 0} (end : G (Unit {0})) (fault : List ℕ → ℕ) (body : Li
       inner : G (Part C)
       inner = seq (judge fault openName) (λ w. seq (body w) (λ v. ret (child v)))
 
-      go : (v w z : Bool) → (cond v (end >> ret close) (cond w (comment >> ret gap) (cond z (bad 3) inner))) .run s ≡ done close r → Ended s r
+      go : (v w z : Bool) → (cond v (end >> ret close) (cond w (comment >> ret misc) (cond z (bad 3) inner))) .run s ≡ done close r → Ended s r
       go true w z f = (closes-ret (λ u. close) ends) .at s close r f
-      go false true z f = let i = bind-inv (comment .run) (λ u. retP gap) s close r f in nope (cc (i .3))
+      go false true z f = let i = bind-inv (comment .run) (λ u. retP misc) s close r f in nope (cc (i .3))
       go false false true f = nope cc
       go false false false f =
           let i = bind-inv ((judge fault openName) .run) (λ w. (seq (body w) (λ v. ret (child v))) .run) s close r f in
@@ -190,7 +190,7 @@ module _ {C : Type 0} (end : G (Unit {0})) (fault : List ℕ → ℕ) (body : Li
       two (x ∷ []) f = nope cc
       two (x ∷ y ∷ s) f = markup-close x y (x ∷ y ∷ s) r (strict-inv ((markup end fault body x y) .run) (x ∷ y ∷ s) close r f)
 
-      go : (v w z : Bool) → (cond v (eat >> ret gap) (cond w (lookTwo (markup end fault body)) (cond z (settle 5 entity >> bad 5) (bad 5)))) .run (b ∷ s) ≡ done close r → Ended (b ∷ s) r
+      go : (v w z : Bool) → (cond v (eat >> ret misc) (cond w (lookTwo (markup end fault body)) (cond z (settle 5 entity >> bad 5) (bad 5)))) .run (b ∷ s) ≡ done close r → Ended (b ∷ s) r
       go true w z f = nope cc
       go false true z f = two (b ∷ s) f
       go false false true f = let i = bind-inv ((settle 5 entity) .run) (λ u. (bad {A = Part C} 5) .run) (b ∷ s) close r f in nope (cc (i .3))
@@ -202,7 +202,7 @@ held-closes {S} h st =
   where
     by : (st : S) (s : List ℕ) (b : S) (r : List ℕ) (p : Part S) (u : List ℕ) → (between (endTag (h .name) (h .missing st)) (h .fault st) (h .body st)) .run s ≡ done p u
         → done (afterPart st p) u ≡ done (last b) r → Ended s r
-    by st s b r gap u q z = nope cc
+    by st s b r misc u q z = nope cc
     by st s b r (child v) u q z = nope cc
     by st s b r close u q z =
         let y : u ≡ r = cc in

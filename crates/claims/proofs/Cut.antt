@@ -6,9 +6,9 @@ use Prim.Native.Nat.{ℕ}
 use native.Mathlib.Omega.{arith}
 use lib.ListN.{length, length-append}
 use Rattle.grammar.specs.Parse.{done, fault, cut}
-use Rattle.grammar.specs.Laws.{nope, Answer, cuts, faults, dones, follows-self}
+use Rattle.grammar.specs.Laws.{nope, StrongPrefix, cuts, faults, dones, follows-self}
 use Rattle.clf.specs.List.{Document, document, tail}
-use Rattle.clf.specs.Reading.{Reading, faulty, nodesOf, placeIn, tailReading, textReading, readText}
+use Rattle.clf.specs.Reading.{Reading, faulty, nodesAmong, placeIn, tailReading, textReading, readText}
 use Rattle.claims.specs.Refusals.{isTextFault, Answered, whole, text, list}
 use Rattle.claims.specs.Refusals as A
 use Rattle.claims.specs.Cut.{Behind, same, later, Longer, short, atFault, sound}
@@ -42,7 +42,7 @@ module _ (room : ℕ) (s c r : List ℕ) (d : Document) (e : s ≡ c ++ r) (h : 
       ∙ ap (λ (l : List ℕ). tailReading room l d (tail (r ++ []))) (append-nil s) ∙ ap (λ (l : List ℕ). tailReading room s d (tail l)) (append-nil r)
 
   -- behind a tail that is done
-  behind : (t : List ℕ) → tail (r ++ t) ≡ tail t → Tailed t → Behind room s (nodesOf (d .parts)) t
+  behind : (t : List ℕ) → tail (r ++ t) ≡ tail t → Tailed t → Behind room s (nodesAmong (d .parts)) t
   behind t g (T.short q) =
       later 1 (length (s ++ t)) (omega (arith, length-append s t)) (whole-reads t ∙ ap (tailReading room (s ++ t) d) (g ∙ q))
   behind t g (T.atFault k a w z f) =
@@ -56,7 +56,7 @@ module _ (room : ℕ) (s c r : List ℕ) (d : Document) (e : s ≡ c ++ r) (h : 
       let g : (t : List ℕ) → readText room (s ++ t) ≡ faulty k (placeIn s w) =
       λ t. whole-reads t ∙ ap (tailReading room (s ++ t) d) (f t) ∙ ap (faulty k) (place-more s w t) in
       fault-or-short room s k (placeIn s w) (ap (readText room) (sym (append-nil s)) ∙ g []) g
-  by-tail (T.whole q f) = sound (nodesOf (d .parts)) (alone ∙ ap (tailReading room s d) q) (λ t. behind t (f t) (tail-law t))
+  by-tail (T.whole q f) = sound (nodesAmong (d .parts)) (alone ∙ ap (tailReading room s d) q) (λ t. behind t (f t) (tail-law t))
 
 fault-reads : (room : ℕ) (s : List ℕ) (k : ℕ) (r : List ℕ) → ((t : List ℕ) → document .run (s ++ t) ≡ fault k (r ++ t)) → (t : List ℕ) → readText room (s ++ t) ≡ faulty k (placeIn s r)
 unfolding readText
@@ -66,7 +66,7 @@ cut-reads : (room : ℕ) (s : List ℕ) → document .run s ≡ cut → readText
 unfolding readText
 cut-reads room s q = ap (textReading room s) q
 
-by-answer : (room : ℕ) (s : List ℕ) → Answer (document .run) s → Longer room s
+by-answer : (room : ℕ) (s : List ℕ) → StrongPrefix (document .run) s → Longer room s
 by-answer room s (cuts q) = short (cut-reads room s q)
 by-answer room s (faults k c r e h) =
     let g = fault-reads room s k r h in

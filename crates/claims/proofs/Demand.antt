@@ -11,73 +11,66 @@ use Rattle.process_list.specs.declared.Verdict.{Verdict}
 use Rattle.process_list.specs.declared.Verdict.the-variants.{Accepted, NoNode, TooManyNodes, DepthDiffers, TooManyNumbers}
 use Rattle.process_list.specs.List.{Element, verdict}
 use Rattle.grammar.specs.Parse.{Out, done, fault, cut}
-use Rattle.clf.specs.Nodes.{NodeRead}
 use Rattle.clf.specs.Places.{nodeSpan}
-use Rattle.clf.specs.Reading.{Reading, accepted, faulty, unfit, mostBytes, elementsOf, placeIn, isNumbered, listReading, readText, read}
+use Rattle.clf.specs.Reading.{Reading, accepted, faulty, unfit, mostBytes, placeIn, isNumbered, listReading, readText, read}
 use Rattle.clf.specs.Reading as R
-use Rattle.look.specs.Replacing.{element, Answer, refused, byVerdict, listed, byElement, replace, listAfter}
-use Rattle.claims.specs.TriedFile.{answerOf, spliced, Attempt, answers, tries, trying, attemptElement, attempt, settled, byAttempt, fileCall, listCall, NotBefore, InElement, AllInElement, SmallAttempt, Small, SameRun}
+use Rattle.look.specs.Replacing.{element, Replacing, refused, byVerdict, listed, byElement, replace, listAfter}
+use Rattle.claims.specs.TriedFile.{asReplacing, spliced, Attempt, answers, tries, trying, attemptElement, attempt, settled, byAttempt, fileCall, listCall, NotBefore, InElement, AllInElement, SmallAttempt, Small, SameRun}
 use Rattle.claims.proofs.Sound.{and-true}
 use Rattle.claims.proofs.Spliced.{Opened, opened, spliced-done, spliced-fault}
 use Rattle.claims.proofs.Rules.{Short, read-short}
 
 -- a call by the file x, and the same call by the list y: one answer, and the file after it is read as the list after it
-pub record Agree (room : ℕ) (x : Answer × List ℕ) (y : Answer × List Element) : Type 0 where
+pub record Agree (room : ℕ) (x : Replacing × List ℕ) (y : Replacing × List Element) : Type 0 where
   pub answer : x .0 ≡ y .0
-  pub l : List NodeRead
+  pub l : List Element
   pub reads : readText room (x .1) ≡ accepted l
-  pub same : elementsOf l ≡ y .1
+  pub same : l ≡ y .1
 
-set-elements : (l : List NodeRead) (k : ℕ) (m : NodeRead) → set (elementsOf l) k (m .element) ≡ elementsOf (set l k m)
-set-elements [] k m = refl
-set-elements (n ∷ l) zero m = refl
-set-elements (n ∷ l) (suc k) m = ap (λ (es : List Element). n .element ∷ es) (set-elements l k m)
-
-module _ (room : ℕ) (s : List ℕ) (l : List NodeRead) (old : readText room s ≡ accepted l) where
+module _ (room : ℕ) (s : List ℕ) (l : List Element) (old : readText room s ≡ accepted l) where
   -- what is refused changes neither
-  stays : (a : Answer) (n p : ℕ) → a ≡ refused n p → Agree room (a, s) (refused n p, elementsOf l)
+  stays : (a : Replacing) (n p : ℕ) → a ≡ refused n p → Agree room (a, s) (refused n p, l)
   stays a n p q = record { answer = q; l = l; reads = old; same = refl }
 
   -- the list with the new node, judged
-  by-verdict : (at : ℕ) (t : List ℕ) (m : List NodeRead) (v : Verdict) → readText room t ≡ R.byVerdict m v
-      → Agree room (settled at s t (R.byVerdict m v)) (byVerdict (elementsOf m) v, listAfter (elementsOf l) (byVerdict (elementsOf m) v))
+  by-verdict : (at : ℕ) (t : List ℕ) (m : List Element) (v : Verdict) → readText room t ≡ R.byVerdict m v
+      → Agree room (settled at s t (R.byVerdict m v)) (byVerdict m v, listAfter l (byVerdict m v))
   by-verdict at t m Accepted q = record { answer = refl; l = m; reads = q; same = refl }
   by-verdict at t m NoNode q = stays (refused 12 0) 12 0 refl
   by-verdict at t m TooManyNodes q = stays (refused 11 33) 11 33 refl
   by-verdict at t m (DepthDiffers k) q = stays (refused 10 k) 10 k refl
   by-verdict at t m TooManyNumbers q = stays (refused 13 0) 13 0 refl
 
-  by-list : (at : ℕ) (t : List ℕ) (m : List NodeRead) → readText room t ≡ listReading room m
-      → Agree room (settled at s t (readText room t)) (listed room (elementsOf m), listAfter (elementsOf l) (listed room (elementsOf m)))
+  by-list : (at : ℕ) (t : List ℕ) (m : List Element) → readText room t ≡ listReading room m
+      → Agree room (settled at s t (readText room t)) (listed room m, listAfter l (listed room m))
   unfolding listReading listed
   by-list at t m q =
-      let v : Verdict = verdict room (elementsOf m) in
-      subst (λ (x : Reading). Agree room (settled at s t x) (byVerdict (elementsOf m) v, listAfter (elementsOf l) (byVerdict (elementsOf m) v))) (sym q) (by-verdict at t m v q)
+      let v : Verdict = verdict room m in
+      subst (λ (x : Reading). Agree room (settled at s t x) (byVerdict m v, listAfter l (byVerdict m v))) (sym q) (by-verdict at t m v q)
 
   module _ (k : ℕ) (e : List ℕ) (there : k - 1 < length l) where
     abbrev w : ℕ × ℕ
     w = nodeSpan s (k - 1)
 
     at-fault : (j : ℕ) (r : List ℕ) → element .run e ≡ fault j r → (j ≡ 20 → ⊥)
-        → Agree room (settled (w .0) s (spliced s w e) (readText room (spliced s w e))) (refused j (placeIn e r), elementsOf l)
+        → Agree room (settled (w .0) s (spliced s w e) (readText room (spliced s w e))) (refused j (placeIn e r), l)
     at-fault j r q n =
         let f = spliced-fault room s l (k - 1) old there e j r q n in
         let g : w .0 + placeIn e r - w .0 ≡ placeIn e r = omega arith in
-        subst (λ (x : Reading). Agree room (settled (w .0) s (spliced s w e) x) (refused j (placeIn e r), elementsOf l)) (sym f)
+        subst (λ (x : Reading). Agree room (settled (w .0) s (spliced s w e) x) (refused j (placeIn e r), l)) (sym f)
         (stays (refused j (w .0 + placeIn e r - w .0)) j (placeIn e r) (ap (refused j) g))
 
     by-number : (j : ℕ) (r : List ℕ) → element .run e ≡ fault j r → (v : Bool) → eqb j 20 ≡ v
-        → Agree room (byAttempt (readText room) s (cond v (answers (refused 20 (placeIn e r))) (trying s w e))) (refused j (placeIn e r), elementsOf l)
+        → Agree room (byAttempt (readText room) s (cond v (answers (refused 20 (placeIn e r))) (trying s w e))) (refused j (placeIn e r), l)
     by-number j r q true z = stays (refused 20 (placeIn e r)) j (placeIn e r) (ap (λ (i : ℕ). refused i (placeIn e r)) (sym (eqb-true j 20 z)))
     by-number j r q false z = at-fault j r q (eqb-false j 20 z)
 
-    by-element : (o : Out NodeRead) → element .run e ≡ o
-        → Agree room (byAttempt (readText room) s (attemptElement s w e o)) (byElement room (elementsOf l) k e o, listAfter (elementsOf l) (byElement room (elementsOf l) k e o))
+    by-element : (o : Out Element) → element .run e ≡ o
+        → Agree room (byAttempt (readText room) s (attemptElement s w e o)) (byElement room l k e o, listAfter l (byElement room l k e o))
     by-element cut q = stays (refused 1 (length e)) 1 (length e) refl
     by-element (fault j r) q = by-number j r q (eqb j 20) refl
     by-element (done m []) q =
-        subst (λ (es : List Element). Agree room (byAttempt (readText room) s (trying s w e)) (listed room es, listAfter (elementsOf l) (listed room es))) (sym (set-elements l (k - 1) m))
-        (by-list (w .0) (spliced s w e) (set l (k - 1) m) (spliced-done room s l (k - 1) old there e m q))
+        by-list (w .0) (spliced s w e) (set l (k - 1) m) (spliced-done room s l (k - 1) old there e m q)
     by-element (done m (b ∷ r)) q = stays (refused 20 (placeIn e (b ∷ r))) 20 (placeIn e (b ∷ r)) refl
 
   numbered : (k : ℕ) → isNumbered k (length l) ≡ true → k - 1 < length l
@@ -87,27 +80,26 @@ module _ (room : ℕ) (s : List ℕ) (l : List NodeRead) (old : readText room s 
 
   by-tests : (k : ℕ) (e : List ℕ) (v x : Bool) → isNumbered k (length l) ≡ v
       → Agree room (byAttempt (readText room) s (cond v (cond x (answers (refused 4 0)) (attemptElement s (nodeSpan s (k - 1)) e (element .run e))) (answers (refused 19 0)))) (
-        cond v (cond x (refused 4 0) (byElement room (elementsOf l) k e (element .run e))) (refused 19 0),
-        listAfter (elementsOf l) (cond v (cond x (refused 4 0) (byElement room (elementsOf l) k e (element .run e))) (refused 19 0)),
+        cond v (cond x (refused 4 0) (byElement room l k e (element .run e))) (refused 19 0),
+        listAfter l (cond v (cond x (refused 4 0) (byElement room l k e (element .run e))) (refused 19 0)),
       )
   by-tests k e true true q = stays (refused 4 0) 4 0 refl
   by-tests k e true false q = by-element k e (numbered k q) (element .run e) refl
   by-tests k e false x q = stays (refused 19 0) 19 0 refl
 
   -- ONE CALL
-  pub one-call : (c : ℕ × List ℕ) → Agree room (fileCall (readText room) s c) (listCall room (elementsOf l) c)
+  pub one-call : (c : ℕ × List ℕ) → Agree room (fileCall (readText room) s c) (listCall room l c)
   unfolding attempt replace
   one-call c =
       let o : Opened room s l = opened room s l old in
-      let n : length (elementsOf l) ≡ length l = length-map l (λ (m : NodeRead). m .element) in
       let t = by-tests (c .0) (c .1) (isNumbered (c .0) (length l)) (ltb mostBytes (length (c .1))) refl in
-      rw (o .is, o .same, n) t
+      rw (o .is, o .same) t
 
   -- ---- a fault of the tried file stands in the element
 
-  list-in : (at : ℕ) (m : List NodeRead) → NotBefore at (listReading room m)
+  list-in : (at : ℕ) (m : List Element) → NotBefore at (listReading room m)
   unfolding listReading
-  list-in at m = go (verdict room (elementsOf m))
+  list-in at m = go (verdict room m)
     where
       go : (v : Verdict) → NotBefore at (R.byVerdict m v)
       go Accepted = tt
@@ -124,7 +116,7 @@ module _ (room : ℕ) (s : List ℕ) (l : List NodeRead) (old : readText room s 
         subst (NotBefore (nodeSpan s (k - 1) .0)) (sym (spliced-fault room s l (k - 1) old there e j r q (eqb-false j 20 z)))
         (let h : nodeSpan s (k - 1) .0 ≤ nodeSpan s (k - 1) .0 + placeIn e r = omega arith in h)
 
-    element-in : (o : Out NodeRead) → element .run e ≡ o → InElement (readText room) (attemptElement s (nodeSpan s (k - 1)) e o)
+    element-in : (o : Out Element) → element .run e ≡ o → InElement (readText room) (attemptElement s (nodeSpan s (k - 1)) e o)
     element-in cut q = tt
     element-in (fault j r) q = fault-in j r q (eqb j 20) refl
     element-in (done m []) q =
@@ -146,11 +138,11 @@ module _ (room : ℕ) (s : List ℕ) (l : List NodeRead) (old : readText room s 
 -- ---- runs
 
 -- DEMAND 3, of reading without the limit of 16 MiB
-pub demand3-text : (room : ℕ) (calls : List (ℕ × List ℕ)) (s : List ℕ) (l : List NodeRead) → readText room s ≡ accepted l → SameRun room (readText room) s (elementsOf l) calls
-demand3-text room [] s l old = record { answers = refl; list = ap answerOf old; places = tt }
+pub demand3-text : (room : ℕ) (calls : List (ℕ × List ℕ)) (s : List ℕ) (l : List Element) → readText room s ≡ accepted l → SameRun room (readText room) s l calls
+demand3-text room [] s l old = record { answers = refl; list = ap asReplacing old; places = tt }
 demand3-text room (c ∷ calls) s l old =
-    let g : Agree room (fileCall (readText room) s c) (listCall room (elementsOf l) c) = one-call room s l old c in
-    let i : SameRun room (readText room) (fileCall (readText room) s c .1) (listCall room (elementsOf l) c .1) calls =
+    let g : Agree room (fileCall (readText room) s c) (listCall room l c) = one-call room s l old c in
+    let i : SameRun room (readText room) (fileCall (readText room) s c .1) (listCall room l c .1) calls =
     subst (λ (es : List Element). SameRun room (readText room) (fileCall (readText room) s c .1) es calls) (g .same) (demand3-text room calls (fileCall (readText room) s c .1) (g .l) (g .reads)) in
     record { answers = λ j. g .answer j ∷ i .answers j; list = i .list; places = (call-in room s l old c, i .places) }
 
@@ -176,20 +168,20 @@ pub stays-small : (room : ℕ) (s : List ℕ) (a : Attempt) → length s ≤ mos
 stays-small room s (answers a) h k = h
 stays-small room s (tries at t) h k = settled-small at s t (read room t) h k
 
-pub runs : (room : ℕ) (calls : List (ℕ × List ℕ)) (s : List ℕ) (l : List NodeRead) → length s ≤ mostBytes → readText room s ≡ accepted l → Small (read room) s calls
-    → SameRun room (read room) s (elementsOf l) calls
-runs room [] s l h old k = record { answers = refl; list = ap answerOf (read-small room s h ∙ old); places = tt }
+pub runs : (room : ℕ) (calls : List (ℕ × List ℕ)) (s : List ℕ) (l : List Element) → length s ≤ mostBytes → readText room s ≡ accepted l → Small (read room) s calls
+    → SameRun room (read room) s l calls
+runs room [] s l h old k = record { answers = refl; list = ap asReplacing (read-small room s h ∙ old); places = tt }
 runs room (c ∷ calls) s l h old k =
     let a : Attempt = attempt s (c .0) (c .1) in
     let e : fileCall (read room) s c ≡ fileCall (readText room) s c = call-small room s a (k .0) in
-    let g : Agree room (fileCall (read room) s c) (listCall room (elementsOf l) c) =
-    subst (λ (x : Answer × List ℕ). Agree room x (listCall room (elementsOf l) c)) (sym e) (one-call room s l old c) in
-    let i : SameRun room (read room) (fileCall (read room) s c .1) (listCall room (elementsOf l) c .1) calls =
+    let g : Agree room (fileCall (read room) s c) (listCall room l c) =
+    subst (λ (x : Replacing × List ℕ). Agree room x (listCall room l c)) (sym e) (one-call room s l old c) in
+    let i : SameRun room (read room) (fileCall (read room) s c .1) (listCall room l c .1) calls =
     subst (λ (es : List Element). SameRun room (read room) (fileCall (read room) s c .1) es calls) (g .same)
     (runs room calls (fileCall (read room) s c .1) (g .l) (stays-small room s a h (k .0)) (g .reads) (k .1)) in
     record { answers = λ j. g .answer j ∷ i .answers j; list = i .list; places = (in-small room a (k .0) (call-in room s l old c), i .places) }
 
 -- DEMAND 3: an accepted file, any calls, each file so tried at most 16 MiB
-pub demand3 : (room : ℕ) (calls : List (ℕ × List ℕ)) (s : List ℕ) (l : List NodeRead) → read room s ≡ accepted l → Small (read room) s calls
-    → SameRun room (read room) s (elementsOf l) calls
+pub demand3 : (room : ℕ) (calls : List (ℕ × List ℕ)) (s : List ℕ) (l : List Element) → read room s ≡ accepted l → Small (read room) s calls
+    → SameRun room (read room) s l calls
 demand3 room calls s l e k = let r : Short room s l = read-short room s l e in runs room calls s l (r .most) (r .text) k

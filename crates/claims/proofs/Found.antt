@@ -1,4 +1,5 @@
 -- Node k among the items of a file, and the parts of a file that is accepted. Assumes nothing.
+use Rattle.process_list.specs.List.{Element}
 use mathlib.Core.Path.{_≡_, refl, ap, _∙_}
 use mathlib.Core.Bool.{Bool, true, false, cond}
 use mathlib.Core.List.{List, [], _∷_, _++_}
@@ -13,10 +14,9 @@ use Rattle.grammar.specs.Grammar.{ret, bad, lookTwo, settle, eat, items, _>>_}
 use Rattle.grammar.specs.Splice.{bind-inv, flat}
 use Rattle.xml.specs.Bytes.{bytes, isSpace, lessThan, ampersand}
 use Rattle.xml.specs.Xml.{Tag, entity, endTag}
-use Rattle.xml.specs.Elements.{Part, gap, child, close, markup, between}
-use Rattle.clf.specs.Nodes.{NodeRead}
+use Rattle.xml.specs.Elements.{Part, misc, child, close, markup, between}
 use Rattle.clf.specs.List.{Child, node, description, inputDescriptor, outputDescriptor, infoChild, Flags, noFlags, childFault, childBody, listItem, nextFlags, head, Document, listContent, document}
-use Rattle.clf.specs.Reading.{withPart, nodesOf}
+use Rattle.clf.specs.Reading.{withPart, nodesAmong}
 use Rattle.clf.specs.Places.{spanOf}
 
 abbrev pub Items : Type 0
@@ -26,18 +26,18 @@ Items = List (Part Child × List ℕ)
 
 pub record Found (ps : Items) (k : ℕ) : Type 0 where
   pub bs : Items
-  pub n : NodeRead
+  pub n : Element
   pub c : List ℕ
   pub xs : Items
   pub is : ps ≡ bs ++ (child (node n), c) ∷ xs
   pub at : (a : ℕ) → spanOf ps k a ≡ (a + length (flat bs), length c)
-  pub put : (m : NodeRead) (e : List ℕ) → nodesOf (bs ++ (child (node m), e) ∷ xs) ≡ set (nodesOf ps) k m
+  pub put : (m : Element) (e : List ℕ) → nodesAmong (bs ++ (child (node m), e) ∷ xs) ≡ set (nodesAmong ps) k m
 
 -- the same node, with one item more before it
 found-more : (y : Part Child) (c : List ℕ) (ps : Items) (k j : ℕ) → Found ps k
     → ((a : ℕ) → spanOf ((y, c) ∷ ps) j a ≡ spanOf ps k (a + length c))
-    → ((m : NodeRead) → withPart y (set (nodesOf ps) k m) ≡ set (withPart y (nodesOf ps)) j m) → Found ((y, c) ∷ ps) j
-unfolding nodesOf
+    → ((m : Element) → withPart y (set (nodesAmong ps) k m) ≡ set (withPart y (nodesAmong ps)) j m) → Found ((y, c) ∷ ps) j
+unfolding nodesAmong
 found-more y c ps k j f w q = record {
   bs = (y, c) ∷ f .bs;
   n = f .n;
@@ -48,15 +48,15 @@ found-more y c ps k j f w q = record {
   put = λ m e. ap (withPart y) (f .put m e) ∙ q m;
 }
 
-module _ (ps : Items) (c : List ℕ) (ih : (k : ℕ) → k < length (nodesOf ps) → Found ps k) where
-  at-node : (n : NodeRead) (k : ℕ) → k < suc (length (nodesOf ps)) → Found ((child (node n), c) ∷ ps) k
-  unfolding spanOf nodesOf
+module _ (ps : Items) (c : List ℕ) (ih : (k : ℕ) → k < length (nodesAmong ps) → Found ps k) where
+  at-node : (n : Element) (k : ℕ) → k < suc (length (nodesAmong ps)) → Found ((child (node n), c) ∷ ps) k
+  unfolding spanOf nodesAmong
   at-node n zero h = record { bs = []; n = n; c = c; xs = ps; is = refl; at = λ a. ap (λ (i : ℕ). (i, length c)) (omega arith); put = λ m e. refl }
   at-node n (suc k) h = found-more (child (node n)) c ps k (suc k) (ih k (omega arith)) (λ a. refl) (λ m. refl)
 
-  at-part : (y : Part Child) (k : ℕ) → k < length (withPart y (nodesOf ps)) → Found ((y, c) ∷ ps) k
+  at-part : (y : Part Child) (k : ℕ) → k < length (withPart y (nodesAmong ps)) → Found ((y, c) ∷ ps) k
   unfolding spanOf
-  at-part gap k h = found-more gap c ps k k (ih k h) (λ a. refl) (λ m. refl)
+  at-part misc k h = found-more misc c ps k k (ih k h) (λ a. refl) (λ m. refl)
   at-part (child (node n)) k h = at-node n k h
   at-part (child description) k h = found-more (child description) c ps k k (ih k h) (λ a. refl) (λ m. refl)
   at-part (child inputDescriptor) k h = found-more (child inputDescriptor) c ps k k (ih k h) (λ a. refl) (λ m. refl)
@@ -64,27 +64,27 @@ module _ (ps : Items) (c : List ℕ) (ih : (k : ℕ) → k < length (nodesOf ps)
   at-part (child infoChild) k h = found-more (child infoChild) c ps k k (ih k h) (λ a. refl) (λ m. refl)
   at-part close k h = found-more close c ps k k (ih k h) (λ a. refl) (λ m. refl)
 
-pub find : (ps : Items) (k : ℕ) → k < length (nodesOf ps) → Found ps k
-unfolding nodesOf
+pub find : (ps : Items) (k : ℕ) → k < length (nodesAmong ps) → Found ps k
+unfolding nodesAmong
 find [] k h = absurd (omega arith)
 find (x ∷ ps) k h = at-part ps (x .1) (find ps) (x .0) k h
 
 -- ---- a node's bytes start with `<`
 
-node-start : (st : Flags) (s : List ℕ) (n : NodeRead) (r : List ℕ) → (listItem st) .run s ≡ done (child (node n)) r → (d : List ℕ) × (s ≡ 60 ∷ d)
+node-start : (st : Flags) (s : List ℕ) (n : Element) (r : List ℕ) → (listItem st) .run s ≡ done (child (node n)) r → (d : List ℕ) × (s ≡ 60 ∷ d)
 unfolding listItem between
 node-start st [] n r e = nope cc
 node-start st (b ∷ s) n r e = go (isSpace b) (eqb b lessThan) (eqb b ampersand) refl e
   where
     go : (v w z : Bool) → eqb b lessThan ≡ w
-        → (cond v (eat >> ret gap) (cond w (lookTwo (markup (endTag (bytes "ProcessList") 0) (childFault st) childBody)) (cond z (settle 5 entity >> bad 5) (bad 5)))) .run (b ∷ s)
+        → (cond v (eat >> ret misc) (cond w (lookTwo (markup (endTag (bytes "ProcessList") 0) (childFault st) childBody)) (cond z (settle 5 entity >> bad 5) (bad 5)))) .run (b ∷ s)
         ≡ done (child (node n)) r → (d : List ℕ) × (b ∷ s ≡ 60 ∷ d)
     go true w z q f = nope cc
     go false true z q f = (s, ap (λ (x : ℕ). x ∷ s) (eqb-true b lessThan q))
     go false false true q f = let i = bind-inv ((settle 5 entity) .run) (λ u. (bad {A = Part Child} 5) .run) (b ∷ s) (child (node n)) r f in nope (cc (i .3))
     go false false false q f = nope cc
 
-pub node-bytes : (st : Flags) (c u : List ℕ) (n : NodeRead) → (listItem st) .run (c ++ u) ≡ done (child (node n)) u → 0 < length c → (d : List ℕ) × (c ≡ 60 ∷ d)
+pub node-bytes : (st : Flags) (c u : List ℕ) (n : Element) → (listItem st) .run (c ++ u) ≡ done (child (node n)) u → 0 < length c → (d : List ℕ) × (c ≡ 60 ∷ d)
 node-bytes st [] u n q h = absurd (omega arith)
 node-bytes st (x ∷ c) u n q h =
     let k : (d : List ℕ) × (x ∷ c ++ u ≡ 60 ∷ d) = node-start st (x ∷ c ++ u) n u q in

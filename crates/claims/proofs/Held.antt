@@ -11,7 +11,7 @@ use Rattle.grammar.specs.Laws.{nope}
 use Rattle.grammar.specs.Grammar.{G, ret, bad, look, judge, settle, eat, span, seq}
 use Rattle.xml.specs.Bytes.{isSpace, isLetter, isNameByte, lessThan, slash, exclamation, question, ampersand}
 use Rattle.xml.specs.Xml.{name, entity, comment, openName}
-use Rattle.xml.specs.Elements.{Part, gap, child, close, markup, between, Holder, afterPart, held}
+use Rattle.xml.specs.Elements.{Part, misc, child, close, markup, between, Holder, afterPart, held}
 use Rattle.claims.proofs.Always.{Holds, holds-ret, holds-bad, holds-cond, holds-look, holds-lookTwo, holds-judge, holds-seq, holds-then, TurnHolds, holds-loop}
 use Rattle.claims.proofs.Numbers.{endTag-holds}
 
@@ -47,7 +47,7 @@ openName-holds = holds-then eat (λ a. name-holds)
 module _ {C : Type 0} (E : Type 0) (Q : C → Type 0) where
   -- of the end tag, that the element may end; of a child, its fact
   abbrev pub PartHolds : Part C → Type 0
-  PartHolds gap = Unit {0}
+  PartHolds misc = Unit {0}
   PartHolds (child c) = Q c
   PartHolds close = E
 
@@ -79,7 +79,7 @@ module _ {S : Type 0} (h : Holder S) (I : S → Type 0) (body : (st : S) → I s
     pub nothing : h .missing st ≡ 0
 
   part-holds : (st : S) → I st → (p : Part S) → PartHolds (h .missing st ≡ 0) I p → TurnHolds I Ended (afterPart st p)
-  part-holds st i gap k = i
+  part-holds st i misc k = i
   part-holds st i (child v) k = k
   part-holds st i close k = record { state = i; nothing = k }
 

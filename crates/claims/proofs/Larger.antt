@@ -10,9 +10,8 @@ use Rattle.process_list.specs.declared.Verdict.the-variants.{Accepted, NoNode, 
 use Rattle.process_list.specs.List.{Element, mostNumbers, nodeOf, total, judged, verdict}
 use Rattle.process_list.proofs.RoomLast.{inRoom, room-last}
 use Rattle.grammar.specs.Parse.{Out, done, fault, cut}
-use Rattle.clf.specs.Nodes.{NodeRead}
 use Rattle.clf.specs.Reading.{mostBytes, isNumbered}
-use Rattle.look.specs.Replacing.{element, Answer, replaced, refused, listed, byElement, replace}
+use Rattle.look.specs.Replacing.{element, Replacing, replaced, refused, listed, byElement, replace}
 use Rattle.look.specs.Replacing as Replacing
 
 -- how many numbers a list of elements has, by its kinds
@@ -21,7 +20,7 @@ counted es = total (map nodeOf es)
 
 -- ---- replacing by the list alone
 
-abbrev pub replaceAs : ℕ → Answer → Answer
+abbrev pub replaceAs : ℕ → Replacing → Replacing
 replaceAs room (replaced es) = cond (ltb (min room mostNumbers) (counted es)) (refused 13 0) (replaced es)
 replaceAs room (refused n p) = refused n p
 
@@ -45,8 +44,8 @@ pub replace-last : (room : ℕ) (es : List Element) (k : ℕ) (e : List ℕ) →
 unfolding replace
 replace-last room es k e = go (isNumbered k (length es)) (ltb mostBytes (length e))
   where
-    by : (o : Out NodeRead) → byElement room es k e o ≡ replaceAs room (byElement mostNumbers es k e o)
-    by (done n []) = listed-last room (set es (k - 1) (n .element))
+    by : (o : Out Element) → byElement room es k e o ≡ replaceAs room (byElement mostNumbers es k e o)
+    by (done n []) = listed-last room (set es (k - 1) n)
     by (done n (b ∷ r)) = refl
     by (fault j r) = refl
     by cut = refl

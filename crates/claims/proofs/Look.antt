@@ -13,9 +13,8 @@ use Rattle.valid.specs.Valid.{isValid}
 use Rattle.valid.specs.Valid as Valid
 use Rattle.valid.proofs.Readings.{all-length, reading-valid, reading-elements}
 use Rattle.valid.proofs.Readings as Readings
-use Rattle.clf.specs.Nodes.{NodeRead}
-use Rattle.clf.specs.Reading.{Reading, accepted, mostBytes, elementsOf, nodesIn, readText, read}
-use Rattle.look.specs.Replacing.{Answer, replaced, refused, replace, listAfter}
+use Rattle.clf.specs.Reading.{Reading, accepted, mostBytes, nodesIn, readText, read}
+use Rattle.look.specs.Replacing.{Replacing, replaced, refused, replace, listAfter}
 use Rattle.claims.specs.TriedFile.{Attempt, attempt, fileCall, listCall, fileRun, Small, SameRun}
 use Rattle.look.specs.Look.{Look, roomOf, holding, replaceIn, lookAfter}
 use Rattle.claims.specs.LookRuns.{readInto, lookRun, SameLook}
@@ -61,7 +60,7 @@ module _ (x : Look) (es : List Element) (w : WholeElements (roomOf x) es) where
   unfolding replaceIn
   replaces k e = rw (held-valid, held-elements, room-kept)
 
-  after : (a : Answer) → lookAfter (holding x es) a ≡ holding x (listAfter es a)
+  after : (a : Replacing) → lookAfter (holding x es) a ≡ holding x (listAfter es a)
   after (replaced new) = held-again new
   after (refused n p) = refl
 
@@ -74,17 +73,17 @@ module _ (x : Look) where
   abbrev Same : Look → List ℕ → List (ℕ × List ℕ) → Type 0
   Same y s calls = (lookRun y calls .0 ≡ fileRun (read room) s calls .0) × (lookRun y calls .1 ≡ readInto x (fileRun (read room) s calls .1))
 
-  looks : (calls : List (ℕ × List ℕ)) (s : List ℕ) (l : List NodeRead) → length s ≤ mostBytes → readText room s ≡ accepted l → Small (read room) s calls
-      → Same (holding x (elementsOf l)) s calls
-  looks [] s l h old k = (refl, ap (λ (r : Reading). holding x (elementsOf (nodesIn r))) (sym (read-small room s h ∙ old)))
+  looks : (calls : List (ℕ × List ℕ)) (s : List ℕ) (l : List Element) → length s ≤ mostBytes → readText room s ≡ accepted l → Small (read room) s calls
+      → Same (holding x l) s calls
+  looks [] s l h old k = (refl, ap (λ (r : Reading). holding x (nodesIn r)) (sym (read-small room s h ∙ old)))
   looks (c ∷ calls) s l h old k =
-      let es : List Element = elementsOf l in
+      let es : List Element = l in
       let w : WholeElements room es = text-elements room s l old in
       let t : Attempt = attempt s (c .0) (c .1) in
       let f : fileCall (read room) s c ≡ fileCall (readText room) s c = call-small room s t (k .0) in
-      let g : Agree room (fileCall (read room) s c) (listCall room es c) = subst (λ (z : Answer × List ℕ). Agree room z (listCall room es c)) (sym f) (one-call room s l old c) in
+      let g : Agree room (fileCall (read room) s c) (listCall room es c) = subst (λ (z : Replacing × List ℕ). Agree room z (listCall room es c)) (sym f) (one-call room s l old c) in
       let a : replaceIn (holding x es) (c .0) (c .1) ≡ replace room es (c .0) (c .1) = replaces x es w (c .0) (c .1) in
-      let b : holding x (elementsOf (g .l)) ≡ lookAfter (holding x es) (replaceIn (holding x es) (c .0) (c .1)) =
+      let b : holding x (g .l) ≡ lookAfter (holding x es) (replaceIn (holding x es) (c .0) (c .1)) =
       ap (holding x) (g .same) ∙ sym (ap (lookAfter (holding x es)) a ∙ after x es w (replace room es (c .0) (c .1))) in
       let i : Same (lookAfter (holding x es) (replaceIn (holding x es) (c .0) (c .1))) (fileCall (read room) s c .1) calls =
       subst (λ (y : Look). Same y (fileCall (read room) s c .1) calls) b
@@ -93,10 +92,10 @@ module _ (x : Look) where
       (λ j. d j ∷ i .0 j, i .1)
 
   -- DEMAND 3
-  pub demand3-look : (s : List ℕ) (l : List NodeRead) (calls : List (ℕ × List ℕ)) → read room s ≡ accepted l → Small (read room) s calls → SameLook x s calls
+  pub demand3-look : (s : List ℕ) (l : List Element) (calls : List (ℕ × List ℕ)) → read room s ≡ accepted l → Small (read room) s calls → SameLook x s calls
   demand3-look s l calls e k =
       let r : Short room s l = read-short room s l e in
-      let i : Same (holding x (elementsOf l)) s calls = looks calls s l (r .most) (r .text) k in
-      let q : holding x (elementsOf l) ≡ readInto x s = ap (λ (z : Reading). holding x (elementsOf (nodesIn z))) (sym e) in
+      let i : Same (holding x l) s calls = looks calls s l (r .most) (r .text) k in
+      let q : holding x l ≡ readInto x s = ap (λ (z : Reading). holding x (nodesIn z)) (sym e) in
       let j : Same (readInto x s) s calls = subst (λ (y : Look). Same y s calls) q i in
       record { answers = j .0; look = j .1; places = runs room calls s l (r .most) (r .text) k .places }

@@ -1,4 +1,5 @@
 -- A node's bytes end with `>`. Assumes nothing.
+use Rattle.process_list.specs.List.{Element}
 use mathlib.Core.Path.{_≡_, refl, sym, ap, _∙_}
 use mathlib.Core.Bool.{Bool, true, false, cond}
 use mathlib.Core.List.{List, [], _∷_, _++_, append-assoc}
@@ -14,8 +15,8 @@ use Rattle.grammar.specs.Grammar.{G, ret, bad, lookTwo, judge, settle, eat, seq
 use Rattle.grammar.specs.Splice.{done-law, bind-inv, strict-inv}
 use Rattle.xml.specs.Bytes.{bytes, same, isSpace, lessThan, slash, exclamation, question, ampersand}
 use Rattle.xml.specs.Xml.{entity, comment, Tag, startTag, openName, endTag}
-use Rattle.xml.specs.Elements.{Part, gap, child, close, markup, between, held, textElement, info}
-use Rattle.clf.specs.Nodes.{NodeRead, nodeRules, arrayHolder, noArray, tableNode, matrixShape, matrix, lutShape, lutNames, lutTexts, lut1d, rangeHolder, noValues, rangeTexts, rangeNode, range, CdlState, cdlHolder, noCdl, cdlRules, cdlContent, cdlNode, ascCdl, NodeName, isMatrix, isLut1d, isRange, isCdl, notCarried, noNode, nodeName, nodeBody}
+use Rattle.xml.specs.Elements.{Part, misc, child, close, markup, between, held, textElement, info}
+use Rattle.clf.specs.Nodes.{nodeRules, arrayHolder, noArray, tableNode, matrixShape, matrix, lutShape, lutNames, lutTexts, lut1d, rangeHolder, noValues, rangeTexts, rangeNode, range, CdlState, cdlHolder, noCdl, cdlRules, cdlContent, cdlNode, ascCdl, NodeName, isMatrix, isLut1d, isRange, isCdl, notCarried, noNode, nodeName, nodeBody}
 use Rattle.clf.specs.List.{Child, node, description, inputDescriptor, outputDescriptor, infoChild, Flags, childFault, childBody, listItem}
 use Rattle.claims.proofs.Closing.{Ended, further, Closes, Stops, closes-last, closes-ret, closes-stops, stops-ret, startTag-closes, held-closes}
 
@@ -54,7 +55,7 @@ node-closes noNode = record { at = λ s a r e. nope cc }
 
 -- ---- a node as an item
 
-child-closes : (w s : List ℕ) (n : NodeRead) (r : List ℕ) → (childBody w) .run s ≡ done (node n) r → Ended s r
+child-closes : (w s : List ℕ) (n : Element) (r : List ℕ) → (childBody w) .run s ≡ done (node n) r → Ended s r
 unfolding childBody
 child-closes w s n r e = go (same w (bytes "Description")) (same w (bytes "InputDescriptor")) (same w (bytes "OutputDescriptor")) (same w (bytes "Info")) e
   where
@@ -67,7 +68,7 @@ child-closes w s n r e = go (same w (bytes "Description")) (same w (bytes "Input
     go false false false true z = let i = bind-inv (info .run) (λ t. retP infoChild) s (node n) r z in nope (cc (i .3))
     go false false false false z = (closes-ret node (node-closes (nodeName w))) .at s (node n) r z
 
-module _ (st : Flags) (n : NodeRead) (r : List ℕ) where
+module _ (st : Flags) (n : Element) (r : List ℕ) where
   abbrev end : G (Unit {0})
   end = endTag (bytes "ProcessList") 0
 
@@ -77,9 +78,9 @@ module _ (st : Flags) (n : NodeRead) (r : List ℕ) where
       inner : G (Part Child)
       inner = seq (judge (childFault st) openName) (λ w. seq (childBody w) (λ v. ret (child v)))
 
-      go : (v w z : Bool) → (cond v (end >> ret close) (cond w (comment >> ret gap) (cond z (bad 3) inner))) .run s ≡ done (child (node n)) r → Ended s r
+      go : (v w z : Bool) → (cond v (end >> ret close) (cond w (comment >> ret misc) (cond z (bad 3) inner))) .run s ≡ done (child (node n)) r → Ended s r
       go true w z f = let i = bind-inv (end .run) (λ u. retP close) s (child (node n)) r f in nope (cc (i .3))
-      go false true z f = let i = bind-inv (comment .run) (λ u. retP gap) s (child (node n)) r f in nope (cc (i .3))
+      go false true z f = let i = bind-inv (comment .run) (λ u. retP misc) s (child (node n)) r f in nope (cc (i .3))
       go false false true f = nope cc
       go false false false f =
           let i = bind-inv ((judge (childFault st) openName) .run) (λ w. (seq (childBody w) (λ v. ret (child v))) .run) s (child (node n)) r f in
@@ -99,14 +100,14 @@ module _ (st : Flags) (n : NodeRead) (r : List ℕ) where
       two (x ∷ []) f = nope cc
       two (x ∷ y ∷ s) f = markup-node x y (x ∷ y ∷ s) (strict-inv ((markup end (childFault st) childBody x y) .run) (x ∷ y ∷ s) (child (node n)) r f)
 
-      go : (v w z : Bool) → (cond v (eat >> ret gap) (cond w (lookTwo (markup end (childFault st) childBody)) (cond z (settle 5 entity >> bad 5) (bad 5)))) .run (b ∷ s) ≡ done (child (node n)) r → Ended (b ∷ s) r
+      go : (v w z : Bool) → (cond v (eat >> ret misc) (cond w (lookTwo (markup end (childFault st) childBody)) (cond z (settle 5 entity >> bad 5) (bad 5)))) .run (b ∷ s) ≡ done (child (node n)) r → Ended (b ∷ s) r
       go true w z f = nope cc
       go false true z f = two (b ∷ s) f
       go false false true f = let i = bind-inv ((settle 5 entity) .run) (λ u. (bad {A = Part Child} 5) .run) (b ∷ s) (child (node n)) r f in nope (cc (i .3))
       go false false false f = nope cc
 
 -- the bytes of a node's item end with `>`
-pub node-end : (st : Flags) (c u : List ℕ) (n : NodeRead) → (listItem st) .run (c ++ u) ≡ done (child (node n)) u → (d : List ℕ) × (c ≡ d ++ 62 ∷ [])
+pub node-end : (st : Flags) (c u : List ℕ) (n : Element) → (listItem st) .run (c ++ u) ≡ done (child (node n)) u → (d : List ℕ) × (c ≡ d ++ 62 ∷ [])
 node-end st c u n e =
     let k : Ended (c ++ u) u = node-item st n u (c ++ u) e in
     let q : c ++ u ≡ (k .c ++ 62 ∷ []) ++ u = k .is ∙ sym (append-assoc (k .c) (62 ∷ []) u) in

@@ -1,4 +1,4 @@
--- What each run of numbers that is read is: as many as asked, each in range and normal, and each within its rule. Assumes nothing.
+-- What each run of numbers that is read is: as many as asked, each in range and isNormal, and each within its rule. Assumes nothing.
 use mathlib.Core.Path.{_≡_, refl}
 use mathlib.Core.Bool.{Bool, true, false, cond}
 use mathlib.Core.List.{List, [], _∷_, _++_}
@@ -12,12 +12,12 @@ use Rattle.decimal.specs.declared.Token.{Token}
 use Rattle.decimal.specs.declared.Token.the-variants.{Number, Malformed}
 use Rattle.decimal.specs.Decimal.{inRange}
 use Rattle.decimal_read.specs.Number.{tokenOf}
-use Rattle.decimal_write.specs.Written.{normal}
+use Rattle.decimal_write.specs.Written.{isNormal}
 use Rattle.decimal_back.specs.Read.{read-held}
 use Rattle.grammar.specs.Grammar.{ret, judge, settle, eat, _>>_}
 use Rattle.xml.specs.Bytes.{same, isSpace, lessThan, greaterThan, slash, exclamation, question}
 use Rattle.xml.specs.Xml.{byte, spaces, comment, openName, closeName, endTag, startTag}
-use Rattle.xml.specs.Elements.{stranger, onlyEnd}
+use Rattle.xml.specs.Elements.{forbidden, onlyEnd}
 use Rattle.clf.specs.Numbers.{token, saidBy, faultOf, numberByte, numbers, valueRules, valueElement}
 use Rattle.claims.proofs.Always.{Holds, holds-all, holds-ret, holds-bad, holds-cond, holds-look, holds-lookTwo, holds-judge, holds-settle, holds-seq, holds-then, TurnHolds, holds-loop}
 
@@ -29,7 +29,7 @@ unfolding endTag
 endTag-holds w missing =
     holds-settle missing (λ q. holds-all (judge (λ n. cond (same n w) 0 2) closeName >> spaces >> byte greaterThan 2 >> ret tt) (λ u. q))
 
-stranger-holds : {A : Type 0} {Q : A → Type 0} (b : ℕ) → Holds Q (stranger b)
+stranger-holds : {A : Type 0} {Q : A → Type 0} (b : ℕ) → Holds Q (forbidden b)
 stranger-holds b =
     holds-cond (eqb b exclamation) (λ z. holds-then (settle 3 comment) (λ a. holds-bad 3))
     (λ z. holds-cond (eqb b question) (λ z. holds-bad 3) (λ z. holds-then (judge (λ w. 5) openName) (λ a. holds-bad 5)))
@@ -56,7 +56,7 @@ each-map P Q (x ∷ l) f e = (f x (e .0), each-map P Q l f (e .1))
 -- a number of our form
 pub record Carried (d : Decimal) : Type 0 where
   pub ranged : inRange d ≡ true
-  pub settled : normal d ≡ true
+  pub settled : isNormal d ≡ true
 
 -- and within a rule
 pub record Kept (rule : Decimal → ℕ) (d : Decimal) : Type 0 where

@@ -8,7 +8,7 @@ use native.Mathlib.Omega.{arith}
 use lib.ListN.{getD, set}
 use Rattle.decimal.specs.declared.Decimal.{Decimal}
 use Rattle.decimal.specs.Decimal as Decimals
-use Rattle.decimal_write.specs.Written.{normal}
+use Rattle.decimal_write.specs.Written.{isNormal}
 use Rattle.process_list.specs.declared.Kind.the-variants.{Range}
 use Rattle.process_list.specs.List.{numbersOf}
 use Rattle.valid.specs.Valid.{shapeRight, rangeHolds, rulesHold, sound}
@@ -24,7 +24,7 @@ use Rattle.claims.proofs.Sound.{Right, sound-by}
 use Rattle.claims.proofs.Tables.{OptHolds}
 
 pub zero-carried : Carried Decimals.zero
-unfolding normal
+unfolding isNormal
 zero-carried = record { ranged = refl; settled = refl }
 
 -- values that are there are numbers of our form
@@ -76,10 +76,10 @@ range-right clamp st v q =
     let at : (i : ℕ) → Carried (valueAt i st) = λ i. value-carried (getD (st .values) i none) (v i) in
     record { shape = refl; count = refl; each = (at 0, (at 1, (at 2, (at 3, tt)))); rules = q }
 
-pub range-holds : Holds (λ n. sound (n .element) ≡ true) range
+pub range-holds : Holds (λ n. sound n ≡ true) range
 unfolding range
 range-holds =
     holds-then (startTag (nodeRules (λ w. 0) rangeTexts))
     (λ tag. holds-seq (Ended rangeHolder Begun (λ st v w h q. body-holds st v w)) (held-holds rangeHolder Begun (λ st v w h q. body-holds st v w) none-yet)
-    (λ st e. holds-ret (sound-by (rangeNode (tag .attributes) st .element)
+    (λ st e. holds-ret (sound-by (rangeNode (tag .attributes) st)
     (range-right (not (same (textOf (bytes "style") (tag .attributes)) (bytes "noClamp"))) st (e .state) (in-order st (e .nothing))))))

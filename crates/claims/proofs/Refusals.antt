@@ -10,16 +10,16 @@ use lib.ListN.{length}
 use borrow.Author.Tests.{ltb-true}
 use Rattle.process_list.specs.declared.Verdict.{Verdict}
 use Rattle.process_list.specs.declared.Verdict.the-variants.{Accepted, NoNode, TooManyNodes, DepthDiffers, TooManyNumbers}
-use Rattle.process_list.specs.List.{verdict}
+use Rattle.process_list.specs.List.{Element, verdict}
 use Rattle.grammar.specs.Parse.{Out, done, fault, cut, thenOut, verdict as judgement, judgeOut, turnOut, loopP}
 use Rattle.grammar.specs.Laws.{nope, loop-step}
 use Rattle.grammar.specs.Grammar.{bad, added}
 use Rattle.xml.specs.Bytes.{bytes, same}
 use Rattle.xml.specs.Xml.{isNamed, Tag, strayEnd}
 use Rattle.xml.specs.Elements.{Part, between, info}
-use Rattle.clf.specs.Nodes.{NodeRead, NodeName, nodeName, nodeFault, nodeBody}
+use Rattle.clf.specs.Nodes.{NodeName, nodeName, nodeFault, nodeBody}
 use Rattle.clf.specs.List.{declaration, node, description, inputDescriptor, outputDescriptor, infoChild, Flags, noFlags, childFault, childBody, listItem, nextFlags, listRules, rootFault, toRoot, prologue, head, Document, listContent, document, onward, tailPart, tail}
-use Rattle.clf.specs.Reading.{Reading, accepted, faulty, mostBytes, numberOf, nodesOf, elementsOf, placeIn, byVerdict, listReading, tailReading, textReading, readText, read}
+use Rattle.clf.specs.Reading.{Reading, accepted, faulty, mostBytes, readingNumber, nodesAmong, placeIn, byVerdict, listReading, tailReading, textReading, readText, read}
 use Rattle.claims.specs.Refusals.{isTextFault, isListFault, Answered, whole, short, text, list}
 use Rattle.look.specs.Replacing.{start, element}
 use Rattle.claims.proofs.Faults.{fair-zero, fair-by, fair-cond, blames-ret, blames-bad, blames-cond, blames-strict, blames-blame, blames-kept, blames-word, blames-seq, blames-loop}
@@ -109,19 +109,19 @@ tail-well s k r e = tail-all (suc (length s)) s k r (omega arith) e
 
 -- ---- reading
 
-by-verdict : (n : ℕ) (l : List NodeRead) (v : Verdict) → Answered n (byVerdict l v)
+by-verdict : (n : ℕ) (l : List Element) (v : Verdict) → Answered n (byVerdict l v)
 by-verdict n l Accepted = whole l
 by-verdict n l NoNode = list 12 0 refl
 by-verdict n l TooManyNodes = list 11 33 refl
 by-verdict n l (DepthDiffers k) = list 10 k refl
 by-verdict n l TooManyNumbers = list 13 0 refl
 
-by-list : (n room : ℕ) (l : List NodeRead) → Answered n (listReading room l)
+by-list : (n room : ℕ) (l : List Element) → Answered n (listReading room l)
 unfolding listReading
-by-list n room l = by-verdict n l (verdict room (elementsOf l))
+by-list n room l = by-verdict n l (verdict room l)
 
 by-tail : (room : ℕ) (s : List ℕ) (d : Document) (u : List ℕ) (o : Out (Unit {0})) → tail u ≡ o → Answered (length s) (tailReading room s d o)
-by-tail room s d u (done a r) q = by-list (length s) room (nodesOf (d .parts))
+by-tail room s d u (done a r) q = by-list (length s) room (nodesAmong (d .parts))
 by-tail room s d u (fault k r) q = text k (placeIn s r) (tail-well u k r q) (omega arith)
 by-tail room s d u cut q = short
 
@@ -151,16 +151,16 @@ element-faults e k r q = go (start .run e) refl q
 
 -- ---- the number is 0 for an accepted file alone
 
-by-number : (n : ℕ) (x : Reading) → Answered n x → numberOf x ≡ 0 → (l : List NodeRead) × (x ≡ accepted l)
+by-number : (n : ℕ) (x : Reading) → Answered n x → readingNumber x ≡ 0 → (l : List Element) × (x ≡ accepted l)
 by-number n x (whole l) z = (l, refl)
 by-number n x short z = absurd (omega arith)
 by-number n x (text k p t i) z = let f : false ≡ true = sym (ap isTextFault z) ∙ t in nope cc
 by-number n x (list k p t) z = let f : false ≡ true = sym (ap isListFault z) ∙ t in nope cc
 
-pub number-accepted : (room : ℕ) (s : List ℕ) → numberOf (read room s) ≡ 0 → (l : List NodeRead) × (read room s ≡ accepted l)
+pub number-accepted : (room : ℕ) (s : List ℕ) → readingNumber (read room s) ≡ 0 → (l : List Element) × (read room s ≡ accepted l)
 unfolding read
 number-accepted room s = go (ltb mostBytes (length s))
   where
-    go : (b : Bool) → numberOf (cond b (faulty 4 0) (readText room s)) ≡ 0 → (l : List NodeRead) × (cond b (faulty 4 0) (readText room s) ≡ accepted l)
+    go : (b : Bool) → readingNumber (cond b (faulty 4 0) (readText room s)) ≡ 0 → (l : List Element) × (cond b (faulty 4 0) (readText room s) ≡ accepted l)
     go true z = absurd (omega arith)
     go false z = by-number (length s) (readText room s) (answered room s) z

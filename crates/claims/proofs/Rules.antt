@@ -15,19 +15,18 @@ use Rattle.room.specs.Room.{Room, roomLength, filledWith}
 use Rattle.valid.specs.Valid.{every, sound, isValid}
 use Rattle.valid.proofs.Readings.{all-length, made}
 use Rattle.grammar.specs.Laws.{nope}
-use Rattle.clf.specs.Nodes.{NodeRead}
-use Rattle.clf.specs.Reading.{accepted, faulty, mostBytes, elementsOf, numbersIn, readText, read}
-use Rattle.claims.specs.Rules.{AllRules}
+use Rattle.clf.specs.Reading.{accepted, faulty, mostBytes, readText, read}
+use Rattle.claims.specs.Rules.{Allowed}
 use Rattle.claims.proofs.Numbers.{Each}
 use Rattle.claims.proofs.Sound.{every-true}
 use Rattle.claims.proofs.Accepted.{SoundNode, Whole, text-whole}
 
 -- what is accepted is at most 16 MiB, and accepted without that limit
-pub record Short (room : ℕ) (s : List ℕ) (l : List NodeRead) : Type 0 where
+pub record Short (room : ℕ) (s : List ℕ) (l : List Element) : Type 0 where
   pub most : length s ≤ mostBytes
   pub text : readText room s ≡ accepted l
 
-pub read-short : (room : ℕ) (s : List ℕ) (l : List NodeRead) → read room s ≡ accepted l → Short room s l
+pub read-short : (room : ℕ) (s : List ℕ) (l : List Element) → read room s ≡ accepted l → Short room s l
 unfolding read
 read-short room s l e = go (ltb mostBytes (length s)) refl e
   where
@@ -40,43 +39,33 @@ pub record WholeElements (room : ℕ) (es : List Element) : Type 0 where
   pub sounds : every sound es ≡ true
   pub fits : verdict room es ≡ Accepted
 
-each-elements : (l : List NodeRead) → Each SoundNode l → Each (λ e. sound e ≡ true) (elementsOf l)
-each-elements [] h = tt
-each-elements (m ∷ l) h = (h .0, each-elements l (h .1))
-
-pub text-elements : (room : ℕ) (s : List ℕ) (l : List NodeRead) → readText room s ≡ accepted l → WholeElements room (elementsOf l)
+pub text-elements : (room : ℕ) (s : List ℕ) (l : List Element) → readText room s ≡ accepted l → WholeElements room l
 text-elements room s l e =
     let w : Whole room l = text-whole room s l e in
-    record { sounds = every-true sound (elementsOf l) (each-elements l (w .nodes)); fits = w .fits }
+    record { sounds = every-true sound l (w .nodes); fits = w .fits }
 
-whole-rules : (room : ℕ) (l : List NodeRead) → WholeElements room (elementsOf l) → AllRules room l
+pub whole-rules : (room : ℕ) (l : List Element) → WholeElements room l → Allowed room l
 unfolding verdict
 whole-rules room l w =
-    let f : Fine room (map nodeOf (elementsOf l)) = accepted-fine room (map nodeOf (elementsOf l)) (w .fits) in
-    let n : length (map nodeOf (elementsOf l)) ≡ length l = heads-length (elementsOf l) ∙ length-map l (λ (m : NodeRead). m .element) in
+    let f : Fine room (map nodeOf l) = accepted-fine room (map nodeOf l) (w .fits) in
+    let n : length (map nodeOf l) ≡ length l = heads-length l in
     record {
       some = omega (arith, f .some);
       few = omega (arith, f .few);
       chained = f .chained;
-      holds = omega (arith, f .holds, all-length (elementsOf l) (w .sounds));
+      holds = omega (arith, f .holds, all-length l (w .sounds));
       nodes = w .sounds;
     }
 
--- ALL RULES
-pub accepted-text-rules : (room : ℕ) (s : List ℕ) (l : List NodeRead) → readText room s ≡ accepted l → AllRules room l
+-- every accepted list keeps the rules
+pub accepted-text-rules : (room : ℕ) (s : List ℕ) (l : List Element) → readText room s ≡ accepted l → Allowed room l
 accepted-text-rules room s l e = whole-rules room l (text-elements room s l e)
 
-pub accepted-rules : (room : ℕ) (s : List ℕ) (l : List NodeRead) → read room s ≡ accepted l → AllRules room l
+pub accepted-rules : (room : ℕ) (s : List ℕ) (l : List Element) → read room s ≡ accepted l → Allowed room l
 accepted-rules room s l e = accepted-text-rules room s l (read-short room s l e .text)
 
 -- READ IMPLIES VALID: the list, and the room m, as an accepted reading leaves them
-pub accepted-valid : (m : Room) (s : List ℕ) (l : List NodeRead) → read (roomLength m) s ≡ accepted l → isValid (listOf (placed (elementsOf l))) (filledWith (allNumbers (elementsOf l)) m) ≡ true
+pub accepted-valid : (m : Room) (s : List ℕ) (l : List Element) → read (roomLength m) s ≡ accepted l → isValid (listOf (placed l)) (filledWith (allNumbers l) m) ≡ true
 accepted-valid m s l e =
-    let w : WholeElements (roomLength m) (elementsOf l) = text-elements (roomLength m) s l (read-short (roomLength m) s l e .text) in
-    made m (elementsOf l) (w .sounds) (w .fits)
-
--- the numbers of the nodes are those of their elements
-pub numbers-in : (l : List NodeRead) → numbersIn l ≡ allNumbers (elementsOf l)
-unfolding numbersIn allNumbers
-numbers-in [] = refl
-numbers-in (m ∷ l) = ap (λ (x : List Decimal). m .element .numbers ++ x) (numbers-in l)
+    let w : WholeElements (roomLength m) l = text-elements (roomLength m) s l (read-short (roomLength m) s l e .text) in
+    made m l (w .sounds) (w .fits)

@@ -1,4 +1,5 @@
 -- THE SPLICE LAW: an accepted file with other bytes where node k's element stood is read as it was before them, as these bytes alone, and as it was after them. Assumes nothing.
+use Rattle.process_list.specs.List.{Element}
 use mathlib.Core.Path.{_≡_, refl, sym, ap, _∙_, subst}
 use mathlib.Core.Bool.{false}
 use mathlib.Core.List.{List, [], _∷_, _++_, append-assoc}
@@ -11,9 +12,8 @@ use Rattle.grammar.specs.Laws.{nope}
 use Rattle.grammar.specs.Splice.{flat, turns, fault-law}
 use Rattle.xml.specs.Xml.{Tag}
 use Rattle.xml.specs.Elements.{child}
-use Rattle.clf.specs.Nodes.{NodeRead}
 use Rattle.clf.specs.List.{node, Flags, noFlags, listItem, nextFlags, head, Document, listContent, document, tail}
-use Rattle.clf.specs.Reading.{accepted, faulty, nodesOf, placeIn, listReading, tailReading, textReading, readText}
+use Rattle.clf.specs.Reading.{accepted, faulty, nodesAmong, placeIn, listReading, tailReading, textReading, readText}
 use Rattle.look.specs.Replacing.{element}
 use Rattle.clf.specs.Places.{spanDocument, nodeSpan}
 use Rattle.claims.specs.TriedFile.{spliced}
@@ -23,27 +23,27 @@ use Rattle.claims.proofs.Found.{Items, Found, find, Parts, parts, with-
 use Rattle.claims.proofs.Tried.{content-items, file, node-c, node-last, tried-is, tried-done, tried-fault}
 
 -- ---- an accepted file is a document, and what stands behind it is read whatever the document is
-pub record Opened (room : ℕ) (s : List ℕ) (l : List NodeRead) : Type 0 where
+pub record Opened (room : ℕ) (s : List ℕ) (l : List Element) : Type 0 where
   pub d : Document
   pub r : List ℕ
   pub is : document .run s ≡ done d r
-  pub rest : (z : List ℕ) (c : Document) → tailReading room z c (tail r) ≡ listReading room (nodesOf (c .parts))
-  pub same : nodesOf (d .parts) ≡ l
+  pub rest : (z : List ℕ) (c : Document) → tailReading room z c (tail r) ≡ listReading room (nodesAmong (c .parts))
+  pub same : nodesAmong (d .parts) ≡ l
 
-tail-done : (room : ℕ) (s : List ℕ) (d : Document) (l : List NodeRead) (o : Out (Unit {0})) → tailReading room s d o ≡ accepted l
-    → (z : List ℕ) (c : Document) → tailReading room z c o ≡ listReading room (nodesOf (c .parts))
+tail-done : (room : ℕ) (s : List ℕ) (d : Document) (l : List Element) (o : Out (Unit {0})) → tailReading room s d o ≡ accepted l
+    → (z : List ℕ) (c : Document) → tailReading room z c o ≡ listReading room (nodesAmong (c .parts))
 tail-done room s d l (done u r) e z c = refl
 tail-done room s d l (fault k r) e z c = nope cc
 tail-done room s d l cut e z c = nope cc
 
-pub opened : (room : ℕ) (s : List ℕ) (l : List NodeRead) → readText room s ≡ accepted l → Opened room s l
+pub opened : (room : ℕ) (s : List ℕ) (l : List Element) → readText room s ≡ accepted l → Opened room s l
 unfolding readText
 opened room s l e = go (document .run s) refl e
   where
     go : (o : Out Document) → document .run s ≡ o → textReading room s o ≡ accepted l → Opened room s l
     go (done d r) q z =
         let rest = tail-done room s d l (tail r) z in
-        record { d = d; r = r; is = q; rest = rest; same = judged-same room (nodesOf (d .parts)) l (sym (rest s d) ∙ z) .0 }
+        record { d = d; r = r; is = q; rest = rest; same = judged-same room (nodesAmong (d .parts)) l (sym (rest s d) ∙ z) .0 }
     go (fault k r) q z = nope cc
     go cut q z = nope cc
 
@@ -55,12 +55,12 @@ pub record NodeBytes (c : List ℕ) : Type 0 where
   pub ends : c ≡ before ++ 62 ∷ []
 
 -- ---- node k, from 0, in an accepted file
-record Stands (room : ℕ) (s : List ℕ) (l : List NodeRead) (k : ℕ) : Type 0 where
+record Stands (room : ℕ) (s : List ℕ) (l : List Element) (k : ℕ) : Type 0 where
   h : List ℕ
   tag : Tag
   u : List ℕ
   bs : Items
-  n : NodeRead
+  n : Element
   c : List ℕ
   xs : Items
   r : List ℕ
@@ -68,14 +68,14 @@ record Stands (room : ℕ) (s : List ℕ) (l : List NodeRead) (k : ℕ) : Type 0
   full : tag .empty ≡ false
   body : turns listItem nextFlags noFlags u ≡ done (bs ++ (child (node n), c) ∷ xs) r
   at : nodeSpan s k ≡ (length h + length (flat bs), length c)
-  put : (m : NodeRead) (e : List ℕ) → nodesOf (bs ++ (child (node m), e) ∷ xs) ≡ set l k m
-  rest : (z : List ℕ) (d : Document) → tailReading room z d (tail r) ≡ listReading room (nodesOf (d .parts))
+  put : (m : Element) (e : List ℕ) → nodesAmong (bs ++ (child (node m), e) ∷ xs) ≡ set l k m
+  rest : (z : List ℕ) (d : Document) → tailReading room z d (tail r) ≡ listReading room (nodesAmong (d .parts))
 
-stands : (room : ℕ) (s : List ℕ) (l : List NodeRead) (k : ℕ) → Opened room s l → k < length l → Stands room s l k
+stands : (room : ℕ) (s : List ℕ) (l : List Element) (k : ℕ) → Opened room s l → k < length l → Stands room s l k
 unfolding nodeSpan
 stands room s l k o h =
     let p : Parts s (o .d) (o .r) = parts s (o .d) (o .r) (o .is) in
-    let f : Found (o .d .parts) k = find (o .d .parts) k (subst (λ (m : List NodeRead). k < length m) (sym (o .same)) h) in
+    let f : Found (o .d .parts) k = find (o .d .parts) k (subst (λ (m : List Element). k < length m) (sym (o .same)) h) in
     let b : (listContent (p .tag)) .run (p .u) ≡ done (f .bs ++ (child (node (f .n)), f .c) ∷ f .xs) (o .r) = p .body ∙ ap (λ (x : Items). done x (o .r)) (f .is) in
     let full : p .tag .empty ≡ false = with-node (p .tag) (p .u) (f .bs) (child (node (f .n)), f .c) (f .xs) (o .r) b in
     record {
@@ -91,12 +91,12 @@ stands room s l k o h =
       full = full;
       body = sym (content-items (p .tag) full (p .u)) ∙ b;
       at = ap (spanDocument k) (o .is) ∙ f .at (length (o .d .start));
-      put = λ m e. f .put m e ∙ ap (λ (x : List NodeRead). set x k m) (o .same);
+      put = λ m e. f .put m e ∙ ap (λ (x : List Element). set x k m) (o .same);
       rest = o .rest;
     }
 
 -- ---- the file with e in its place
-module _ (room : ℕ) (s : List ℕ) (l : List NodeRead) (k : ℕ) (p : Stands room s l k) where
+module _ (room : ℕ) (s : List ℕ) (l : List Element) (k : ℕ) (p : Stands room s l k) where
   tried : List ℕ → List ℕ
   tried e = p .h ++ (flat (p .bs) ++ (e ++ (flat (p .xs) ++ p .r)))
 
@@ -104,7 +104,7 @@ module _ (room : ℕ) (s : List ℕ) (l : List NodeRead) (k : ℕ) (p : Stands r
   unfolding tried
   spliced-is e = ap (λ (w : ℕ × ℕ). spliced s w e) (p .at) ∙ tried-is s (p .h) (p .tag) (p .u) (p .bs) (p .n) (p .c) (p .xs) (p .r) (p .start) (p .full) (p .body) e
 
-  reads-done : (d : List ℕ) (m : NodeRead) → ((v : Flags) → (listItem v) .run (60 ∷ d) ≡ done (child (node m)) []) → readText room (spliced s (nodeSpan s k) (60 ∷ d)) ≡ listReading room (set l k m)
+  reads-done : (d : List ℕ) (m : Element) → ((v : Flags) → (listItem v) .run (60 ∷ d) ≡ done (child (node m)) []) → readText room (spliced s (nodeSpan s k) (60 ∷ d)) ≡ listReading room (set l k m)
   unfolding readText tried
   reads-done d m q =
       ap (λ (z : List ℕ). textReading room z (document .run z)) (spliced-is (60 ∷ d))
@@ -129,7 +129,7 @@ module _ (room : ℕ) (s : List ℕ) (l : List NodeRead) (k : ℕ) (p : Stands r
       ∙ ap (faulty j) (place-there (60 ∷ d) w x f)
 
 -- what the node's place holds
-span-bytes : (room : ℕ) (s : List ℕ) (l : List NodeRead) (k : ℕ) (p : Stands room s l k) → take (nodeSpan s k .1) (drop (nodeSpan s k .0) s) ≡ p .c
+span-bytes : (room : ℕ) (s : List ℕ) (l : List Element) (k : ℕ) (p : Stands room s l k) → take (nodeSpan s k .1) (drop (nodeSpan s k .0) s) ≡ p .c
 span-bytes room s l k p =
     let a : List ℕ = flat (p .xs) ++ p .r in
     let f : s ≡ p .h ++ (flat (p .bs) ++ (p .c ++ a)) = file s (p .h) (p .tag) (p .u) (p .bs) (p .n) (p .c) (p .xs) (p .r) (p .start) (p .full) (p .body) in
@@ -139,7 +139,7 @@ span-bytes room s l k p =
     ∙ ap (take (length (p .c))) (drop-at (p .h ++ flat (p .bs)) (p .c ++ a) (length (p .h) + length (flat (p .bs))) (length-append (p .h) (flat (p .bs))))
     ∙ take-at (p .c) a (length (p .c)) refl
 
-module _ (room : ℕ) (s : List ℕ) (l : List NodeRead) (k : ℕ) (old : readText room s ≡ accepted l) (there : k < length l) where
+module _ (room : ℕ) (s : List ℕ) (l : List Element) (k : ℕ) (old : readText room s ≡ accepted l) (there : k < length l) where
   here : Stands room s l k
   here = stands room s l k (opened room s l old) there
 
@@ -153,7 +153,7 @@ module _ (room : ℕ) (s : List ℕ) (l : List NodeRead) (k : ℕ) (old : readTe
       record { behind = a .0; starts = q ∙ a .1; before = b .0; ends = q ∙ b .1 }
 
   -- e alone is one node: the file's list is the same but for that node, and is judged anew
-  pub spliced-done : (e : List ℕ) (m : NodeRead) → element .run e ≡ done m [] → readText room (spliced s (nodeSpan s k) e) ≡ listReading room (set l k m)
+  pub spliced-done : (e : List ℕ) (m : Element) → element .run e ≡ done m [] → readText room (spliced s (nodeSpan s k) e) ≡ listReading room (set l k m)
   spliced-done e m q = go (view e)
     where
       go : View e → readText room (spliced s (nodeSpan s k) e) ≡ listReading room (set l k m)

@@ -1,4 +1,5 @@
 -- Examples of what the bytes of an element alone are: the refusal number and place that each gives, 0 for none. Assumes nothing.
+use Rattle.process_list.specs.List.{Element}
 use mathlib.Core.Path.{_≡_, refl}
 use mathlib.Core.List.{List, [], _∷_, map}
 use Prim.Native.Nat.{ℕ}
@@ -6,11 +7,11 @@ use lib.ListN.{length}
 use Rattle.grammar.specs.Parse.{Out, done, fault, cut, loopP}
 use Rattle.xml.specs.Bytes.{bytes, same, isSpace, isLetter, isDigit, isNameByte, isQuote}
 use Rattle.xml.specs.Xml.{spaces, name, text, attribute, isNamed, startTag}
-use Rattle.clf.specs.Nodes.{NodeRead, depthOf, matrix, range, lut1d, ascCdl}
+use Rattle.clf.specs.Nodes.{depthOf, matrix, range, lut1d, ascCdl}
 use Rattle.clf.specs.Reading.{placeIn}
 use Rattle.look.specs.Replacing.{start, element}
 
-abbrev pub answer : List ℕ → Out NodeRead → ℕ × ℕ
+abbrev pub answer : List ℕ → Out Element → ℕ × ℕ
 answer e (done n r) = (0, placeIn e r)
 answer e (fault k r) = (k, placeIn e r)
 answer e cut = (1, length e)

@@ -59,10 +59,10 @@ module _ (shape : List ℕ → Option Kind) where
 
   module _ (w : List ℕ) (right : (dim : List ℕ) (k : Kind) → shape dim ≡ some k → Plain k) where
     table-right : (l : List Attribute) (o : Option Table) → OptHolds (Tabled shape) o → _≡_ {A = ℕ} (cond (isSome o) 0 5) 0
-        → sound (tableNode l (record { table = o }) .element) ≡ true
+        → sound (tableNode l (record { table = o })) ≡ true
     table-right l none i z = absurd (omega arith)
     table-right l (some t) i z =
-        sound-by (tableNode l (record { table = some t }) .element)
+        sound-by (tableNode l (record { table = some t }))
         (record {
           shape = right (i .dim) (t .0) (i .shaped) .shape;
           count = i .counted .count;
@@ -70,7 +70,7 @@ module _ (shape : List ℕ → Option Kind) where
           rules = right (i .dim) (t .0) (i .shaped) .rules (t .1);
         })
 
-    pub table-holds : (l : List Attribute) → Holds (λ n. sound (n .element) ≡ true) (seq (held (arrayHolder w shape) noArray) (λ st. ret (tableNode l st)))
+    pub table-holds : (l : List Attribute) → Holds (λ n. sound n ≡ true) (seq (held (arrayHolder w shape) noArray) (λ st. ret (tableNode l st)))
     table-holds l =
         holds-seq (Ended (arrayHolder w shape) Begun (λ st i v h q. body-holds st i v))
         (held-holds (arrayHolder w shape) Begun (λ st i v h q. body-holds st i v) tt)
@@ -122,10 +122,10 @@ lut-right dim k e = go (not (beginsWithZero dim)) (leb 2 n) (leb n 65536) (ltb 0
     go true false d f p q r z = nope cc
     go false b d f p q r z = nope cc
 
-pub matrix-holds : Holds (λ n. sound (n .element) ≡ true) matrix
+pub matrix-holds : Holds (λ n. sound n ≡ true) matrix
 unfolding matrix
 matrix-holds = holds-then (startTag (nodeRules (λ w. 0) (λ w t. 0))) (λ tag. table-holds matrixShape (bytes "Matrix") matrix-right (tag .attributes))
 
-pub lut1d-holds : Holds (λ n. sound (n .element) ≡ true) lut1d
+pub lut1d-holds : Holds (λ n. sound n ≡ true) lut1d
 unfolding lut1d
 lut1d-holds = holds-then (startTag (nodeRules lutNames lutTexts)) (λ tag. table-holds lutShape (bytes "LUT1D") lut-right (tag .attributes))

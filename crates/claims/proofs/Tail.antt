@@ -7,7 +7,7 @@ use native.Mathlib.Omega.{arith}
 use borrow.Author.Tests.{le-ltb}
 use lib.ListN.{length, length-append}
 use Rattle.grammar.specs.Parse.{Out, done, fault, cut, turnOut, loopP}
-use Rattle.grammar.specs.Laws.{Follows, follows-self, follows-refl, Answer, cuts, faults, dones, loop-step, loop-again, loop-last, loop-fault, loop-cut}
+use Rattle.grammar.specs.Laws.{Follows, follows-self, follows-refl, StrongPrefix, cuts, faults, dones, loop-step, loop-again, loop-last, loop-fault, loop-cut}
 use Rattle.grammar.specs.Grammar.{G, bad}
 use Rattle.xml.specs.Xml.{strayEnd}
 use Rattle.xml.specs.Elements.{Part, between}
@@ -58,7 +58,7 @@ module _ (s : List ℕ) (x : ℕ) (c r : List ℕ) (e : s ≡ x ∷ c ++ r) (h :
       atFault k ((x ∷ c) ++ c₂) r₂ (e ∙ ap (λ (l : List ℕ). x ∷ c ++ l) e₂ ∙ sym (append-assoc (x ∷ c) c₂ r₂)) (λ t. on t ∙ h₂ t)
   tail-on (whole q g) = whole (ap tail e ∙ h r (follows-refl r) ∙ q) (λ t. on t ∙ g t)
 
-tail-by : (n : ℕ) → ((s : List ℕ) → length s < n → Tailed s) → (b : ℕ) (s : List ℕ) → length s < n → Answer (part .run) (b ∷ s) → Tailed (b ∷ s)
+tail-by : (n : ℕ) → ((s : List ℕ) → length s < n → Tailed s) → (b : ℕ) (s : List ℕ) → length s < n → StrongPrefix (part .run) (b ∷ s) → Tailed (b ∷ s)
 tail-by n ih b s l (cuts q) = short (part-cut b s q)
 tail-by n ih b s l (faults k c r e h) = atFault k c r e (λ t. part-fault b (s ++ t) k (r ++ t) (h t))
 tail-by n ih b s l (dones p [] r e h) =

@@ -1,4 +1,5 @@
 -- A file with other bytes where a node's element stood, as a document. Assumes nothing.
+use Rattle.process_list.specs.List.{Element}
 use mathlib.Core.Path.{_≡_, refl, sym, ap, _∙_, subst}
 use mathlib.Core.Bool.{false}
 use mathlib.Core.List.{List, [], _∷_, _++_, append-assoc}
@@ -10,7 +11,6 @@ use Rattle.grammar.specs.Laws.{Follows, follows-app}
 use Rattle.grammar.specs.Splice.{kept-law, kept-done, flat, turns, Alone, turn-at, splice-file, splice-done, splice-fault}
 use Rattle.xml.specs.Xml.{Tag}
 use Rattle.xml.specs.Elements.{child}
-use Rattle.clf.specs.Nodes.{NodeRead}
 use Rattle.clf.specs.List.{node, Flags, noFlags, listItem, nextFlags, head, listContent, document}
 use Rattle.claims.specs.TriedFile.{spliced}
 use Rattle.claims.proofs.Found.{Items, node-bytes}
@@ -35,7 +35,7 @@ pub content-items : (tag : Tag) → tag .empty ≡ false → (u : List ℕ) → 
 content-items tag q u = rw q
 
 -- s is h, then the items bs, a node's bytes c, the items xs, and r
-module _ (s h : List ℕ) (tag : Tag) (u : List ℕ) (bs : Items) (n : NodeRead) (c : List ℕ) (xs : Items) (r : List ℕ)
+module _ (s h : List ℕ) (tag : Tag) (u : List ℕ) (bs : Items) (n : Element) (c : List ℕ) (xs : Items) (r : List ℕ)
     (start : keptP (head .run) s ≡ done (tag, h) u) (full : tag .empty ≡ false) (body : turns listItem nextFlags noFlags u ≡ done (bs ++ (child (node n), c) ∷ xs) r) where
   abbrev after : List ℕ
   after = flat xs ++ r
@@ -84,7 +84,7 @@ module _ (s h : List ℕ) (tag : Tag) (u : List ℕ) (bs : Items) (n : NodeRead)
       kept-done (head .run) h tag t ((kept-law (head .run) s (tag, h) u (head .law s) start) .1 t f)
 
   -- the new bytes are one node: the document is the same but for that node
-  pub tried-done : (d : List ℕ) (m : NodeRead) → ((v : Flags) → (listItem v) .run (60 ∷ d) ≡ done (child (node m)) [])
+  pub tried-done : (d : List ℕ) (m : Element) → ((v : Flags) → (listItem v) .run (60 ∷ d) ≡ done (child (node m)) [])
       → document .run (tried (60 ∷ d)) ≡ done (record { start = h; parts = bs ++ (child (node m), 60 ∷ d) ∷ xs }) r
   tried-done d m q =
       document-done (tried (60 ∷ d)) h tag (flat bs ++ ((60 ∷ d) ++ after)) (bs ++ (child (node m), 60 ∷ d) ∷ xs) r (tried-head d)

@@ -1,4 +1,5 @@
 -- The bytes of an element: cut, 20, or an item of ProcessList with the element's own answer. Assumes nothing.
+use Rattle.process_list.specs.List.{Element}
 use mathlib.Core.Path.{_≡_, refl, sym, ap, _∙_, subst}
 use mathlib.Core.Bool.{Bool, true, false, cond}
 use mathlib.Core.List.{List, _∷_, _++_}
@@ -11,7 +12,7 @@ use Rattle.grammar.specs.Splice.{done-law}
 use Rattle.xml.specs.Bytes.{isSpace, isLetter, isNameByte, slash, exclamation, question}
 use Rattle.xml.specs.Xml.{openName}
 use Rattle.xml.specs.Elements.{Part, child, between}
-use Rattle.clf.specs.Nodes.{NodeRead, NodeName, nodeFault, nodeBody}
+use Rattle.clf.specs.Nodes.{NodeName, nodeFault, nodeBody}
 use Rattle.clf.specs.List.{Child, node, Flags, childFault, childBody, listItem}
 use Rattle.look.specs.Replacing.{start, element}
 use Rattle.claims.proofs.Element.{name-is, letter-not, NodeWord, Started, start-done, start-blames, start-place}
@@ -20,7 +21,7 @@ use Rattle.claims.proofs.Element.{name-is, letter-not, NodeWord, Starte
 abbrev asChild : List ℕ → Parser (Part Child)
 asChild w s = thenOut ((childBody w) .run s) (λ v. retP (child v))
 
-abbrev pub asItem : Out NodeRead → Out (Part Child)
+abbrev pub asItem : Out Element → Out (Part Child)
 asItem o = thenOut o (λ m. retP (child (node m)))
 
 not-slash : isLetter slash ≡ false
@@ -47,7 +48,7 @@ name-open c w n b t k h = name-is b t h c w (k .letter) (k .named)
 
 module _ (c : ℕ) (w : List ℕ) (n : NodeName) (k : NodeWord c w n) (u e : List ℕ) (shorter : length u < length e) where
   -- what stands behind the name
-  by-body : (o : Out NodeRead) → (nodeBody n) .run u ≡ o → strictOut (thenOut (thenOut o (λ m. retP (node m))) (λ v. retP (child v))) e ≡ asItem o
+  by-body : (o : Out Element) → (nodeBody n) .run u ≡ o → strictOut (thenOut (thenOut o (λ m. retP (node m))) (λ v. retP (child v))) e ≡ asItem o
   by-body (done m r) q =
       let h = done-law ((nodeBody n) .run) u m r ((nodeBody n) .law u) q in
       ap (λ (v : Bool). cond v (done (child (node m)) r) cut) (lt-ltb (length r) (length e) (omega (arith, ap length (h .1), length-append (h .0) r)))

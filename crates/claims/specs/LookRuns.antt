@@ -2,21 +2,21 @@
 use mathlib.Core.Path.{_≡_}
 use mathlib.Core.List.{List, [], _∷_}
 use Prim.Native.Nat.{ℕ}
-use Rattle.clf.specs.Reading.{elementsOf, nodesIn, read}
-use Rattle.look.specs.Replacing.{Answer}
+use Rattle.clf.specs.Reading.{nodesIn, read}
+use Rattle.look.specs.Replacing.{Replacing}
 use Rattle.look.specs.Look.{Look, roomOf, holding, replaceIn, lookAfter}
 use Rattle.claims.specs.TriedFile.{fileRun, AllInElement}
 
 -- what a reading leaves: 'A refused reading gives no nodes and zeroed room'
 abbrev pub readInto : Look → List ℕ → Look
-readInto x s = holding x (elementsOf (nodesIn (read (roomOf x) s)))
+readInto x s = holding x (nodesIn (read (roomOf x) s))
 
 -- a run of calls: the answers, and the look after them
-abbrev pub lookRun : Look → List (ℕ × List ℕ) → List Answer × Look
+abbrev pub lookRun : Look → List (ℕ × List ℕ) → List Replacing × Look
 lookRun x [] = ([], x)
 lookRun x (c ∷ calls) =
-    let a : Answer = replaceIn x (c .0) (c .1) in
-    let z : List Answer × Look = lookRun (lookAfter x a) calls in
+    let a : Replacing = replaceIn x (c .0) (c .1) in
+    let z : List Replacing × Look = lookRun (lookAfter x a) calls in
     (a ∷ z .0, z .1)
 
 -- DEMAND 3, over list and room: the file s is read into x, then the calls are made. The answers are those of the tried files; and list and room are

@@ -1,10 +1,10 @@
 -- The refusal numbers of a reading (document 01, Refusal numbers).
+use Rattle.process_list.specs.List.{Element}
 use mathlib.Core.Path.{_≡_}
 use mathlib.Core.Bool.{Bool, true, _||_}
 use mathlib.Core.List.{List}
 use Prim.Native.Nat.{ℕ, _≤_}
 use lib.Dec.{eqb}
-use Rattle.clf.specs.Nodes.{NodeRead}
 use Rattle.clf.specs.Reading.{Reading, accepted, faulty, unfit}
 
 -- the numbers of a fault in the text: 2, 3, 5 to 9, 21 and 22
@@ -17,7 +17,7 @@ isListFault k = eqb k 10 || (eqb k 11 || (eqb k 12 || eqb k 13))
 
 -- what a text of this length can answer: 1 at the length, a fault of the text at a byte of it or at its end, a fault of the list, or a list
 pub data Answered (n : ℕ) : Reading → Type 0 where
-  whole : (l : List NodeRead) → Answered n (accepted l)
+  whole : (l : List Element) → Answered n (accepted l)
   short : Answered n (faulty 1 n)
   text : (k p : ℕ) → isTextFault k ≡ true → p ≤ n → Answered n (faulty k p)
   list : (k p : ℕ) → isListFault k ≡ true → Answered n (unfit k p)

@@ -5,17 +5,17 @@ use mathlib.Core.Bool.{true}
 use mathlib.Core.List.{List, map}
 use Prim.Native.Nat.{ℕ, _≤_, _<_, min}
 use lib.ListN.{length}
-use Rattle.process_list.specs.List.{mostNodes, mostNumbers, nodeOf, allNumbers, firstDiffers}
+use Rattle.process_list.specs.List.{Element, mostNodes, mostNumbers, nodeOf, allNumbers, firstDiffers}
 use Rattle.valid.specs.Valid.{every, sound}
-use Rattle.clf.specs.Nodes.{NodeRead}
-use Rattle.clf.specs.Reading.{elementsOf}
 
-pub record AllRules (room : ℕ) (l : List NodeRead) : Type 0 where
-  -- '1 to 32 nodes'
-  pub some : 0 < length l
-  pub few : length l ≤ mostNodes
-  -- no inBitDepth differs from the previous outBitDepth
-  pub chained : firstDiffers (map nodeOf (elementsOf l)) ≡ 0
-  -- 'At most 262,144 numbers, fewer if the lent room is smaller'
-  pub holds : length (allNumbers (elementsOf l)) ≤ min room mostNumbers
-  pub nodes : every sound (elementsOf l) ≡ true
+-- the rules on a list, for a room of this length
+pub record Allowed (room : ℕ) (es : List Element) : Type 0 where
+  -- '1 to 32 nodes' (12, 11)
+  pub some : 0 < length es
+  pub few : length es ≤ mostNodes
+  -- 10: no inBitDepth differs from the previous outBitDepth
+  pub chained : firstDiffers (map nodeOf es) ≡ 0
+  -- 13: 'At most 262,144 numbers, fewer if the lent room is smaller'
+  pub holds : length (allNumbers es) ≤ min room mostNumbers
+  -- each node's own rules
+  pub nodes : every sound es ≡ true

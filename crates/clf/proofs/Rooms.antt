@@ -9,17 +9,16 @@ use lib.ListN.{length}
 use borrow.Author.Tests.{lt-ltb, le-ltb, ltb-false}
 use Rattle.process_list.specs.declared.Verdict.{Verdict}
 use Rattle.process_list.specs.declared.Verdict.the-variants.{Accepted, NoNode, TooManyNodes, DepthDiffers, TooManyNumbers}
-use Rattle.process_list.specs.List.{nodeOf, total, judged, verdict, mostNumbers}
+use Rattle.process_list.specs.List.{Element, nodeOf, total, judged, verdict, mostNumbers}
 use Rattle.process_list.proofs.RoomLast.{inRoom, room-last}
 use Rattle.grammar.specs.Parse.{Out, done, fault, cut}
 use Rattle.grammar.specs.Laws.{nope}
-use Rattle.clf.specs.Nodes.{NodeRead}
 use Rattle.clf.specs.List.{Document, document, tail}
-use Rattle.clf.specs.Reading.{Reading, accepted, faulty, unfit, byVerdict, listReading, tailReading, textReading, readText, read, mostBytes, elementsOf, nodesOf}
+use Rattle.clf.specs.Reading.{Reading, accepted, faulty, unfit, byVerdict, listReading, tailReading, textReading, readText, read, mostBytes, nodesAmong}
 
 -- how many numbers the nodes have, by their kinds
-abbrev pub numberCount : List NodeRead → ℕ
-numberCount l = total (map nodeOf (elementsOf l))
+abbrev pub numberCount : List Element → ℕ
+numberCount l = total (map nodeOf l)
 
 -- a reading for the most numbers, in a room of this length: 13, at 0, where that does not hold them
 abbrev pub readIn : ℕ → Reading → Reading
@@ -27,7 +26,7 @@ readIn room (accepted l) = cond (ltb (min room mostNumbers) (numberCount l)) (un
 readIn room (faulty k p) = faulty k p
 readIn room (unfit k p) = unfit k p
 
-by-verdict : (room : ℕ) (l : List NodeRead) (v : Verdict) → byVerdict l (inRoom room (numberCount l) v) ≡ readIn room (byVerdict l v)
+by-verdict : (room : ℕ) (l : List Element) (v : Verdict) → byVerdict l (inRoom room (numberCount l) v) ≡ readIn room (byVerdict l v)
 by-verdict room l Accepted = by (ltb (min room mostNumbers) (numberCount l))
   where
     by : (t : Bool) → byVerdict l (cond t TooManyNumbers Accepted) ≡ cond t (unfit 13 0) (accepted l)
@@ -38,15 +37,15 @@ by-verdict room l TooManyNodes = refl
 by-verdict room l (DepthDiffers k) = refl
 by-verdict room l TooManyNumbers = refl
 
-list-in : (room : ℕ) (l : List NodeRead) → listReading room l ≡ readIn room (listReading mostNumbers l)
+list-in : (room : ℕ) (l : List Element) → listReading room l ≡ readIn room (listReading mostNumbers l)
 unfolding listReading verdict
-list-in room l = ap (byVerdict l) (room-last room (map nodeOf (elementsOf l))) ∙ by-verdict room l (judged mostNumbers (map nodeOf (elementsOf l)))
+list-in room l = ap (byVerdict l) (room-last room (map nodeOf l)) ∙ by-verdict room l (judged mostNumbers (map nodeOf l))
 
 text-in : (room : ℕ) (s : List ℕ) (o : Out Document) → textReading room s o ≡ readIn room (textReading mostNumbers s o)
 text-in room s (done d r) = by (tail r)
   where
     by : (o : Out (Unit {0})) → tailReading room s d o ≡ readIn room (tailReading mostNumbers s d o)
-    by (done u q) = list-in room (nodesOf (d .parts))
+    by (done u q) = list-in room (nodesAmong (d .parts))
     by (fault k q) = refl
     by cut = refl
 text-in room s (fault k r) = refl
@@ -61,11 +60,11 @@ read-last room s = by (ltb mostBytes (length s))
     by true = refl
     by false = text-in room s (document .run s)
 
-fits-in : (room : ℕ) (l : List NodeRead) → numberCount l ≤ min room mostNumbers → readIn room (accepted l) ≡ accepted l
+fits-in : (room : ℕ) (l : List Element) → numberCount l ≤ min room mostNumbers → readIn room (accepted l) ≡ accepted l
 fits-in room l h = ap (λ (t : Bool). cond t (unfit 13 0) (accepted l)) (le-ltb (min room mostNumbers) (numberCount l) h)
 
 -- what is accepted in a room is accepted for the largest list, and has no more numbers than either holds
-accepted-from : (room : ℕ) (x : Reading) (l : List NodeRead) → readIn room x ≡ accepted l → (x ≡ accepted l) × (numberCount l ≤ min room mostNumbers)
+accepted-from : (room : ℕ) (x : Reading) (l : List Element) → readIn room x ≡ accepted l → (x ≡ accepted l) × (numberCount l ≤ min room mostNumbers)
 accepted-from room (accepted m) l q = by (ltb (min room mostNumbers) (numberCount m)) refl q
   where
     by : (t : Bool) → ltb (min room mostNumbers) (numberCount m) ≡ t → cond t (unfit 13 0) (accepted m) ≡ accepted l → (accepted m ≡ accepted l) × (numberCount l ≤ min room mostNumbers)
@@ -75,17 +74,17 @@ accepted-from room (faulty k p) l q = nope cc
 accepted-from room (unfit k p) l q = nope cc
 
 -- an accepted file has no more numbers than its room holds
-pub accepted-fits : (room : ℕ) (s : List ℕ) (l : List NodeRead) → read room s ≡ accepted l → numberCount l ≤ min room mostNumbers
+pub accepted-fits : (room : ℕ) (s : List ℕ) (l : List Element) → read room s ≡ accepted l → numberCount l ≤ min room mostNumbers
 accepted-fits room s l q = (accepted-from room (read mostNumbers s) l (sym (read-last room s) ∙ q)) .1
 
 -- and is accepted, with the same nodes, in every room that holds its numbers
-pub accepted-larger : (room other : ℕ) (s : List ℕ) (l : List NodeRead) → read room s ≡ accepted l → numberCount l ≤ other → read other s ≡ accepted l
+pub accepted-larger : (room other : ℕ) (s : List ℕ) (l : List Element) → read room s ≡ accepted l → numberCount l ≤ other → read other s ≡ accepted l
 accepted-larger room other s l q h =
     let a = accepted-from room (read mostNumbers s) l (sym (read-last room s) ∙ q) in
     let b : min room mostNumbers ≤ mostNumbers = omega arith in
     read-last other s ∙ ap (readIn other) (a .0) ∙ fits-in other l (omega (arith, a .1))
 
 -- where the largest list is accepted, another room refuses it with 13 exactly if it is too small
-pub refused-smaller : (room : ℕ) (s : List ℕ) (l : List NodeRead) → read mostNumbers s ≡ accepted l → min room mostNumbers < numberCount l → read room s ≡ unfit 13 0
+pub refused-smaller : (room : ℕ) (s : List ℕ) (l : List Element) → read mostNumbers s ≡ accepted l → min room mostNumbers < numberCount l → read room s ≡ unfit 13 0
 refused-smaller room s l q h =
     read-last room s ∙ ap (readIn room) q ∙ ap (λ (t : Bool). cond t (unfit 13 0) (accepted l)) (lt-ltb (min room mostNumbers) (numberCount l) h)

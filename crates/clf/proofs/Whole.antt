@@ -7,17 +7,16 @@ use native.Mathlib.Omega.{arith}
 use lib.Dec.{ltb, leb}
 use lib.ListN.{length, length-take, length-append}
 use borrow.Author.Tests.{ltb-true, lt-ltb, le-leb}
-use Rattle.process_list.specs.List.{mostNodes}
+use Rattle.process_list.specs.List.{Element, mostNodes}
 use Rattle.grammar.specs.Parse.{Out, done, fault, cut, Parser, Turn, again, last, before, thenOut, bindP, retP, keptOut, turnOut, stateOut, loopP, loopState}
 use Rattle.grammar.specs.Laws.{nope, loop-step, state-step}
 use Rattle.grammar.specs.Grammar.{G, ret, added, oneItem, items, wholeItems}
 use Rattle.grammar.specs.Splice.{bind-inv, turnItem, flat}
 use Rattle.xml.specs.Xml.{Tag}
-use Rattle.xml.specs.Elements.{Part, gap, child, close}
-use Rattle.clf.specs.Nodes.{NodeRead}
+use Rattle.xml.specs.Elements.{Part, misc, child, close}
 use Rattle.clf.specs.List.{Child, node, description, inputDescriptor, outputDescriptor, infoChild, Flags, noFlags, listItem, nextFlags, head, listContent, Document, document}
 use Rattle.clf.specs.Places.{spanOf, spanDocument, nodeSpan}
-use Rattle.clf.specs.Reading.{nodesOf, withPart, placeIn}
+use Rattle.clf.specs.Reading.{nodesAmong, withPart, placeIn}
 use Rattle.clf.specs.Whole.{WholeText, nothingWhole, wholeBehind, wholeText, wholeNodes, behindHead, contentPlace, wholePlace}
 
 -- ---- the last turn of a loop that is done
@@ -78,7 +77,7 @@ module _ {S A : Type 0} (item : S → G A) (next : S → A → Turn S (Unit {0})
 -- ---- ProcessList's items
 
 ends-close : (st : Flags) (p : Part Child) → nextFlags st p ≡ last tt → p ≡ close
-ends-close st gap q = nope cc
+ends-close st misc q = nope cc
 ends-close st (child (node n)) q = nope cc
 ends-close st (child description) q = nope cc
 ends-close st (child inputDescriptor) q = nope cc
@@ -86,8 +85,8 @@ ends-close st (child outputDescriptor) q = nope cc
 ends-close st (child infoChild) q = nope cc
 ends-close st close q = refl
 
-part-more : (p : Part Child) (l m : List NodeRead) → withPart p (l ++ m) ≡ withPart p l ++ m
-part-more gap l m = refl
+part-more : (p : Part Child) (l m : List Element) → withPart p (l ++ m) ≡ withPart p l ++ m
+part-more misc l m = refl
 part-more (child (node n)) l m = refl
 part-more (child description) l m = refl
 part-more (child inputDescriptor) l m = refl
@@ -96,18 +95,18 @@ part-more (child infoChild) l m = refl
 part-more close l m = refl
 
 -- the nodes of items and more items
-pub nodes-more : (l m : List (Part Child × List ℕ)) → nodesOf (l ++ m) ≡ nodesOf l ++ nodesOf m
-unfolding nodesOf
+pub nodes-more : (l m : List (Part Child × List ℕ)) → nodesAmong (l ++ m) ≡ nodesAmong l ++ nodesAmong m
+unfolding nodesAmong
 nodes-more [] m = refl
-nodes-more (x ∷ l) m = ap (withPart (x .0)) (nodes-more l m) ∙ part-more (x .0) (nodesOf l) (nodesOf m)
+nodes-more (x ∷ l) m = ap (withPart (x .0)) (nodes-more l m) ∙ part-more (x .0) (nodesAmong l) (nodesAmong m)
 
 -- ---- places
 
 -- more items behind change no place
-pub span-old : (l m : List (Part Child × List ℕ)) (k at : ℕ) → k < length (nodesOf l) → spanOf (l ++ m) k at ≡ spanOf l k at
-unfolding nodesOf spanOf
+pub span-old : (l m : List (Part Child × List ℕ)) (k at : ℕ) → k < length (nodesAmong l) → spanOf (l ++ m) k at ≡ spanOf l k at
+unfolding nodesAmong spanOf
 span-old [] m k at h = absurd (omega arith)
-span-old ((gap, b) ∷ l) m k at h = span-old l m k (at + length b) h
+span-old ((misc, b) ∷ l) m k at h = span-old l m k (at + length b) h
 span-old ((child (node n), b) ∷ l) m zero at h = refl
 span-old ((child (node n), b) ∷ l) m (suc k) at h = span-old l m k (at + length b) (omega arith)
 span-old ((child description, b) ∷ l) m k at h = span-old l m k (at + length b) h
@@ -117,10 +116,10 @@ span-old ((child infoChild, b) ∷ l) m k at h = span-old l m k (at + length b) 
 span-old ((close, b) ∷ l) m k at h = span-old l m k (at + length b) h
 
 -- the place of one node more
-pub span-new : (l : List (Part Child × List ℕ)) (n : NodeRead) (c : List ℕ) (at : ℕ) → spanOf (l ++ (child (node n), c) ∷ []) (length (nodesOf l)) at .0 ≡ at + length (flat l)
-unfolding nodesOf spanOf
+pub span-new : (l : List (Part Child × List ℕ)) (n : Element) (c : List ℕ) (at : ℕ) → spanOf (l ++ (child (node n), c) ∷ []) (length (nodesAmong l)) at .0 ≡ at + length (flat l)
+unfolding nodesAmong spanOf
 span-new [] n c at = omega arith
-span-new ((gap, b) ∷ l) n c at = span-new l n c (at + length b) ∙ omega (arith, length-append b (flat l))
+span-new ((misc, b) ∷ l) n c at = span-new l n c (at + length b) ∙ omega (arith, length-append b (flat l))
 span-new ((child (node v), b) ∷ l) n c at = span-new l n c (at + length b) ∙ omega (arith, length-append b (flat l))
 span-new ((child description, b) ∷ l) n c at = span-new l n c (at + length b) ∙ omega (arith, length-append b (flat l))
 span-new ((child inputDescriptor, b) ∷ l) n c at = span-new l n c (at + length b) ∙ omega (arith, length-append b (flat l))
@@ -131,14 +130,14 @@ span-new ((close, b) ∷ l) n c at = span-new l n c (at + length b) ∙ omega (a
 -- ---- a file without fault up to the root's end
 
 pub record WholeDocument (s : List ℕ) (d : Document) : Type 0 where
-  pub nodes : nodesOf (d .parts) ≡ wholeNodes s
+  pub nodes : nodesAmong (d .parts) ≡ wholeNodes s
   pub spans : (k : ℕ) → k < length (wholeNodes s) → spanOf (d .parts) k (length (d .start)) ≡ spanOf (wholeText s .1) k (contentPlace s)
 
 -- by what was found behind the root's start tag
 behind-tag : (s : List ℕ) (d : Document) (w : WholeText) (a : ℕ) → wholeText s ≡ w → contentPlace s ≡ a → length (d .start) ≡ a → (end : List (Part Child × List ℕ))
-    → d .parts ≡ w .1 ++ end → nodesOf end ≡ [] → WholeDocument s d
+    → d .parts ≡ w .1 ++ end → nodesAmong end ≡ [] → WholeDocument s d
 behind-tag s d w a p q e end x z = record {
-  nodes = ap nodesOf x ∙ nodes-more (w .1) end ∙ ap (λ (l : List NodeRead). nodesOf (w .1) ++ l) z ∙ append-nil (nodesOf (w .1)) ∙ sym (ap (λ (v : WholeText). nodesOf (v .1)) p);
+  nodes = ap nodesAmong x ∙ nodes-more (w .1) end ∙ ap (λ (l : List Element). nodesAmong (w .1) ++ l) z ∙ append-nil (nodesAmong (w .1)) ∙ sym (ap (λ (v : WholeText). nodesAmong (v .1)) p);
   spans = λ k h. ap (λ (l : List (Part Child × List ℕ)). spanOf l k (length (d .start))) x
       ∙ span-old (w .1) end k (length (d .start)) (rw p at h)
       ∙ ap (spanOf (w .1) k) (e ∙ sym q) ∙ sym (ap (λ (v : WholeText). spanOf (v .1) k (contentPlace s)) p);
@@ -147,8 +146,8 @@ behind-tag s d w a p q e end x z = record {
 before-length : (s q : List ℕ) → length (before s q) ≡ placeIn s q
 before-length s q = simp length-take (omega arith)
 
-none-in : (x : Part Child × List ℕ) → x .0 ≡ close → nodesOf (x ∷ []) ≡ []
-unfolding nodesOf
+none-in : (x : Part Child × List ℕ) → x .0 ≡ close → nodesAmong (x ∷ []) ≡ []
+unfolding nodesAmong
 none-in x q = ap (λ (p : Part Child). withPart p []) q
 
 module _ (s : List ℕ) (d : Document) (r : List ℕ) where
@@ -157,7 +156,7 @@ module _ (s : List ℕ) (d : Document) (r : List ℕ) where
 
   by-tag : (tag : Tag) (q : List ℕ) → head .run s ≡ done tag q → (b : Bool) → tag .empty ≡ b
       → bindP ((cond b (ret []) (items listItem nextFlags noFlags)) .run) (λ l. retP (made (tag, before s q) l)) q ≡ done d r → WholeDocument s d
-  unfolding wholeText contentPlace nodesOf
+  unfolding wholeText contentPlace nodesAmong
   by-tag tag q e true t z =
       let x : made (tag, before s q) [] ≡ d = cc in
       let w : wholeText s ≡ nothingWhole = ap wholeBehind e ∙ ap (λ (b : Bool). cond b nothingWhole (wholeItems listItem nextFlags noFlags q)) t in
@@ -184,11 +183,11 @@ module _ (s : List ℕ) (d : Document) (r : List ℕ) where
       by cut e x = nope cc
 
   -- the place of node k, from 1
-  pub place-whole : (k : ℕ) → document .run s ≡ done d r → 0 < k → k ≤ length (nodesOf (d .parts)) → length (nodesOf (d .parts)) ≤ mostNodes → wholePlace k s ≡ nodeSpan s (k - 1) .0
+  pub place-whole : (k : ℕ) → document .run s ≡ done d r → 0 < k → k ≤ length (nodesAmong (d .parts)) → length (nodesAmong (d .parts)) ≤ mostNodes → wholePlace k s ≡ nodeSpan s (k - 1) .0
   unfolding wholePlace nodeSpan
   place-whole k z low high few =
       let w : WholeDocument s d = document-whole z in
-      let n : length (nodesOf (d .parts)) ≡ length (wholeNodes s) = ap length (w .nodes) in
+      let n : length (nodesAmong (d .parts)) ≡ length (wholeNodes s) = ap length (w .nodes) in
       let a : ltb 0 k ≡ true = lt-ltb 0 k low in
       let b : leb k (min mostNodes (length (wholeNodes s))) ≡ true = le-leb k (min mostNodes (length (wholeNodes s))) (omega arith) in
       ap (λ (t : Bool). cond (t && leb k (min mostNodes (length (wholeNodes s)))) (spanOf (wholeText s .1) (k - 1) (contentPlace s) .0) 0) a

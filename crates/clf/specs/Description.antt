@@ -7,14 +7,14 @@ use Rattle.grammar.specs.Parse.{Out, done, fault, cut, Turn, again, last}
 use Rattle.grammar.specs.Grammar.{G, ret, seq, loop, _>>=_}
 use Rattle.xml.specs.Bytes.{bytes, same, lessThan}
 use Rattle.xml.specs.Xml.{textTo, Tag, plain, startTag, openName, strayEnd}
-use Rattle.xml.specs.Elements.{Part, gap, child, close, between}
+use Rattle.xml.specs.Elements.{Part, misc, child, close, between}
 use Rattle.clf.specs.Places.{nodeSpan}
 use Rattle.clf.specs.Reading.{Reading, accepted, faulty, unfit, placeIn, descriptionAsked}
 
 -- 'Descriptions come first in it', so the first one inside a node is its first child: behind white space and comments alone
 
 abbrev pub toFirst : Part (List ℕ) → Turn (Unit {0}) (List ℕ)
-toFirst gap = again tt
+toFirst misc = again tt
 toFirst (child w) = last w
 toFirst close = last []
 

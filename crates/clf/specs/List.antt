@@ -1,4 +1,5 @@
 -- ProcessList, and what may stand around it (document 01, The file we carry).
+use Rattle.process_list.specs.List.{Element}
 use mathlib.Core.Bool.{Bool, true, false, cond, _&&_, _||_}
 use mathlib.Core.List.{List, [], _∷_, _++_}
 use Prim.Native.Nat.{ℕ}
@@ -8,8 +9,8 @@ use Rattle.grammar.specs.Parse.{Out, done, fault, cut, Parser, Turn, again, las
 use Rattle.grammar.specs.Grammar.{G, ret, bad, kept, blame, seq, loop, items, _>>=_, _>>_}
 use Rattle.xml.specs.Bytes.{bytes, same}
 use Rattle.xml.specs.Xml.{word, Attribute, isNamed, Rules, Tag, startTag, endTag, strayEnd}
-use Rattle.xml.specs.Elements.{Part, gap, child, close, between, textElement, info}
-use Rattle.clf.specs.Nodes.{NodeRead, NodeName, isMatrix, isLut1d, isRange, isCdl, notCarried, noNode, nodeName, nodeFault, nodeBody}
+use Rattle.xml.specs.Elements.{Part, misc, child, close, between, textElement, info}
+use Rattle.clf.specs.Nodes.{NodeName, isMatrix, isLut1d, isRange, isCdl, notCarried, noNode, nodeName, nodeFault, nodeBody}
 
 -- 'It starts at byte 0 with the 38 bytes'; 'another start is 3 at 0, a start cut short is 1'
 abbrev pub declaration : List ℕ
@@ -18,7 +19,7 @@ declaration = bytes "<?xml version=\"1.0\" encoding=\"UTF-8\"?>"
 -- ---- the children of ProcessList
 
 pub data Child : Type 0 where
-  node : NodeRead → Child
+  node : Element → Child
   description : Child
   inputDescriptor : Child
   outputDescriptor : Child
@@ -55,7 +56,7 @@ unfoldable pub listItem : Flags → G (Part Child)
 listItem st = between (endTag (bytes "ProcessList") 0) (childFault st) childBody
 
 abbrev pub nextFlags : Flags → Part Child → Turn Flags (Unit {0})
-nextFlags st gap = again st
+nextFlags st misc = again st
 nextFlags st (child (node n)) = again st
 nextFlags st (child description) = again st
 nextFlags st (child inputDescriptor) = again (record { input = true; output = st .output; info = st .info })
@@ -82,7 +83,7 @@ abbrev pub rootFault : List ℕ → ℕ
 rootFault w = cond (same w (bytes "ProcessList")) 0 5
 
 abbrev pub toRoot : Part (List ℕ) → Turn (Unit {0}) (Unit {0})
-toRoot gap = again tt
+toRoot misc = again tt
 toRoot (child w) = last tt
 toRoot close = again tt
 

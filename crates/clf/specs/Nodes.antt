@@ -28,10 +28,6 @@ abbrev pub orElse : {A : Type 0} → A → Option A → A
 orElse a none = a
 orElse a (some b) = b
 
--- a node as it is read: what the list holds of it. Its Descriptions are passed over
-pub record NodeRead : Type 0 where
-  pub element : Element
-
 -- ---- '`inBitDepth`, `outBitDepth` from 8i, 10i, 12i, 16i, 16f, 32f'
 
 unfoldable pub depthOf : List ℕ → Option Depth
@@ -54,11 +50,9 @@ nodeMissing l = cond (isNamed (bytes "inBitDepth") l && isNamed (bytes "outBitDe
 abbrev pub depthAt : List ℕ → List Attribute → Depth
 depthAt w l = orElse I8 (depthOf (textOf w l))
 
--- the node of these attributes and this content
-abbrev pub nodeOf : List Attribute → Kind → List Decimal → NodeRead
-nodeOf l kind ns = record {
-  element = record { kind = kind; input = depthAt (bytes "inBitDepth") l; output = depthAt (bytes "outBitDepth") l; numbers = ns };
-}
+-- the node of these attributes and this content: what the list holds of it. Its Descriptions are passed over
+abbrev pub elementWith : List Attribute → Kind → List Decimal → Element
+elementWith l kind ns = record { kind = kind; input = depthAt (bytes "inBitDepth") l; output = depthAt (bytes "outBitDepth") l; numbers = ns }
 
 -- the rules of a node's start tag; one that may not be empty lacks an element: 5 at the `/>`, the lowest there
 abbrev pub nodeRules : (List ℕ → ℕ) → (List ℕ → List ℕ → ℕ) → Rules
@@ -136,10 +130,10 @@ arrayHolder w shape = record {
   body = arrayBody shape;
 }
 
-abbrev pub tableNode : List Attribute → ArrayState → NodeRead
-tableNode l st = let t = orElse (Matrix false, []) (st .table) in nodeOf l (t .0) (t .1)
+abbrev pub tableNode : List Attribute → ArrayState → Element
+tableNode l st = let t = orElse (Matrix false, []) (st .table) in elementWith l (t .0) (t .1)
 
-unfoldable pub matrix : G NodeRead
+unfoldable pub matrix : G Element
 matrix = do
   tag ← startTag (nodeRules (λ w. 0) (λ w t. 0))
   st ← held (arrayHolder (bytes "Matrix") matrixShape) noArray
@@ -153,7 +147,7 @@ lutNames w = cond (same w (bytes "halfDomain") || same w (bytes "rawHalfs")) 7 0
 abbrev pub lutTexts : List ℕ → List ℕ → ℕ
 lutTexts w t = cond (same w (bytes "interpolation")) (cond (same t (bytes "linear")) 0 8) 0
 
-unfoldable pub lut1d : G NodeRead
+unfoldable pub lut1d : G Element
 lut1d = do
   tag ← startTag (nodeRules lutNames lutTexts)
   st ← held (arrayHolder (bytes "LUT1D") lutShape) noArray
@@ -220,11 +214,11 @@ rangeHolder = record {
 abbrev pub rangeTexts : List ℕ → List ℕ → ℕ
 rangeTexts w t = cond (same w (bytes "style")) (cond (same t (bytes "Clamp") || same t (bytes "noClamp")) 0 8) 0
 
-abbrev pub rangeNode : List Attribute → RangeState → NodeRead
+abbrev pub rangeNode : List Attribute → RangeState → Element
 rangeNode l st =
-    nodeOf l (Range (not (same (textOf (bytes "style") l) (bytes "noClamp")))) (valueAt 0 st ∷ valueAt 1 st ∷ valueAt 2 st ∷ valueAt 3 st ∷ [])
+    elementWith l (Range (not (same (textOf (bytes "style") l) (bytes "noClamp")))) (valueAt 0 st ∷ valueAt 1 st ∷ valueAt 2 st ∷ valueAt 3 st ∷ [])
 
-unfoldable pub range : G NodeRead
+unfoldable pub range : G Element
 range = do
   tag ← startTag (nodeRules (λ w. 0) rangeTexts)
   st ← held rangeHolder noValues
@@ -308,8 +302,8 @@ sopNumbers st = orElse (threeTimes oneNumber ++ threeTimes Decimals.zero ++ thre
 abbrev pub satNumbers : CdlState → List Decimal
 satNumbers st = orElse (oneNumber ∷ []) (st .sat)
 
-abbrev pub cdlNode : List Attribute → CdlState → NodeRead
-cdlNode l st = nodeOf l (Cdl (not (same (textOf (bytes "style") l) (bytes "FwdNoClamp")))) (sopNumbers st ++ satNumbers st)
+abbrev pub cdlNode : List Attribute → CdlState → Element
+cdlNode l st = elementWith l (Cdl (not (same (textOf (bytes "style") l) (bytes "FwdNoClamp")))) (sopNumbers st ++ satNumbers st)
 
 -- an ASC_CDL may be empty
 abbrev pub cdlRules : Rules
@@ -318,7 +312,7 @@ cdlRules = record { names = λ w. 0; texts = nodeTexts cdlTexts; opened = nodeMi
 abbrev pub cdlContent : Tag → G CdlState
 cdlContent tag = cond (tag .empty) (ret noCdl) (held cdlHolder noCdl)
 
-unfoldable pub ascCdl : G NodeRead
+unfoldable pub ascCdl : G Element
 ascCdl = do
   tag ← startTag cdlRules
   st ← cdlContent tag
@@ -353,7 +347,7 @@ nodeFault notCarried = 7
 nodeFault noNode = 5
 
 -- a node after its name
-abbrev pub nodeBody : NodeName → G NodeRead
+abbrev pub nodeBody : NodeName → G Element
 nodeBody isMatrix = matrix
 nodeBody isLut1d = lut1d
 nodeBody isRange = range

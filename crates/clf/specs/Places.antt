@@ -3,7 +3,7 @@ use mathlib.Core.List.{List, [], _∷_}
 use Prim.Native.Nat.{ℕ, zero, suc, _+_}
 use lib.ListN.{length}
 use Rattle.grammar.specs.Parse.{Out, done, fault, cut}
-use Rattle.xml.specs.Elements.{Part, gap, child, close}
+use Rattle.xml.specs.Elements.{Part, misc, child, close}
 use Rattle.clf.specs.List.{Child, node, description, inputDescriptor, outputDescriptor, infoChild, Document, document}
 
 -- where node k, from 0, stands among items that start at `at`: its first byte's place, and how many bytes it has
@@ -19,7 +19,7 @@ spanChild outputDescriptor k at c later = later k
 spanChild infoChild k at c later = later k
 
 abbrev pub spanPart : Part Child → ℕ → ℕ → List ℕ → (ℕ → ℕ × ℕ) → ℕ × ℕ
-spanPart gap k at c later = later k
+spanPart misc k at c later = later k
 spanPart (child x) k at c later = spanChild x k at c later
 spanPart close k at c later = later k
 

@@ -7,10 +7,9 @@ use lib.ListN.{length}
 use Rattle.decimal.specs.declared.Decimal.{Decimal}
 use Rattle.process_list.specs.declared.Verdict.{Verdict}
 use Rattle.process_list.specs.declared.Verdict.the-variants.{Accepted, NoNode, TooManyNodes, DepthDiffers, TooManyNumbers}
-use Rattle.process_list.specs.List.{Element, verdict, refusalOf, placeOf, mostNumbers}
+use Rattle.process_list.specs.List.{Element, verdict, verdictNumber, verdictPlace, mostNumbers}
 use Rattle.grammar.specs.Parse.{Out, done, fault, cut}
-use Rattle.xml.specs.Elements.{Part, gap, child, close}
-use Rattle.clf.specs.Nodes.{NodeRead}
+use Rattle.xml.specs.Elements.{Part, misc, child, close}
 use Rattle.clf.specs.List.{Child, node, description, inputDescriptor, outputDescriptor, infoChild, Document, document, tail}
 
 -- 'At most 16 MiB (16,777,216 bytes)'
@@ -19,48 +18,44 @@ mostBytes = 16777216
 
 -- what reading answers: the nodes; or a fault of the text, with its number and its place; or a fault of the list, with its number and the number of its node
 pub data Reading : Type 0 where
-  accepted : List NodeRead → Reading
+  accepted : List Element → Reading
   faulty : ℕ → ℕ → Reading
   unfit : ℕ → ℕ → Reading
 
 -- the nodes among the items, in file order
-abbrev pub withChild : Child → List NodeRead → List NodeRead
+abbrev pub withChild : Child → List Element → List Element
 withChild (node n) l = n ∷ l
 withChild description l = l
 withChild inputDescriptor l = l
 withChild outputDescriptor l = l
 withChild infoChild l = l
 
-abbrev pub withPart : Part Child → List NodeRead → List NodeRead
-withPart gap l = l
+abbrev pub withPart : Part Child → List Element → List Element
+withPart misc l = l
 withPart (child c) l = withChild c l
 withPart close l = l
 
-unfoldable pub nodesOf : List (Part Child × List ℕ) → List NodeRead
-nodesOf [] = []
-nodesOf (x ∷ l) = withPart (x .0) (nodesOf l)
-
--- what the list holds of the nodes
-abbrev pub elementsOf : List NodeRead → List Element
-elementsOf = map (λ n. n .element)
+unfoldable pub nodesAmong : List (Part Child × List ℕ) → List Element
+nodesAmong [] = []
+nodesAmong (x ∷ l) = withPart (x .0) (nodesAmong l)
 
 -- 'the place of refusal 1 is the length'; of a fault, the byte at which its bytes begin
 abbrev pub placeIn : List ℕ → List ℕ → ℕ
 placeIn s r = length s - length r
 
-abbrev pub byVerdict : List NodeRead → Verdict → Reading
+abbrev pub byVerdict : List Element → Verdict → Reading
 byVerdict l Accepted = accepted l
-byVerdict l NoNode = unfit (refusalOf NoNode) (placeOf NoNode)
-byVerdict l TooManyNodes = unfit (refusalOf TooManyNodes) (placeOf TooManyNodes)
-byVerdict l (DepthDiffers k) = unfit (refusalOf (DepthDiffers k)) (placeOf (DepthDiffers k))
-byVerdict l TooManyNumbers = unfit (refusalOf TooManyNumbers) (placeOf TooManyNumbers)
+byVerdict l NoNode = unfit (verdictNumber NoNode) (verdictPlace NoNode)
+byVerdict l TooManyNodes = unfit (verdictNumber TooManyNodes) (verdictPlace TooManyNodes)
+byVerdict l (DepthDiffers k) = unfit (verdictNumber (DepthDiffers k)) (verdictPlace (DepthDiffers k))
+byVerdict l TooManyNumbers = unfit (verdictNumber TooManyNumbers) (verdictPlace TooManyNumbers)
 
 -- the finished list, for a room of this length
-unfoldable pub listReading : ℕ → List NodeRead → Reading
-listReading room l = byVerdict l (verdict room (elementsOf l))
+unfoldable pub listReading : ℕ → List Element → Reading
+listReading room l = byVerdict l (verdict room l)
 
 abbrev pub tailReading : ℕ → List ℕ → Document → Out (Unit {0}) → Reading
-tailReading room s d (done u r) = listReading room (nodesOf (d .parts))
+tailReading room s d (done u r) = listReading room (nodesAmong (d .parts))
 tailReading room s d (fault k r) = faulty k (placeIn s r)
 tailReading room s d cut = faulty 1 (length s)
 
@@ -78,25 +73,20 @@ unfoldable pub read : ℕ → List ℕ → Reading
 read room s = cond (ltb mostBytes (length s)) (faulty 4 0) (readText room s)
 
 -- its refusal number, its place, its nodes: 'a refused reading gives no nodes'
-abbrev pub numberOf : Reading → ℕ
-numberOf (accepted l) = 0
-numberOf (faulty k p) = k
-numberOf (unfit k p) = k
+abbrev pub readingNumber : Reading → ℕ
+readingNumber (accepted l) = 0
+readingNumber (faulty k p) = k
+readingNumber (unfit k p) = k
 
-abbrev pub placeNumber : Reading → ℕ
-placeNumber (accepted l) = 0
-placeNumber (faulty k p) = p
-placeNumber (unfit k p) = p
+abbrev pub readingPlace : Reading → ℕ
+readingPlace (accepted l) = 0
+readingPlace (faulty k p) = p
+readingPlace (unfit k p) = p
 
-abbrev pub nodesIn : Reading → List NodeRead
+abbrev pub nodesIn : Reading → List Element
 nodesIn (accepted l) = l
 nodesIn (faulty k p) = []
 nodesIn (unfit k p) = []
-
--- the numbers of all nodes, in node order
-unfoldable pub numbersIn : List NodeRead → List Decimal
-numbersIn [] = []
-numbersIn (n ∷ l) = n .element .numbers ++ numbersIn l
 
 -- ---- Description and player: neither is lent a room; '13 there means over 262,144 numbers'
 

@@ -3,15 +3,14 @@ use mathlib.Core.Bool.{cond}
 use mathlib.Core.List.{List, []}
 use Prim.Native.Nat.{ℕ, _-_, min}
 use lib.ListN.{length}
-use Rattle.process_list.specs.List.{mostNodes}
+use Rattle.process_list.specs.List.{Element, mostNodes}
 use Rattle.grammar.specs.Parse.{Out, done, fault, cut}
 use Rattle.grammar.specs.Grammar.{wholeItems}
 use Rattle.xml.specs.Xml.{Tag}
 use Rattle.xml.specs.Elements.{Part}
-use Rattle.clf.specs.Nodes.{NodeRead}
 use Rattle.clf.specs.List.{Child, Flags, noFlags, listItem, nextFlags, head}
 use Rattle.clf.specs.Places.{spanOf}
-use Rattle.clf.specs.Reading.{nodesOf, placeIn, isNumbered}
+use Rattle.clf.specs.Reading.{nodesAmong, placeIn, isNumbered}
 
 -- the items of ProcessList that stand whole, each with its bytes, and which of the children that may not repeat are among them
 abbrev pub WholeText : Type 0
@@ -29,8 +28,8 @@ unfoldable pub wholeText : List ℕ → WholeText
 wholeText s = wholeBehind (head .run s)
 
 -- the nodes that stand whole, in file order
-abbrev pub wholeNodes : List ℕ → List NodeRead
-wholeNodes s = nodesOf (wholeText s .1)
+abbrev pub wholeNodes : List ℕ → List Element
+wholeNodes s = nodesAmong (wholeText s .1)
 
 -- where the content of ProcessList begins
 abbrev pub behindHead : List ℕ → Out Tag → ℕ
@@ -43,7 +42,7 @@ contentPlace s = behindHead s (head .run s)
 
 -- where node k, from 1, begins, of those that stand whole, the first 32; 0 where there is none
 abbrev pub placeAmong : ℕ → ℕ → List (Part Child × List ℕ) → ℕ
-placeAmong k at parts = cond (isNumbered k (min mostNodes (length (nodesOf parts)))) (spanOf parts (k - 1) at .0) 0
+placeAmong k at parts = cond (isNumbered k (min mostNodes (length (nodesAmong parts)))) (spanOf parts (k - 1) at .0) 0
 
 unfoldable pub wholePlace : ℕ → List ℕ → ℕ
 wholePlace k s = placeAmong k (contentPlace s) (wholeText s .1)

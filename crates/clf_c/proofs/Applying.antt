@@ -9,16 +9,15 @@ use lib.Dec.{eqb}
 use lib.ListN.{length}
 use lib.Ieee.{Float}
 use Rattle.process_list.specs.declared.ProcessList.{ProcessList}
-use Rattle.process_list.specs.List.{nodesOf, listOf, placed}
+use Rattle.process_list.specs.List.{Element, allNumbers, nodesOf, listOf, placed}
 use Rattle.room.specs.Room.{Room, roomLength}
 use Rattle.valid.specs.Valid.{isValid}
 use Rattle.grammar.specs.Laws.{nope}
-use Rattle.clf.specs.Nodes.{NodeRead}
-use Rattle.clf.specs.Reading.{Reading, accepted, numberOf, placeNumber, nodesIn, elementsOf, numbersIn}
+use Rattle.clf.specs.Reading.{Reading, accepted, readingNumber, readingPlace, nodesIn}
 use Rattle.claims.proofs.Refusals.{number-accepted}
-use Rattle.claims.proofs.Rules.{accepted-valid, numbers-in}
+use Rattle.claims.proofs.Rules.{accepted-valid}
 use Rattle.reading.specs.declared.Answer.{Answer}
-use Rattle.reading.specs.Code.{answerOf, ReadsInto}
+use Rattle.reading.specs.Code.{readingAnswer, ReadsInto}
 use Rattle.pixel_run.specs.Finite.{firstNotFinite}
 use Rattle.running.specs.declared.Ran.{Ran}
 use Rattle.running.specs.Running.{notThrees, notFinite, ran, ranOf, pixelsOf, runNodes}
@@ -68,16 +67,16 @@ module _ (file : List ℕ) (m₀ : Room) (xs : List Float) where
     room-is = simp passed
 
     module _ (a : Answer) (m₁ : Room) (e : ReadsInto r₀ a m₀ m₁) where
-      number-is : a .number ≡ numberOf r₀
-      unfolding answerOf
+      number-is : a .number ≡ readingNumber r₀
+      unfolding readingAnswer
       number-is = ap (λ (x : Answer). x .number) (e .answer)
 
-      place-is : a .place ≡ placeNumber r₀
-      unfolding answerOf
+      place-is : a .place ≡ readingPlace r₀
+      unfolding readingAnswer
       place-is = ap (λ (x : Answer). x .place) (e .answer)
 
-      list-is : a .list ≡ listOf (placed (elementsOf (nodesIn r₀)))
-      unfolding answerOf
+      list-is : a .list ≡ listOf (placed (nodesIn r₀))
+      unfolding readingAnswer
       list-is = ap (λ (x : Answer). x .list) (e .answer)
 
       said : (ys : List Float) → ys ≡ appliedTo file m₀ xs → Applies file m₀ xs (answer (a .number) (a .place)) m₁ ys
@@ -90,21 +89,21 @@ module _ (file : List ℕ) (m₀ : Room) (xs : List Float) where
       -- a refused reading
       pub refused : (a .number ≡ 0 → ⊥) → Applies file m₀ xs (answer (a .number) (a .place)) m₁ xs
       unfolding appliedTo
-      refused h = said xs (simp (reading-says, ne-eqb (numberOf r₀) 0 (λ z. h (number-is ∙ z))))
+      refused h = said xs (simp (reading-says, ne-eqb (readingNumber r₀) 0 (λ z. h (number-is ∙ z))))
 
       -- an accepted one: its list is valid in its room, so that running accepts
       module _ (t : Ran) (ys : List Float) (et : t ≡ ranOf (a .list) m₁ xs) (ey : ys ≡ pixelsOf (a .list) m₁ xs) (h : a .number ≡ 0) where
         list-valid : isValid (a .list) m₁ ≡ true
         list-valid =
-            let w : (l : List NodeRead) × (r₀ ≡ accepted l) = number-accepted (roomLength m₀) file (sym number-is ∙ h) in
+            let w : (l : List Element) × (r₀ ≡ accepted l) = number-accepted (roomLength m₀) file (sym number-is ∙ h) in
             let n : nodesIn r₀ ≡ w .0 = ap nodesIn (w .1) in
             let v = accepted-valid m₀ file (w .0) (w .1) in
-            rw (list-is, e .room, n, numbers-in (w .0)) v
+            rw (list-is, e .room, n) v
 
         place-none : a .place ≡ 0
         place-none =
-            let w : (l : List NodeRead) × (r₀ ≡ accepted l) = number-accepted (roomLength m₀) file (sym number-is ∙ h) in
-            place-is ∙ ap placeNumber (w .1)
+            let w : (l : List Element) × (r₀ ≡ accepted l) = number-accepted (roomLength m₀) file (sym number-is ∙ h) in
+            place-is ∙ ap readingPlace (w .1)
 
         ran-is : ranOf (a .list) m₁ xs ≡ ran 0 0
         unfolding sliceRefused
@@ -113,7 +112,7 @@ module _ (file : List ℕ) (m₀ : Room) (xs : List Float) where
         pixels-are : ys ≡ appliedTo file m₀ xs
         unfolding appliedTo runThrough
         pixels-are =
-            let q = eq-eqb (numberOf r₀) 0 (sym number-is ∙ h) in
+            let q = eq-eqb (readingNumber r₀) 0 (sym number-is ∙ h) in
             simp (reading-says, q) (ey ∙ pixels-accepted (a .list) m₁ xs ran-is ∙ rw (list-is, e .room))
 
         pub ran-through : Applies file m₀ xs (answer (t .number) (t .place)) m₁ ys

@@ -6,9 +6,9 @@ use mathlib.Core.List.{List}
 use Prim.Native.Nat.{ℕ}
 use lib.Dec.{eqb}
 use lib.Ieee.{Float}
-use Rattle.process_list.specs.List.{nodesOf, listOf, placed}
+use Rattle.process_list.specs.List.{allNumbers, nodesOf, listOf, placed}
 use Rattle.room.specs.Room.{Room, roomLength, filledWith}
-use Rattle.clf.specs.Reading.{Reading, read, nodesIn, elementsOf, numbersIn}
+use Rattle.clf.specs.Reading.{Reading, read, nodesIn}
 use Rattle.pixel_run.specs.Finite.{firstNotFinite}
 use Rattle.running.specs.Running.{notThrees, notFinite, runNodes}
 use Rattle.clf_c.specs.declared.FileCheck.{FileCheck}
@@ -26,11 +26,11 @@ readInto file m = read (roomLength m) file
 
 -- the room after the reading: the file's numbers, then zeros; refused, zeros alone
 abbrev pub roomRead : List ℕ → Room → Room
-roomRead file m = filledWith (numbersIn (nodesIn (readInto file m))) m
+roomRead file m = filledWith (allNumbers (nodesIn (readInto file m))) m
 
 -- the nodes of a reading's list over the pixels, with the numbers of this room; a refused reading has no nodes
 unfoldable pub runThrough : Reading → Room → List Float → List Float
-runThrough r m pixels = runNodes m (nodesOf (listOf (placed (elementsOf (nodesIn r))))) pixels
+runThrough r m pixels = runNodes m (nodesOf (listOf (placed (nodesIn r)))) pixels
 
 -- ---- the call
 

@@ -15,7 +15,7 @@ use Rattle.decimal.specs.declared.Token.the-variants.{Number}
 use Rattle.decimal.specs.Decimal.{size, inRange}
 use Rattle.decimal_read.specs.Number.{Form, isMark, isEmpty, isMinus, behindSign, digitsOf, behindDigits, fractionOf, behindFraction, isExponent, exponentMinus, exponentDigits, formOf, append, withSign, scale, zeros, trailing, judged, tokenOf}
 use Rattle.decimal_read.specs.Number as Read
-use Rattle.decimal_write.specs.Written.{digits, whole, exponent, writtenOf, normal}
+use Rattle.decimal_write.specs.Written.{digits, whole, exponent, writtenOf, isNormal}
 use Rattle.decimal_write.specs.Laws.{written-short, written-parts, digits-short, digits-some}
 use Rattle.decimal_back.specs.Digits.{numbers, digitsOf-all, behindDigits-all, length-numbers, no-minus, no-sign-before, digits-digits, digits-say}
 
@@ -175,8 +175,8 @@ parts true true true h = inr (refl, refl)
 parts true true false h = absurd (false≢true h)
 parts true false c h = absurd (false≢true h)
 
-normal-back : (d : Decimal) → normal d ≡ true → Read.normal (form d) ≡ d
-unfolding normal
+normal-back : (d : Decimal) → isNormal d ≡ true → Read.normal (form d) ≡ d
+unfolding isNormal
 normal-back d h = elim (parts (eqb (size (d .coefficient) % 10) 0) (eqb (size (d .coefficient)) 0) (eqb (size (d .power)) 0) h) [
   | inl a ↦ other-back d a
   | inr b ↦ zero-back d (eqb-true (size (d .coefficient)) 0 (b .0)) (eqb-true (size (d .power)) 0 (b .1))
@@ -192,7 +192,7 @@ unfolding judged
 judged-is k o f d l e n h = rw (e, le-leb k 64 l, n, h)
 
 -- a number that a token can stand for, written, is read as that number
-pub reads-back : (d : Decimal) → inRange d ≡ true → normal d ≡ true → tokenOf (writtenOf d) ≡ Number d
+pub reads-back : (d : Decimal) → inRange d ≡ true → isNormal d ≡ true → tokenOf (writtenOf d) ≡ Number d
 unfolding tokenOf
 reads-back d h n =
     let p : size (d .power) ≤ 22 = leb-true (size (d .power)) 22 (and-right (ltb (size (d .coefficient)) (10 ^ 15)) (leb (size (d .power)) 22) h) in

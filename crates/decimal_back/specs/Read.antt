@@ -1,4 +1,4 @@
--- What is read can be written: a number that a token stands for is in range and normal. Assumes nothing.
+-- What is read can be written: a number that a token stands for is in range and isNormal. Assumes nothing.
 use mathlib.Core.Path.{_≡_, refl, sym, ap, _∙_, subst}
 use mathlib.Core.Bool.{Bool, true, false, cond, _&&_}
 use mathlib.Core.List.{List, _++_}
@@ -16,7 +16,7 @@ use Rattle.decimal_read.specs.Number.{Form, behindSign, digitsOf, behindDigits,
 use Rattle.decimal_read.specs.Number as Read
 use Rattle.decimal_read.proofs.Zeros.{Stripped, found}
 use Rattle.decimal_read.proofs.Stands.{Small, digits-small, fraction-small, both-small, append-lt}
-use Rattle.decimal_write.specs.Written.{normal}
+use Rattle.decimal_write.specs.Written.{isNormal}
 
 signed-size : (s : Bool) (n : ℕ) → size (withSign s n) ≡ n
 unfolding withSign
@@ -25,8 +25,8 @@ signed-size true zero = refl
 signed-size true (suc n) = refl
 
 -- a coefficient whose size ends in no zero
-ended : (d : Decimal) → (size (d .coefficient) % 10 ≡ 0 → ⊥) → normal d ≡ true
-unfolding normal
+ended : (d : Decimal) → (size (d .coefficient) % 10 ≡ 0 → ⊥) → isNormal d ≡ true
+unfolding isNormal
 ended d h = rw (ne-eqb (size (d .coefficient) % 10) 0 h)
 
 -- ---- the number of a form whose digits are digits
@@ -35,21 +35,21 @@ module _ (f : Form) (small : Small (f .whole ++ f .fraction)) where
   unfolding Read.digits trailing
   stripped p = found (length (f .whole ++ f .fraction)) (append 0 (f .whole ++ f .fraction)) p (omega (arith, append-lt 0 small))
 
-  pub form-normal : normal (Read.normal f) ≡ true
+  pub form-normal : isNormal (Read.normal f) ≡ true
   unfolding Read.normal
   form-normal = go (eqb (Read.digits f) 0) refl
     where
-      go : (t : Bool) → eqb (Read.digits f) 0 ≡ t → normal (cond t (record { coefficient = pos 0; power = pos 0 }) (record { coefficient = withSign (f .negative) (Read.digits f / 10 ^ trailing f); power = scale f +ℤ pos (trailing f) })) ≡ true
-      go true e = unfold normal in refl
+      go : (t : Bool) → eqb (Read.digits f) 0 ≡ t → isNormal (cond t (record { coefficient = pos 0; power = pos 0 }) (record { coefficient = withSign (f .negative) (Read.digits f / 10 ^ trailing f); power = scale f +ℤ pos (trailing f) })) ≡ true
+      go true e = unfold isNormal in refl
       go false e = ended (record { coefficient = withSign (f .negative) (Read.digits f / 10 ^ trailing f); power = scale f +ℤ pos (trailing f) }) (λ z. stripped (let n = eqb-false (Read.digits f) 0 e in omega arith) .ends (ap (λ (k : ℕ). k % 10) (sym (signed-size (f .negative) (Read.digits f / 10 ^ trailing f))) ∙ z))
 
 -- ---- the number of a token
-judged-held : (k : ℕ) (f : Form) (d : Decimal) → Small (f .whole ++ f .fraction) → judged k (some f) ≡ Number d → (inRange d ≡ true) × (normal d ≡ true)
+judged-held : (k : ℕ) (f : Form) (d : Decimal) → Small (f .whole ++ f .fraction) → judged k (some f) ≡ Number d → (inRange d ≡ true) × (isNormal d ≡ true)
 unfolding judged
 judged-held k f d small = go (leb k 64) (inRange (Read.normal f)) refl
   where
-    go : (a b : Bool) → inRange (Read.normal f) ≡ b → cond (a && b) (Number (Read.normal f)) Malformed ≡ Number d → (inRange d ≡ true) × (normal d ≡ true)
-    go true true r e = let g : Read.normal f ≡ d = cc in (subst (λ (x : Decimal). inRange x ≡ true) g r, subst (λ (x : Decimal). normal x ≡ true) g (form-normal f small))
+    go : (a b : Bool) → inRange (Read.normal f) ≡ b → cond (a && b) (Number (Read.normal f)) Malformed ≡ Number d → (inRange d ≡ true) × (isNormal d ≡ true)
+    go true true r e = let g : Read.normal f ≡ d = cc in (subst (λ (x : Decimal). inRange x ≡ true) g r, subst (λ (x : Decimal). isNormal x ≡ true) g (form-normal f small))
     go true false r e = absurd (let z : _≡_ {A = ℕ} 0 1 = cc in omega arith)
     go false b r e = absurd (let z : _≡_ {A = ℕ} 0 1 = cc in omega arith)
 
@@ -57,8 +57,8 @@ none-read : (d : Decimal) (k : ℕ) → judged k none ≡ Number d → ⊥
 unfolding judged
 none-read d k e = let z : _≡_ {A = ℕ} 0 1 = cc in omega arith
 
--- a number that a token stands for is in range and normal
-pub read-held : (l : List ℕ) (d : Decimal) → tokenOf l ≡ Number d → (inRange d ≡ true) × (normal d ≡ true)
+-- a number that a token stands for is in range and isNormal
+pub read-held : (l : List ℕ) (d : Decimal) → tokenOf l ≡ Number d → (inRange d ≡ true) × (isNormal d ≡ true)
 unfolding tokenOf formOf
 read-held l d = go (leb 1 (length (digitsOf (behindSign l)) + length (fractionOf (behindDigits (behindSign l)))) && isExponent (behindFraction (behindDigits (behindSign l))))
   where
@@ -72,6 +72,6 @@ read-held l d = go (leb 1 (length (digitsOf (behindSign l)) + length (fractionOf
           exponent = Read.exponentDigits (behindFraction (behindDigits (behindSign l)));
         }
 
-    go : (t : Bool) → judged (length l) (cond t (some f) none) ≡ Number d → (inRange d ≡ true) × (normal d ≡ true)
+    go : (t : Bool) → judged (length l) (cond t (some f) none) ≡ Number d → (inRange d ≡ true) × (isNormal d ≡ true)
     go true e = judged-held (length l) f d (both-small (digits-small (behindSign l)) (fraction-small (behindDigits (behindSign l)))) e
     go false e = absurd (none-read d (length l) e)

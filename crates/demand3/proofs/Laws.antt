@@ -15,10 +15,10 @@ use Rattle.room.specs.Room.{Room}
 use Rattle.reading.specs.declared.Answer.{Answer}
 use Rattle.look.specs.Look.{Look, replaceIn, lookAfter}
 use Rattle.look.specs.Replacing as Replacing
-use Rattle.replacing.specs.Code.{Leaves, Replaced, lookOf}
+use Rattle.replacing.specs.Code.{AnswersWith, Replaced, lookOf}
 use Rattle.replacing.specs.Code as Replaces
 use Rattle.claims.specs.LookRuns.{lookRun}
-use Rattle.demand3.specs.Runs.{part, callsFrom, numbersSaid, placesSaid, CallsRun}
+use Rattle.demand3.specs.Runs.{callPart, callsFrom, numbersSaid, placesSaid, CallsRun}
 
 -- ---- the bytes of an element
 data Order (m : ℕ) (n : ℕ) : Type 0 where
@@ -32,8 +32,8 @@ order m n = go (leb m n) refl
     go true e = low (leb-true m n e)
     go false e = high (leb-false m n e)
 
-pub part-is : (s : List ℕ) (a b e f : ℕ) → e ≡ min b (length s) → f ≡ min a e → take (e - f) (drop f s) ≡ part s a b
-unfolding part
+pub part-is : (s : List ℕ) (a b e f : ℕ) → e ≡ min b (length s) → f ≡ min a e → take (e - f) (drop f s) ≡ callPart s a b
+unfolding callPart
 part-is s a b e f p q = go (order b (length s)) (order a e)
   where
     go : Order b (length s) → Order a e → take (e - f) (drop f s) ≡ take (b - a) (drop a s)
@@ -66,27 +66,27 @@ abbrev Calls : Type 0
 Calls = List (ℕ × List ℕ)
 
 -- ---- the answers, seen as numbers by f (an answer's number or its place), are stored in a slice: from x with the calls cs and the slice a₀ to y with the calls ds and the slice a, i calls made
-abbrev Stored : (Replacing.Answer → ℕ) → Look → Calls → List ℕ → Look → Calls → ℕ → List ℕ → Type 0
+abbrev Stored : (Replacing.Replacing → ℕ) → Look → Calls → List ℕ → Look → Calls → ℕ → List ℕ → Type 0
 Stored f x cs a₀ y ds i a = wrote 0 (map f (lookRun x cs .0)) a₀ ≡ wrote i (map f (lookRun y ds .0)) a
 
 -- what the loop keeps
 pub record Going (x : Look) (cs : Calls) (n₀ p₀ : List ℕ) (y : Look) (ds : Calls) (i : ℕ) (n p : List ℕ) : Type 0 where
   pub left : lookRun x cs .1 ≡ lookRun y ds .1
-  pub numbers : Stored Replaces.numberOf x cs n₀ y ds i n
-  pub places : Stored Replaces.placeOf x cs p₀ y ds i p
+  pub numbers : Stored Replaces.replacingNumber x cs n₀ y ds i n
+  pub places : Stored Replaces.replacingPlace x cs p₀ y ds i p
 
 pub going-start : (x : Look) (cs : Calls) (n p : List ℕ) → Going x cs n p x cs 0 n p
 going-start x cs n p = record { left = refl; numbers = refl; places = refl }
 
-look-is : (y : Look) (a : Replacing.Answer) (r : Answer) (m : Room) → Leaves y a r m → lookAfter y a ≡ lookOf (r .list) m
-unfolding Replaces.answerOf
+look-is : (y : Look) (a : Replacing.Replacing) (r : Answer) (m : Room) → AnswersWith y a r m → lookAfter y a ≡ lookOf (r .list) m
+unfolding Replaces.replacingAnswer
 look-is y a r m h = sym (ap (λ (z : Answer). lookOf (z .list) m) (h .answer) ∙ ap (lookOf (lookAfter y a .list)) (h .room))
 
-number-is : (y : Look) (a : Replacing.Answer) (r : Answer) (m : Room) → Leaves y a r m → (Replaces.numberOf a ≡ r .number) × (Replaces.placeOf a ≡ r .place)
-unfolding Replaces.answerOf
+number-is : (y : Look) (a : Replacing.Replacing) (r : Answer) (m : Room) → AnswersWith y a r m → (Replaces.replacingNumber a ≡ r .number) × (Replaces.replacingPlace a ≡ r .place)
+unfolding Replaces.replacingAnswer
 number-is y a r m h = (sym (ap (λ (z : Answer). z .number) (h .answer)), sym (ap (λ (z : Answer). z .place) (h .answer)))
 
-stored-turn : (f : Replacing.Answer → ℕ) (x : Look) (cs : Calls) (a₀ : List ℕ) (y : Look) (ds : Calls) (i : ℕ) (a : List ℕ) → Stored f x cs a₀ y ds i a
+stored-turn : (f : Replacing.Replacing → ℕ) (x : Look) (cs : Calls) (a₀ : List ℕ) (y : Look) (ds : Calls) (i : ℕ) (a : List ℕ) → Stored f x cs a₀ y ds i a
     → (c : ℕ × List ℕ) (es : Calls) → ds ≡ c ∷ es → i < length a → (z : Look) → lookAfter y (replaceIn y (c .0) (c .1)) ≡ z → (n : ℕ) → f (replaceIn y (c .0) (c .1)) ≡ n
     → Stored f x cs a₀ z es (i + 1) (set a i n)
 stored-turn f x cs a₀ y ds i a g c es p h z u n v =
@@ -96,15 +96,15 @@ stored-turn f x cs a₀ y ds i a g c es p h z u n v =
     ∙ wrote-turn i n (map f (lookRun z es .0)) a h
 
 going-turn : (x : Look) (cs : Calls) (n₀ p₀ : List ℕ) (y : Look) (ds : Calls) (i : ℕ) (n p : List ℕ) → Going x cs n₀ p₀ y ds i n p → (c : ℕ × List ℕ) (es : Calls) → ds ≡ c ∷ es
-    → i < length n → i < length p → (r : Answer) (m : Room) → Leaves y (replaceIn y (c .0) (c .1)) r m
+    → i < length n → i < length p → (r : Answer) (m : Room) → AnswersWith y (replaceIn y (c .0) (c .1)) r m
     → Going x cs n₀ p₀ (lookOf (r .list) m) es (i + 1) (set n i (r .number)) (set p i (r .place))
 going-turn x cs n₀ p₀ y ds i n p g c es q h k r m t =
     let u : lookAfter y (replaceIn y (c .0) (c .1)) ≡ lookOf (r .list) m = look-is y (replaceIn y (c .0) (c .1)) r m t in
     let v = number-is y (replaceIn y (c .0) (c .1)) r m t in
     record {
       left = g .left ∙ ap (λ (l : Calls). lookRun y l .1) q ∙ ap (λ (z : Look). lookRun z es .1) u;
-      numbers = stored-turn Replaces.numberOf x cs n₀ y ds i n (g .numbers) c es q h (lookOf (r .list) m) u (r .number) (v .0);
-      places = stored-turn Replaces.placeOf x cs p₀ y ds i p (g .places) c es q k (lookOf (r .list) m) u (r .place) (v .1);
+      numbers = stored-turn Replaces.replacingNumber x cs n₀ y ds i n (g .numbers) c es q h (lookOf (r .list) m) u (r .number) (v .0);
+      places = stored-turn Replaces.replacingPlace x cs p₀ y ds i p (g .places) c es q k (lookOf (r .list) m) u (r .place) (v .1);
     }
 
 -- ---- the end of the loop
@@ -112,7 +112,7 @@ pub length-answers : (x : Look) (cs : Calls) → length (lookRun x cs .0) ≡ le
 length-answers x [] = refl
 length-answers x (c ∷ cs) = ap suc (length-answers (lookAfter x (replaceIn x (c .0) (c .1))) cs)
 
-stored-end : (f : Replacing.Answer → ℕ) (x : Look) (cs : Calls) (a₀ : List ℕ) (y : Look) (ds : Calls) (i : ℕ) (a : List ℕ) → Stored f x cs a₀ y ds i a → ds ≡ []
+stored-end : (f : Replacing.Replacing → ℕ) (x : Look) (cs : Calls) (a₀ : List ℕ) (y : Look) (ds : Calls) (i : ℕ) (a : List ℕ) → Stored f x cs a₀ y ds i a → ds ≡ []
     → a ≡ map f (lookRun x cs .0) ++ drop (length cs) a₀
 unfolding wrote
 stored-end f x cs a₀ y ds i a g p =
@@ -123,8 +123,8 @@ stored-end f x cs a₀ y ds i a g p =
 
 pub going-end : (x : Look) (cs : Calls) (n₀ p₀ : List ℕ) (y : Look) (ds : Calls) (i : ℕ) (n p : List ℕ) → Going x cs n₀ p₀ y ds i n p → ds ≡ [] → CallsRun x cs n₀ p₀ y n p
 going-end x cs n₀ p₀ y ds i n p g e = record {
-  numbers = stored-end Replaces.numberOf x cs n₀ y ds i n (g .numbers) e;
-  places = stored-end Replaces.placeOf x cs p₀ y ds i p (g .places) e;
+  numbers = stored-end Replaces.replacingNumber x cs n₀ y ds i n (g .numbers) e;
+  places = stored-end Replaces.replacingPlace x cs p₀ y ds i p (g .places) e;
   left = sym (g .left ∙ ap (λ (l : Calls). lookRun y l .1) e);
 }
 
@@ -134,7 +134,7 @@ module _ (a i : ℕ) (ks bs ns ps s : List ℕ) where
   calls = callsFrom a (drop i ks) (drop i bs) (drop i ns) (drop i ps) s
 
   next : i < length ks → i < length bs → i < length ns → i < length ps
-      → calls ≡ (getD ks i 0, part s a (getD bs i 0)) ∷ callsFrom (getD bs i 0) (drop (i + 1) ks) (drop (i + 1) bs) (drop (i + 1) ns) (drop (i + 1) ps) s
+      → calls ≡ (getD ks i 0, callPart s a (getD bs i 0)) ∷ callsFrom (getD bs i 0) (drop (i + 1) ks) (drop (i + 1) bs) (drop (i + 1) ns) (drop (i + 1) ps) s
   unfolding callsFrom
   next p q t u = rw (drop-cons ks i 0 p, drop-cons bs i 0 q, drop-cons ns i 0 t, drop-cons ps i 0 u, add-one i) refl
 
@@ -156,7 +156,7 @@ module _ (a i : ℕ) (ks bs ns ps s : List ℕ) where
 
   -- a turn of the loop, whose call has the bytes e
   pub turn : (x : Look) (cs : Calls) (n₀ p₀ : List ℕ) (l : ProcessList) (m : Room) (n p : List ℕ) → Going x cs n₀ p₀ (lookOf l m) calls i n p
-      → i < length ks → i < length bs → i < length ns → i < length ps → i < length n → i < length p → (e : List ℕ) → e ≡ part s a (getD bs i 0)
+      → i < length ks → i < length bs → i < length ns → i < length ps → i < length n → i < length p → (e : List ℕ) → e ≡ callPart s a (getD bs i 0)
       → (r : Answer) (m₁ : Room) → Replaced l m (getD ks i 0) e r m₁
       → Going x cs n₀ p₀ (lookOf (r .list) m₁) (callsFrom (getD bs i 0) (drop (i + 1) ks) (drop (i + 1) bs) (drop (i + 1) ns) (drop (i + 1) ps) s) (i + 1)
       (set n i (r .number)) (set p i (r .place))

@@ -7,12 +7,11 @@ use lib.Seq.{take-at}
 use Rattle.decimal.specs.declared.Decimal.{Decimal}
 use Rattle.process_list.specs.declared.ProcessList.{ProcessList}
 use Rattle.process_list.specs.File.{fileList, file-list}
-use Rattle.process_list.specs.List.{allNumbers}
+use Rattle.process_list.specs.List.{Element, allNumbers}
 use Rattle.room.specs.Room.{Room, roomLength, filledWith}
-use Rattle.clf.specs.Nodes.{NodeRead}
-use Rattle.clf.specs.Reading.{Reading, elementsOf, nodesIn, numbersIn, read}
+use Rattle.clf.specs.Reading.{Reading, nodesIn, read}
 use Rattle.reading.specs.declared.Answer.{Answer}
-use Rattle.reading.specs.Code.{answerOf, ReadsInto}
+use Rattle.reading.specs.Code.{readingAnswer, ReadsInto}
 use Rattle.look.specs.Look.{Look, roomOf, holding}
 use Rattle.look.specs.Replacing as Replacing
 use Rattle.replacing.specs.Code.{lookOf}
@@ -26,17 +25,12 @@ use Rattle.demand3.proofs.Laws.{length-answers}
 
 -- ---- what a reading leaves is the definition's look
 
-numbers-are : (l : List NodeRead) → numbersIn l ≡ allNumbers (elementsOf l)
-unfolding numbersIn allNumbers
-numbers-are [] = refl
-numbers-are (n ∷ l) = ap (λ (m : List Decimal). n .element .numbers ++ m) (numbers-are l)
-
-room-is : (x : Look) (r : Reading) → filledWith (numbersIn (nodesIn r)) (x .room) ≡ holding x (elementsOf (nodesIn r)) .room
+room-is : (x : Look) (r : Reading) → filledWith (allNumbers (nodesIn r)) (x .room) ≡ holding x (nodesIn r) .room
 unfolding holding
-room-is x r = ap (λ (xs : List Decimal). filledWith xs (x .room)) (numbers-are (nodesIn r))
+room-is x r = refl
 
-list-is : (x : Look) (r : Reading) → answerOf r .list ≡ holding x (elementsOf (nodesIn r)) .list
-unfolding answerOf holding
+list-is : (x : Look) (r : Reading) → readingAnswer r .list ≡ holding x (nodesIn r) .list
+unfolding readingAnswer holding
 list-is x r = refl
 
 pub read-look : (x : Look) (s : List ℕ) (r : Answer) (m : Room) → ReadsInto (read (roomOf x) s) r (x .room) m → lookOf (r .list) m ≡ readInto x s
@@ -50,7 +44,7 @@ module _ (s : List ℕ) (calls : List (ℕ × List ℕ)) (m₀ : Room) where
   abbrev file : List ℕ
   file = fileRun (read (roomLength m₀)) s calls .1
 
-  front : (f : Replacing.Answer → ℕ) (x : Look) (a a₀ : List ℕ) → a ≡ map f (lookRun x calls .0) ++ drop (length calls) a₀ → take (length calls) a ≡ map f (lookRun x calls .0)
+  front : (f : Replacing.Replacing → ℕ) (x : Look) (a a₀ : List ℕ) → a ≡ map f (lookRun x calls .0) ++ drop (length calls) a₀ → take (length calls) a ≡ map f (lookRun x calls .0)
   front f x a a₀ e =
       let n : length (map f (lookRun x calls .0)) ≡ length calls = length-map (lookRun x calls .0) f ∙ length-answers x calls in
       ap (take (length calls)) e ∙ take-at (map f (lookRun x calls .0)) (drop (length calls) a₀) (length calls) n
@@ -72,7 +66,7 @@ module _ (s : List ℕ) (calls : List (ℕ × List ℕ)) (m₀ : Room) where
 pub promise : (s : List ℕ) (calls : List (ℕ × List ℕ)) (r : Answer) (l : ProcessList) (m₀ m m₁ : Room) (ns₀ ns₁ ps₀ ps₁ : List ℕ) → ReadsInto (read (roomLength m₀) s) r m₀ m
     → CallsRun (lookOf (r .list) m) calls ns₀ ps₀ (lookOf l m₁) ns₁ ps₁
     → ReadAndReplaced s calls (record { number = r .number; place = r .place; list = l }) m₀ m₁ ns₀ ns₁ ps₀ ps₁
-unfolding answerOf
+unfolding readingAnswer
 promise s calls r l m₀ m m₁ ns₀ ns₁ ps₀ ps₁ h t =
     let x : Look = lookOf l m₀ in
     let q : lookOf (r .list) m ≡ readInto x s = read-look x s r m h in

@@ -24,7 +24,7 @@ fn smaller(a: usize, b: usize) -> usize
 
 // The bytes from a up to b, as far as there are any.
 fn part(s: &[u8], a: usize, b: usize) -> &[u8]
-    ensures { λ r. ⌜ now r ≡ Runs.part (now (s .entry)) a b ⌝ }
+    ensures { λ r. ⌜ now r ≡ Runs.callPart (now (s .entry)) a b ⌝ }
 {
     let end = smaller(b, s.len());
     let start = smaller(a, end);

@@ -8,11 +8,11 @@ use Rattle.grammar.specs.Parse.{Out, done, fault, cut, Parser, Turn, thenOut, r
 use Rattle.grammar.specs.Grammar.{ret}
 use Rattle.grammar.specs.Laws.{loop-again, loop-last, loop-fault, loop-cut}
 use Rattle.xml.specs.Xml.{strayEnd, closeName}
-use Rattle.xml.specs.Elements.{Part, gap, child, between}
+use Rattle.xml.specs.Elements.{Part, misc, child, between}
 use Rattle.xml.specs.Code.{part}
-use Rattle.markup.specs.Leads.{LeadsTo}
-use Rattle.markup.specs.declared.Lead.the-variants as Leads
-use Rattle.markup.specs.Between.{between-gap, between-fault, between-cut, between-child, between-end-fault, between-end-cut}
+use Rattle.markup.specs.Items.{ItemReads}
+use Rattle.markup.specs.declared.Item.the-variants as Items
+use Rattle.markup.specs.Between.{between-misc, between-fault, between-cut, between-child, between-end-fault, between-end-cut}
 use Rattle.tags.specs.Code.{partIn}
 use Rattle.tags.proofs.Words.{part-in}
 use Rattle.clf.specs.Description.{toFirst, firstChild, descriptionTag, noPart, textPart}
@@ -25,7 +25,7 @@ abbrev turn : Unit {0} → Parser (Turn (Unit {0}) (List ℕ))
 turn st u = thenOut (between-is u) (λ p. retP (toFirst p))
 
 module _ (u : List ℕ) where
-  first-again : (r : List ℕ) → between-is u ≡ done gap r → size r < size u → firstChild .run u ≡ firstChild .run r
+  first-again : (r : List ℕ) → between-is u ≡ done misc r → size r < size u → firstChild .run u ≡ firstChild .run r
   unfolding firstChild
   first-again r q l = loop-again turn tt u tt r (ap (λ (o : Out (Part (List ℕ))). thenOut o (λ p. retP (toFirst p))) q) l
 
@@ -59,24 +59,24 @@ module _ (s : List ℕ) (at i : ℕ) (v : FirstInv s at i) where
   unfolding between
   first-past h = found cut (first-cut (drop i s) (ap between-is (drop-of-length-le s h)))
 
-  pub first-gap : (e : ℕ) → LeadsTo s i (Leads.Gap e) → FirstInv s at e
-  first-gap e l = record {
-    run = v .run ∙ first-again (drop i s) (drop e s) (between-gap strayEnd (λ w. 0) (λ w. ret w) s i e l) (simp length-drop (omega (arith, l .inside .0, l .inside .1)));
+  pub first-misc : (e : ℕ) → ItemReads s i (Items.Misc e) → FirstInv s at e
+  first-misc e l = record {
+    run = v .run ∙ first-again (drop i s) (drop e s) (between-misc strayEnd (λ w. 0) (λ w. ret w) s i e l) (simp length-drop (omega (arith, l .inside .0, l .inside .1)));
   }
 
-  pub first-open : (e : ℕ) → LeadsTo s i (Leads.Open e) → textPart s (behindTag (drop at s)) ≡ textPart s ((descriptionTag (partIn s (i + 1) e)) .run (drop e s))
+  pub first-open : (e : ℕ) → ItemReads s i (Items.StartTag e) → textPart s (behindTag (drop at s)) ≡ textPart s ((descriptionTag (partIn s (i + 1) e)) .run (drop e s))
   first-open e l =
       found (done (part s (i + 1) e) (drop e s)) (first-child (drop i s) (part s (i + 1) e) (drop e s) (between-child strayEnd (λ w. 0) (λ w. ret w) s i e l refl (part s (i + 1) e) (drop e s) refl))
       ∙ ap (λ (w : List ℕ). textPart s ((descriptionTag w) .run (drop e s))) (part-in s (i + 1) e (l .inside .1))
 
-  pub first-failed : (k p : ℕ) → LeadsTo s i (Leads.Fault k p) → textPart s (behindTag (drop at s)) ≡ noPart
+  pub first-failed : (k p : ℕ) → ItemReads s i (Items.Fault k p) → textPart s (behindTag (drop at s)) ≡ noPart
   first-failed k p l = found (fault k (drop p s)) (first-fault (drop i s) k (drop p s) (between-fault strayEnd (λ w. 0) (λ w. ret w) s i k p l))
 
-  pub first-short : LeadsTo s i Leads.Cut → textPart s (behindTag (drop at s)) ≡ noPart
+  pub first-short : ItemReads s i Items.Cut → textPart s (behindTag (drop at s)) ≡ noPart
   first-short l = found cut (first-cut (drop i s) (between-cut strayEnd (λ w. 0) (λ w. ret w) s i l))
 
   -- the node's end tag: it has no child
-  pub first-end : LeadsTo s i Leads.End → textPart s (behindTag (drop at s)) ≡ noPart
+  pub first-end : ItemReads s i Items.EndTag → textPart s (behindTag (drop at s)) ≡ noPart
   unfolding strayEnd
   first-end l = by (closeName .run (drop i s)) refl
     where

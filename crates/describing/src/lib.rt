@@ -6,7 +6,7 @@ ghost use lib.ListN.{length, drop};
 ghost use Rattle.tags.specs.Code.{partIn};
 ghost use Rattle.clf.specs.Description as Description;
 ghost use Rattle.describing.specs.Code.{noPlace, IsPlace, behindTag};
-use markup::Lead;
+use markup::Item;
 use tags::TagEnd;
 use xml::Scan;
 
@@ -64,15 +64,15 @@ fn first_text(file: &[u8], at: usize) -> Part
 {
     let mut i = at;
     while i < file.len() {
-        let l = markup::lead_at(file, i);
+        let l = markup::item_at(file, i);
         match l {
-            Lead::Gap(e) => {
+            Item::Misc(e) => {
                 i = e;
             }
-            Lead::Open(e) => return child_text(file, i + 1, e),
-            Lead::End => return no_part(),
-            Lead::Fault(k, p) => return no_part(),
-            Lead::Cut => return no_part(),
+            Item::StartTag(e) => return child_text(file, i + 1, e),
+            Item::EndTag => return no_part(),
+            Item::Fault(k, p) => return no_part(),
+            Item::Cut => return no_part(),
         }
     }
     no_part()

@@ -1,4 +1,5 @@
 -- An element, by its start and what stands behind its name. Assumes nothing.
+use Rattle.process_list.specs.List.{Element}
 use mathlib.Core.Path.{_≡_, refl, ap, _∙_}
 use mathlib.Core.Bool.{false}
 use mathlib.Core.List.{List, []}
@@ -12,7 +13,7 @@ use Rattle.xml.specs.Code.{Inside, Reads, Failed}
 use Rattle.xml.specs.CodeLaws.{reads-well, reads-ill, reads-unjudged}
 use Rattle.xml.specs.declared.Scan.{Scan}
 use Rattle.xml.specs.declared.Scan.the-variants.{At, Fault, Cut}
-use Rattle.clf.specs.Nodes.{NodeRead, NodeName, nodeFault, nodeBody}
+use Rattle.clf.specs.Nodes.{NodeName, nodeFault, nodeBody}
 use Rattle.nodes.specs.Code.{carriedOf}
 use Rattle.nodes.specs.declared.CarriedNode.{CarriedNode}
 use Rattle.nodes.specs.declared.CarriedNode.the-variants as Carrieds
@@ -23,7 +24,7 @@ use Rattle.look.specs.Replacing.{start, element}
 abbrev judged : Parser NodeName
 judged = judgeP nodeFault (start .run)
 
-abbrev body : NodeName → Parser NodeRead
+abbrev body : NodeName → Parser Element
 body n = (nodeBody n) .run
 
 carried-well : (n : CarriedNode) → nodeFault (carriedOf n) ≡ 0
@@ -32,8 +33,8 @@ carried-well Carrieds.Lut1d = refl
 carried-well Carrieds.Range = refl
 carried-well Carrieds.Cdl = refl
 
-anyNode : NodeRead
-anyNode = record { element = record { kind = Matrix false; input = I8; output = I8; numbers = [] } }
+anyNode : Element
+anyNode = record { kind = Matrix false; input = I8; output = I8; numbers = [] }
 
 module _ (s : List ℕ) (base : ℕ) where
   none : (m₀ m₁ : Room) → m₁ ≡ clearedFrom base m₀ → (n : NodeName) (r : Scan) → Failed r → Reads 1 judged (λ e. n) s 0 r → NodeReads (element .run) s 0 base (noNode r) m₀ m₁

@@ -1,4 +1,5 @@
 // The element of a replacing call (document 01, Replacing): its start, by the bytes of the seven node names, and the node behind its name.
+ghost use Rattle.process_list.specs.List.{Element};
 ghost use mathlib.Core.Path.{_≡_};
 ghost use Rattle.grammar.specs.Parse.{lookP};
 ghost use Rattle.xml.specs.Code.{Reads, blamedScan};

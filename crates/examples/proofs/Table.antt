@@ -1,4 +1,4 @@
--- The definitions answer each starred example as document 01 says. Assumes nothing.
+-- The definitions outcome each starred example as document 01 says. Assumes nothing.
 use mathlib.Core.Path.{_≡_, refl}
 use mathlib.Core.List.{map}
 use lib.Ieee.{add, sub, mul, div, lt, le, eq, ofInt, ofBits}
@@ -21,13 +21,13 @@ use Rattle.pixel_run.specs.Prepare.{rangeFrom, cdlFrom}
 use Rattle.pixel_run.specs.Each.{eachPixel}
 use Rattle.pixel_run.specs.Finite.{firstNotFinite}
 use Rattle.running.specs.Running.{preparedAs, preparedOf, rowsAs, rowsOf, runNode, runNodes, notThrees, notFinite, ranOf, pixelsOf}
-use Rattle.examples.specs.Starred.{questions, answers, answer}
+use Rattle.examples.specs.Starred.{questions, answers, outcome}
 
-pub starred : map answer questions ≡ answers
+pub starred : map outcome questions ≡ answers
 unfolding questions answers
     isDigit isMark isMinus behindSign digitsOf behindDigits fractionOf behindFraction isEmpty isExponent exponentMinus exponentDigits formOf append withSign digits scale zeros trailing normal judged tokenOf
-    valueOf powered ten less atMost notNegative isOne Written.normal
-    List.sameDepth List.scaleOf List.numbersOf List.unplaced List.standing List.nodeOf List.total List.placeFrom List.placed List.allNumbers List.blankNode List.listOf List.nodesOf List.differs List.firstDiffers List.judged
+    valueOf powered ten less atMost notNegative isOne Written.isNormal
+    List.sameDepth List.scaleOf List.numbersOf List.unplaced List.withPosition List.nodeOf List.total List.placeFrom List.placed List.allNumbers List.blankNode List.listOf List.nodesOf List.differs List.firstDiffers List.judged
     roomLength every pairs numbersAt elementOf elementsOf tableRight shapeRight carried rangeHolds slopesHold powersHold cdlHolds rulesHold sound gapless isBlank listRight restZero zeroFrom isValid
     hold toFraction toFractions toCodeValue toCodeValues rangeScale rangeShift rangeLine rangeComponent rangePixel rowOut matrixPixel heldForFwd sop sopPixel satPixel cdlPixel
     numberAt rowAt rowsAt position floorTo index remainder interpolated stepped lookedUp entryAt columnOf tableIn lookedUpAll lut1dPixel

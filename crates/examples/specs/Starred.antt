@@ -1,4 +1,4 @@
--- The starred examples of document 01 (Examples for both sides of a line): questions, what the definitions answer, and what 01 says.
+-- The starred examples of document 01 (Examples for both sides of a line): questions, what the definitions outcome, and what 01 says.
 use mathlib.Core.Bool.{true, false}
 use mathlib.Core.List.{List, [], _∷_, map}
 use Prim.Native.Nat.{ℕ}
@@ -26,15 +26,15 @@ pub data Question : Type 0 where
   grey : List Element → Float → Question
 
 -- a number as its coefficient and its power; a refusal number; running's number, 0 for accepted, and the slice afterwards
-pub data Answer : Type 0 where
-  number : ℤ → ℤ → Answer
-  refusal : ℕ → Answer
-  slice : ℕ → List Float → Answer
+pub data Outcome : Type 0 where
+  number : ℤ → ℤ → Outcome
+  refusal : ℕ → Outcome
+  slice : ℕ → List Float → Outcome
 
--- ---- what the definitions answer
+-- ---- what the definitions outcome
 
 -- a token that says no number has the refusal that the only number of an element would have
-abbrev pub ofToken : Token → Answer
+abbrev pub ofToken : Token → Outcome
 ofToken (Number d) = number (d .coefficient) (d .power)
 ofToken Malformed = refusal (faultOf 1 anyNumber 0 Malformed)
 
@@ -43,19 +43,19 @@ abbrev pub greyPixel : Float → List Float
 greyPixel x = x ∷ x ∷ x ∷ []
 
 -- the numbers of all nodes, without gaps in node order, in a room that has no more
-abbrev pub roomOf : List Element → Room
-roomOf es = lent (coefficientParts (allNumbers es)) (powerParts (allNumbers es))
+abbrev pub roomHolding : List Element → Room
+roomHolding es = lent (coefficientParts (allNumbers es)) (powerParts (allNumbers es))
 
 -- the nodes stand in a list, their numbers in the room
-abbrev pub ofRun : List Element → List Float → Answer
+abbrev pub ofRun : List Element → List Float → Outcome
 ofRun es xs =
     slice
-    (ranOf (listOf (placed es)) (roomOf es) xs .number)
-    (pixelsOf (listOf (placed es)) (roomOf es) xs)
+    (ranOf (listOf (placed es)) (roomHolding es) xs .number)
+    (pixelsOf (listOf (placed es)) (roomHolding es) xs)
 
-abbrev pub answer : Question → Answer
-answer (token t) = ofToken (tokenOf t)
-answer (grey es x) = ofRun es (greyPixel x)
+abbrev pub outcome : Question → Outcome
+outcome (token t) = ofToken (tokenOf t)
+outcome (grey es x) = ofRun es (greyPixel x)
 
 -- ---- numbers and nodes of the questions
 
@@ -115,7 +115,7 @@ questions =
     ∷ []
 
 -- what 01 says
-unfoldable pub answers : List Answer
+unfoldable pub answers : List Outcome
 answers =
     number (pos 5) (negsuc 0)
     ∷ number (pos 0) (pos 0)

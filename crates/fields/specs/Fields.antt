@@ -38,5 +38,5 @@ numberFrom n [] = Number n
 numberFrom n (b ∷ l) = cond (ltb b 48) Malformed (cond (ltb 57 b) Malformed (numberFrom (withDigit n b) l))
 
 -- the number of a word of digits; a word of no bytes says none
-unfoldable pub numberOf : List ℕ → Parsed
-numberOf s = cond (eqb (length s) 0) Malformed (numberFrom 0 s)
+unfoldable pub wordNumber : List ℕ → Parsed
+wordNumber s = cond (eqb (length s) 0) Malformed (numberFrom 0 s)

@@ -8,7 +8,7 @@ use borrow.Author.Tests.{eq-eqb, ne-eqb, le-ltb}
 use Rattle.scanning.specs.Steps.{here}
 use lib.Dec.{eqb, ltb}
 use Rattle.fields.specs.declared.Parsed.the-variants.{Number, Malformed}
-use Rattle.fields.specs.Fields.{behindSpaces, beforeSpace, numberFrom, numberOf, withDigit}
+use Rattle.fields.specs.Fields.{behindSpaces, beforeSpace, numberFrom, wordNumber, withDigit}
 
 pub behindSpaces·nil : (at : ℕ) → behindSpaces at [] ≡ at
 unfolding behindSpaces
@@ -40,12 +40,12 @@ pub ruleset beforeSpace·laws = (beforeSpace·nil, beforeSpace·cons)
 
 pub ruleset numberFrom·laws = (numberFrom·nil, numberFrom·cons)
 
-pub no-word : (s : List ℕ) → length s ≡ 0 → Malformed ≡ numberOf s
-unfolding numberOf
+pub no-word : (s : List ℕ) → length s ≡ 0 → Malformed ≡ wordNumber s
+unfolding wordNumber
 no-word s h = rw (eq-eqb (length s) 0 h)
 
-pub some-word : (s : List ℕ) → (length s ≡ 0 → ⊥) → numberOf s ≡ numberFrom 0 s
-unfolding numberOf
+pub some-word : (s : List ℕ) → (length s ≡ 0 → ⊥) → wordNumber s ≡ numberFrom 0 s
+unfolding wordNumber
 some-word s h = rw (ne-eqb (length s) 0 h)
 
 -- one digit more

@@ -1,7 +1,7 @@
 // Fields of a line of text: words parted by spaces, and the number that a word says.
 ghost use mathlib.Core.Path.{_≡_};
 ghost use Prim.Native.Nat.{_≤_};
-ghost use Rattle.fields.specs.Fields.{startFrom, endFrom, fieldFrom, withDigit, numberOf};
+ghost use Rattle.fields.specs.Fields.{startFrom, endFrom, fieldFrom, withDigit, wordNumber};
 
 // Where a field stands in its line: from `start` up to `end`.
 pub struct Field {
@@ -69,7 +69,7 @@ fn with_digit(n: usize, b: u8) -> usize
 
 // The number of a word of digits.
 pub fn number(word: &[u8]) -> Parsed
-    ensures { λ r. ⌜ r ≡ numberOf (now (word .entry)) ⌝ }
+    ensures { λ r. ⌜ r ≡ wordNumber (now (word .entry)) ⌝ }
 {
     if word.len() == 0 {
         return Parsed::Malformed;

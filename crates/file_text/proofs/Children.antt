@@ -1,4 +1,5 @@
 -- A child of ProcessList, by what its parts answered. Assumes nothing.
+use Rattle.process_list.specs.List.{Element, allNumbers}
 use mathlib.Core.Path.{_≡_, refl, sym, ap, _∙_, subst}
 use mathlib.Core.Bool.{Bool, true, false, cond}
 use mathlib.Core.List.{List, []}
@@ -24,27 +25,27 @@ use Rattle.nodes.specs.declared.CarriedNode.{CarriedNode}
 use Rattle.nodes.specs.declared.CarriedNode.the-variants as Carrieds
 use Rattle.nodes.specs.declared.NodeName.{NodeName}
 use Rattle.nodes.specs.Code.{carriedOf, nameOf}
-use Rattle.clf.specs.Nodes.{NodeRead, nodeName, nodeBody, nodeFault}
+use Rattle.clf.specs.Nodes.{nodeName, nodeBody, nodeFault}
 use Rattle.clf.specs.Nodes as Names
 use Rattle.clf.specs.List.{Child, node, description, inputDescriptor, outputDescriptor, infoChild, Flags, childFault, childBody}
-use Rattle.clf.specs.Reading.{withChild, numbersIn}
+use Rattle.clf.specs.Reading.{withChild}
 use Rattle.file_text.specs.declared.ListState.{ListState}
 use Rattle.file_text.specs.declared.ListStep.{ListStep}
-use Rattle.file_text.specs.Code.{flagsOf, Counted, Leaves, ChildReads, refused, read, step, inputStep, outputStep, infoStep, nodeState, childState, CarriedReads, NodeChild, carried, other}
+use Rattle.file_text.specs.Code.{flagsOf, Counted, ChildLeaves, ChildReads, refused, read, step, inputStep, outputStep, infoStep, nodeState, childState, CarriedReads, NodeChild, carried, other}
 use Rattle.file_text.proofs.Nodes.{numbers-one, counted-one, counted-none}
 
 -- ---- children that are not nodes
 
 -- they change no room
-nothing-laid : (u : ℕ) (m : Room) → m ≡ laidIn u (numbersIn []) m
-unfolding numbersIn
+nothing-laid : (u : ℕ) (m : Room) → m ≡ laidIn u (allNumbers []) m
+unfolding allNumbers
 nothing-laid u m = sym (laid-nothing u m)
 
-leaves-room : (wanted at : ℕ) (st : ListState) (c : Child) (r : Scan) (m : Room) → withChild c [] ≡ [] → Leaves wanted at st c r (childState wanted at st c) m m
+leaves-room : (wanted at : ℕ) (st : ListState) (c : Child) (r : Scan) (m : Room) → withChild c [] ≡ [] → ChildLeaves wanted at st c r (childState wanted at st c) m m
 leaves-room wanted at st c (Scans.At e) m q = (
   refl,
-  subst (λ (l : List NodeRead). Counted l) (sym q) counted-none,
-  subst (λ (l : List NodeRead). m ≡ laidIn (st .used) (numbersIn l) m) (sym q) (nothing-laid (st .used) m),
+  subst (λ (l : List Element). Counted l) (sym q) counted-none,
+  subst (λ (l : List Element). m ≡ laidIn (st .used) (allNumbers l) m) (sym q) (nothing-laid (st .used) m),
 )
 leaves-room wanted at st c (Scans.Fault k p) m q = from-refl (st .used) m
 leaves-room wanted at st c Scans.Cut m q = from-refl (st .used) m
@@ -126,14 +127,14 @@ carried-well Carrieds.Lut1d = refl
 carried-well Carrieds.Range = refl
 carried-well Carrieds.Cdl = refl
 
-node-value : (q : Parser NodeRead) (v : NodeRead) (s : List ℕ) (e : ℕ) (r : Scan) → scanOut (λ x. v) s r ≡ q (drop e s) → scanOut (λ x. node v) s r ≡ bindP q (λ m. retP (node m)) (drop e s)
-node-value q v s e (Scans.At i) z = ap (λ (o : Out NodeRead). thenOut o (λ m. retP (node m))) z
-node-value q v s e (Scans.Fault k i) z = ap (λ (o : Out NodeRead). thenOut o (λ m. retP (node m))) z
-node-value q v s e Scans.Cut z = ap (λ (o : Out NodeRead). thenOut o (λ m. retP (node m))) z
+node-value : (q : Parser Element) (v : Element) (s : List ℕ) (e : ℕ) (r : Scan) → scanOut (λ x. v) s r ≡ q (drop e s) → scanOut (λ x. node v) s r ≡ bindP q (λ m. retP (node m)) (drop e s)
+node-value q v s e (Scans.At i) z = ap (λ (o : Out Element). thenOut o (λ m. retP (node m))) z
+node-value q v s e (Scans.Fault k i) z = ap (λ (o : Out Element). thenOut o (λ m. retP (node m))) z
+node-value q v s e Scans.Cut z = ap (λ (o : Out Element). thenOut o (λ m. retP (node m))) z
 
 -- what a node leaves, by its answer
-node-leaves : (wanted at : ℕ) (st : ListState) (n : Node) (v : NodeRead) (r : Scan) (m₁ m₂ : Room) → n ≡ nodeAfter r v → AllNumbers r v → m₂ ≡ roomAfter (st .used) r (v .element .numbers) m₁
-    → Leaves wanted at st (node v) r (nodeState st n wanted at) m₁ m₂
+node-leaves : (wanted at : ℕ) (st : ListState) (n : Node) (v : Element) (r : Scan) (m₁ m₂ : Room) → n ≡ nodeAfter r v → AllNumbers r v → m₂ ≡ roomAfter (st .used) r (v .numbers) m₁
+    → ChildLeaves wanted at st (node v) r (nodeState st n wanted at) m₁ m₂
 node-leaves wanted at st n v (Scans.At e) m₁ m₂ q k z = (
   ap (λ (x : Node). nodeState st x wanted at) q,
   counted-one v k,
@@ -164,8 +165,8 @@ roomed base (Scans.At e) xs m₁ m₂ z = subst (λ (m : Room). RoomFrom base m�
 roomed base (Scans.Fault k p) xs m₁ m₂ z = subst (λ (m : Room). RoomFrom base m₁ m) (sym z) (from-cleared base base m₁ (omega arith))
 roomed base Scans.Cut xs m₁ m₂ z = subst (λ (m : Room). RoomFrom base m₁ m) (sym z) (from-cleared base base m₁ (omega arith))
 
-pub node-room : {p : Parser NodeRead} {s : List ℕ} {e base : ℕ} {n : NodeStep} {m₁ m₂ : Room} → NodeReads p s e base n m₁ m₂ → RoomFrom base m₁ m₂
-node-room {base = base} {n = n} {m₁ = m₁} {m₂ = m₂} h = roomed base (n .scan) (h .value .element .numbers) m₁ m₂ (h .room)
+pub node-room : {p : Parser Element} {s : List ℕ} {e base : ℕ} {n : NodeStep} {m₁ m₂ : Room} → NodeReads p s e base n m₁ m₂ → RoomFrom base m₁ m₂
+node-room {base = base} {n = n} {m₁ = m₁} {m₂ = m₂} h = roomed base (n .scan) (h .value .numbers) m₁ m₂ (h .room)
 
 pub carried-room : {wanted : ℕ} {s : List ℕ} {at e : ℕ} {n : CarriedNode} {st : ListState} {r : ListStep} {m₁ m₂ : Room} → CarriedReads wanted s at e n st r m₁ m₂ → RoomFrom (st .used) m₁ m₂
 carried-room h = node-room (h .reads)
@@ -177,8 +178,8 @@ pub child-by-node : {wanted : ℕ} {s : List ℕ} {at e : ℕ} {name : NodeName}
 child-by-node (carried n q h) = carried-room h
 child-by-node {st = st} {m₁ = m₁} {m₂ = m₂} (other k q z x y) = same-from (st .used) m₁ m₂ y
 
-leaves-from : (wanted at : ℕ) (st : ListState) (c : Child) (r : Scan) (next : ListState) (m₁ m₂ : Room) → Leaves wanted at st c r next m₁ m₂ → RoomFrom (st .used) m₁ m₂
-leaves-from wanted at st c (Scans.At e) next m₁ m₂ h = subst (λ (m : Room). RoomFrom (st .used) m₁ m) (sym (h .2)) (from-laid (st .used) (st .used) (numbersIn (withChild c [])) m₁ (omega arith))
+leaves-from : (wanted at : ℕ) (st : ListState) (c : Child) (r : Scan) (next : ListState) (m₁ m₂ : Room) → ChildLeaves wanted at st c r next m₁ m₂ → RoomFrom (st .used) m₁ m₂
+leaves-from wanted at st c (Scans.At e) next m₁ m₂ h = subst (λ (m : Room). RoomFrom (st .used) m₁ m) (sym (h .2)) (from-laid (st .used) (st .used) (allNumbers (withChild c [])) m₁ (omega arith))
 leaves-from wanted at st c (Scans.Fault k p) next m₁ m₂ h = h
 leaves-from wanted at st c Scans.Cut next m₁ m₂ h = h
 

@@ -1,4 +1,5 @@
 -- The loop over ProcessList's content. Assumes nothing.
+use Rattle.process_list.specs.List.{Element, allNumbers}
 use mathlib.Core.Path.{_≡_, refl, sym, ap, _∙_, subst}
 use mathlib.Core.List.{List, [], _∷_, _++_}
 use Prim.Native.Nat.{ℕ, _+_, _-_, _≤_, _<_}
@@ -9,28 +10,27 @@ use Rattle.grammar.specs.Grammar.{items, wholeItems}
 use Rattle.grammar.specs.Splice.{flat}
 use Rattle.xml.specs.Bytes.{bytes}
 use Rattle.xml.specs.Xml.{endTag}
-use Rattle.xml.specs.Elements.{Part, gap, child, close, between}
+use Rattle.xml.specs.Elements.{Part, misc, child, close, between}
 use Rattle.xml.specs.declared.Scan.{Scan}
 use Rattle.xml.specs.declared.Scan.the-variants as Scans
 use Rattle.xml.specs.Code.{scanOut, Inside, Reads, noValue, part, Failed}
 use Rattle.process_list.specs.List as Lists
 use Rattle.room.specs.Room.{Room, laidIn}
 use Rattle.room.proofs.Rooms.{RoomFrom, from-refl, from-trans}
-use Rattle.markup.specs.Leads.{LeadsTo}
-use Rattle.markup.specs.declared.Lead.the-variants as Leads
-use Rattle.markup.specs.Between.{between-gap, between-fault, between-cut, between-refused, between-child, between-child-fault, between-child-cut, between-end-reads}
+use Rattle.markup.specs.Items.{ItemReads}
+use Rattle.markup.specs.declared.Item.the-variants as Items
+use Rattle.markup.specs.Between.{between-misc, between-fault, between-cut, between-refused, between-child, between-child-fault, between-child-cut, between-end-reads}
 use Rattle.tags.specs.Code.{partIn}
 use Rattle.tags.proofs.Words.{part-in}
-use Rattle.clf.specs.Nodes.{NodeRead}
 use Rattle.clf.specs.List.{Child, Flags, noFlags, childFault, childBody, listItem, nextFlags}
-use Rattle.clf.specs.Reading.{nodesOf, withChild, numbersIn}
+use Rattle.clf.specs.Reading.{nodesAmong, withChild}
 use Rattle.clf.specs.Whole.{WholeText}
 use Rattle.file_text.specs.declared.ListState.{ListState}
 use Rattle.file_text.specs.declared.ListStep.{ListStep}
 use Rattle.file_text.specs.Code.{bare, stateFrom, stateWith, Counted, Holds, flagsOf, noList, step, ChildReads, refused, read, ItemsRead}
 use Rattle.file_text.proofs.Nodes.{counted-none, counted-both}
 use Rattle.file_text.proofs.Rooms.{from-less, holds-none, holds-more, holds-failed, holds-whole, holds-size}
-use Rattle.file_text.proofs.Places.{nodes-gap, nodes-child, state-none, state-gap, state-child, flags-child}
+use Rattle.file_text.proofs.Places.{nodes-misc, nodes-child, state-none, state-misc, state-child, flags-child}
 use Rattle.file_text.proofs.Children.{child-room}
 use Rattle.file_text.proofs.Items.{onItems, wholeFrom, itemAt, items-on, items-end, items-bad, items-short, items-past, whole-on, whole-end, whole-bad, whole-short, whole-past, item-length, flat-more}
 
@@ -41,11 +41,11 @@ pub record ContentInv (wanted : ℕ) (s : List ℕ) (at i : ℕ) (st : ListState
   pub run : onItems [] noFlags (drop at s) ≡ onItems parts (flagsOf st) (drop i s)
   pub whole : wholeFrom [] noFlags (drop at s) ≡ wholeFrom parts (flagsOf st) (drop i s)
   pub state : st ≡ stateFrom wanted at (flagsOf st, parts)
-  pub counted : Counted (nodesOf parts)
-  pub room : RoomFrom Lists.mostNumbers (laidIn 0 (numbersIn (nodesOf parts)) m₀) m
+  pub counted : Counted (nodesAmong parts)
+  pub room : RoomFrom Lists.mostNumbers (laidIn 0 (allNumbers (nodesAmong parts)) m₀) m
 
 pub content-start : (wanted : ℕ) (s : List ℕ) (at : ℕ) (m : Room) → ContentInv wanted s at at noList m m
-unfolding nodesOf
+unfolding nodesAmong
 content-start wanted s at m = record {
   parts = [];
   place = omega arith;
@@ -64,7 +64,7 @@ item-is st u = refl
 abbrev pub ContentReads : ℕ → List ℕ → ℕ → ListStep → Room → Room → Type 0
 ContentReads wanted s at r m₀ m₁ = ItemsRead wanted ((items listItem nextFlags noFlags) .run) (wholeItems listItem nextFlags noFlags (drop at s)) at s at r m₀ m₁
 
-used-is : (wanted at : ℕ) (fl : Flags) (l : List (Part Child × List ℕ)) (st : ListState) → st ≡ stateFrom wanted at (fl, l) → st .used ≡ Lists.capped (Lists.total (bare (nodesOf l)))
+used-is : (wanted at : ℕ) (fl : Flags) (l : List (Part Child × List ℕ)) (st : ListState) → st ≡ stateFrom wanted at (fl, l) → st .used ≡ Lists.capped (Lists.total (bare (nodesAmong l)))
 unfolding stateFrom stateWith
 used-is wanted at fl l st e = ap (λ (x : ListState). x .used) e
 
@@ -75,7 +75,7 @@ module _ (wanted : ℕ) (s : List ℕ) (at i : ℕ) (st : ListState) (m₀ m : R
   abbrev now : WholeText
   now = (flagsOf st, v .parts)
 
-  used : st .used ≡ Lists.capped (Lists.total (bare (nodesOf (v .parts))))
+  used : st .used ≡ Lists.capped (Lists.total (bare (nodesAmong (v .parts))))
   used = used-is wanted at fl (v .parts) st (v .state)
 
   -- it ends here: what stands whole is what has been read
@@ -88,13 +88,13 @@ module _ (wanted : ℕ) (s : List ℕ) (at i : ℕ) (st : ListState) (m₀ m : R
         out = z ∙ sym (v .run);
         inside = b;
         state = v .state ∙ ap (stateFrom wanted at) (sym e);
-        counted = subst (λ (x : WholeText). Counted (nodesOf (x .1))) (sym e) (v .counted);
-        room = subst (λ (x : WholeText). Holds (nodesOf (x .1)) m₀ m₁) (sym e) (holds-failed (nodesOf (v .parts)) (st .used) m₀ m m₁ used (v .room) g);
+        counted = subst (λ (x : WholeText). Counted (nodesAmong (x .1))) (sym e) (v .counted);
+        room = subst (λ (x : WholeText). Holds (nodesAmong (x .1)) m₀ m₁) (sym e) (holds-failed (nodesAmong (v .parts)) (st .used) m₀ m m₁ used (v .room) g);
       }
 
   -- the slices keep their lengths
   pub content-size : RoomFrom 0 m₀ m
-  content-size = holds-size (nodesOf (v .parts)) m₀ m (holds-whole (nodesOf (v .parts)) m₀ m (v .room))
+  content-size = holds-size (nodesAmong (v .parts)) m₀ m (holds-whole (nodesAmong (v .parts)) m₀ m (v .room))
 
   pub child-size : (w : List ℕ) (e : ℕ) (r : ListStep) (m₁ : Room) → ChildReads wanted s w i e st r m m₁ → RoomFrom 0 m₀ m₁
   child-size w e r m₁ h = from-trans 0 m₀ m m₁ content-size (from-less (st .used) 0 m m₁ (omega arith) (child-room wanted s w i e st r m m₁ h))
@@ -127,29 +127,29 @@ module _ (wanted : ℕ) (s : List ℕ) (at i : ℕ) (st : ListState) (m₀ m : R
     longer : (e : ℕ) (p : Part Child) → i < e → e ≤ length s → e ≡ at + length (flat (v .parts ++ itemAt s i e p ∷ []))
     longer e p h k = omega (arith, v .place, flat-more (v .parts) (itemAt s i e p), item-length (v .parts) fl s i e h k p)
 
-    pub content-gap : (e : ℕ) → LeadsTo s i (Leads.Gap e) → ContentInv wanted s at e st m₀ m
-    content-gap e l =
+    pub content-misc : (e : ℕ) → ItemReads s i (Items.Misc e) → ContentInv wanted s at e st m₀ m
+    content-misc e l =
         let h : i < e = omega (arith, l .inside .0) in
-        let x : (listItem fl) .run (drop i s) ≡ done gap (drop e s) = item-is fl (drop i s) ∙ between-gap (endTag (bytes "ProcessList") 0) (childFault fl) childBody s i e l in
-        let n : nodesOf (v .parts ++ itemAt s i e gap ∷ []) ≡ nodesOf (v .parts) = nodes-gap (v .parts) (itemAt s i e gap .1) in
+        let x : (listItem fl) .run (drop i s) ≡ done misc (drop e s) = item-is fl (drop i s) ∙ between-misc (endTag (bytes "ProcessList") 0) (childFault fl) childBody s i e l in
+        let n : nodesAmong (v .parts ++ itemAt s i e misc ∷ []) ≡ nodesAmong (v .parts) = nodes-misc (v .parts) (itemAt s i e misc .1) in
         record {
-          parts = v .parts ++ itemAt s i e gap ∷ [];
-          place = longer e gap h (l .inside .1);
-          run = v .run ∙ items-on (v .parts) fl s i e h (l .inside .1) gap fl x refl;
-          whole = v .whole ∙ whole-on (v .parts) fl s i e h (l .inside .1) gap fl x refl;
-          state = state-gap wanted at (v .parts) st (itemAt s i e gap .1) (v .state);
-          counted = subst (λ (ns : List NodeRead). Counted ns) (sym n) (v .counted);
-          room = subst (λ (ns : List NodeRead). RoomFrom Lists.mostNumbers (laidIn 0 (numbersIn ns) m₀) m) (sym n) (v .room);
+          parts = v .parts ++ itemAt s i e misc ∷ [];
+          place = longer e misc h (l .inside .1);
+          run = v .run ∙ items-on (v .parts) fl s i e h (l .inside .1) misc fl x refl;
+          whole = v .whole ∙ whole-on (v .parts) fl s i e h (l .inside .1) misc fl x refl;
+          state = state-misc wanted at (v .parts) st (itemAt s i e misc .1) (v .state);
+          counted = subst (λ (ns : List Element). Counted ns) (sym n) (v .counted);
+          room = subst (λ (ns : List Element). RoomFrom Lists.mostNumbers (laidIn 0 (allNumbers ns) m₀) m) (sym n) (v .room);
         }
 
-    pub content-fault : (k q : ℕ) → LeadsTo s i (Leads.Fault k q) → ContentReads wanted s at (step (Scans.Fault k q) st) m₀ m
+    pub content-fault : (k q : ℕ) → ItemReads s i (Items.Fault k q) → ContentReads wanted s at (step (Scans.Fault k q) st) m₀ m
     content-fault k q l = bad k q m (item-is fl (drop i s) ∙ between-fault (endTag (bytes "ProcessList") 0) (childFault fl) childBody s i k q l) (l .inside) same
 
-    pub content-cut : LeadsTo s i Leads.Cut → ContentReads wanted s at (step Scans.Cut st) m₀ m
+    pub content-cut : ItemReads s i Items.Cut → ContentReads wanted s at (step Scans.Cut st) m₀ m
     content-cut l = short m (item-is fl (drop i s) ∙ between-cut (endTag (bytes "ProcessList") 0) (childFault fl) childBody s i l) same
 
     -- the end tag
-    pub content-end : (r : Scan) → LeadsTo s i Leads.End → Reads 1 ((endTag (bytes "ProcessList") 0) .run) noValue s i r → ContentReads wanted s at (step r st) m₀ m
+    pub content-end : (r : Scan) → ItemReads s i Items.EndTag → Reads 1 ((endTag (bytes "ProcessList") 0) .run) noValue s i r → ContentReads wanted s at (step r st) m₀ m
     content-end (Scans.At e) l h =
         let x : (listItem fl) .run (drop i s) ≡ done close (drop e s) =
         item-is fl (drop i s) ∙ between-end-reads (endTag (bytes "ProcessList") 0) (childFault fl) childBody s i l (Scans.At e) h in
@@ -161,7 +161,7 @@ module _ (wanted : ℕ) (s : List ℕ) (at i : ℕ) (st : ListState) (m₀ m : R
     content-end Scans.Cut l h = short m (item-is fl (drop i s) ∙ between-end-reads (endTag (bytes "ProcessList") 0) (childFault fl) childBody s i l Scans.Cut h) same
 
     -- a child, whose name ends at e
-    module _ (e : ℕ) (l : LeadsTo s i (Leads.Open e)) (m₁ : Room) where
+    module _ (e : ℕ) (l : ItemReads s i (Items.StartTag e)) (m₁ : Room) where
       abbrev w : List ℕ
       w = part s (i + 1) e
 
@@ -182,7 +182,7 @@ module _ (wanted : ℕ) (s : List ℕ) (at i : ℕ) (st : ListState) (m₀ m : R
           let h : i < q = omega (arith, l .inside .0, b .0) in
           let t : (listItem fl) .run (drop i s) ≡ done (child c) (drop q s) =
           item-is fl (drop i s) ∙ between-child (endTag (bytes "ProcessList") 0) (childFault fl) childBody s i e l f c (drop q s) (sym z) in
-          let n : nodesOf (v .parts ++ itemAt s i q (child c) ∷ []) ≡ nodesOf (v .parts) ++ withChild c [] = nodes-child (v .parts) c (itemAt s i q (child c) .1) in
+          let n : nodesAmong (v .parts ++ itemAt s i q (child c) ∷ []) ≡ nodesAmong (v .parts) ++ withChild c [] = nodes-child (v .parts) c (itemAt s i q (child c) .1) in
           let g : nextFlags fl (child c) ≡ again (flagsOf x) = flags-child wanted i st c ∙ ap (λ (u : ListState). again (flagsOf u)) (sym (y .0)) in
           record {
             parts = v .parts ++ itemAt s i q (child c) ∷ [];
@@ -191,10 +191,10 @@ module _ (wanted : ℕ) (s : List ℕ) (at i : ℕ) (st : ListState) (m₀ m : R
             whole = v .whole ∙ whole-on (v .parts) fl s i q h (b .1) (child c) (flagsOf x) t g;
             state = y .0 ∙ state-child wanted at (v .parts) st i c (itemAt s i q (child c) .1) (v .place) (v .state)
                 ∙ ap (λ (u : ListState). stateFrom wanted at (flagsOf u, v .parts ++ itemAt s i q (child c) ∷ [])) (sym (y .0));
-            counted = subst (λ (ns : List NodeRead). Counted ns) (sym n) (counted-both (nodesOf (v .parts)) (withChild c []) (v .counted) (y .1));
-            room = subst (λ (ns : List NodeRead). RoomFrom Lists.mostNumbers (laidIn 0 (numbersIn ns) m₀) m₁) (sym n)
-                (subst (λ (a : Room). RoomFrom Lists.mostNumbers (laidIn 0 (numbersIn (nodesOf (v .parts) ++ withChild c [])) m₀) a) (sym (y .2))
-                (holds-more (nodesOf (v .parts)) (withChild c []) (st .used) m₀ m (v .counted) used (v .room)));
+            counted = subst (λ (ns : List Element). Counted ns) (sym n) (counted-both (nodesAmong (v .parts)) (withChild c []) (v .counted) (y .1));
+            room = subst (λ (ns : List Element). RoomFrom Lists.mostNumbers (laidIn 0 (allNumbers ns) m₀) m₁) (sym n)
+                (subst (λ (a : Room). RoomFrom Lists.mostNumbers (laidIn 0 (allNumbers (nodesAmong (v .parts) ++ withChild c [])) m₀) a) (sym (y .2))
+                (holds-more (nodesAmong (v .parts)) (withChild c []) (st .used) m₀ m (v .counted) used (v .room)));
           }
 
       failed : (r : Scan) (x : ListState) → Failed r → ChildReads wanted s w i e st (step r x) m m₁ → ContentReads wanted s at (step r st) m₀ m₁

@@ -1,4 +1,5 @@
 -- The state with one child more: its nodes, and the place of the one that is wanted. Assumes nothing.
+use Rattle.process_list.specs.List.{Element}
 use mathlib.Core.Path.{_≡_, refl, sym, ap, _∙_}
 use mathlib.Core.Bool.{Bool, true, false, cond, _&&_}
 use mathlib.Core.List.{List, [], _∷_, _++_, append-nil}
@@ -10,13 +11,12 @@ use lib.ListN.{length, length-append}
 use borrow.Author.Tests.{lt-ltb, le-ltb, ltb-true, ltb-false, eqb-true, eqb-false, le-leb, lt-leb, leb-true, leb-false}
 use Rattle.grammar.specs.Parse.{again}
 use Rattle.grammar.specs.Splice.{flat}
-use Rattle.xml.specs.Elements.{Part, gap, child}
+use Rattle.xml.specs.Elements.{Part, misc, child}
 use Rattle.process_list.specs.declared.ProcessList.{ProcessList}
 use Rattle.process_list.specs.List as Lists
-use Rattle.clf.specs.Nodes.{NodeRead}
 use Rattle.clf.specs.List.{Child, node, description, inputDescriptor, outputDescriptor, infoChild, Flags, noFlags, nextFlags}
 use Rattle.clf.specs.Places.{spanOf}
-use Rattle.clf.specs.Reading.{nodesOf, withChild, isNumbered}
+use Rattle.clf.specs.Reading.{nodesAmong, withChild, isNumbered}
 use Rattle.clf.specs.Whole.{placeAmong}
 use Rattle.clf.proofs.Whole.{nodes-more, span-old, span-new}
 use Rattle.file_text.specs.declared.ListState.{ListState}
@@ -25,13 +25,13 @@ use Rattle.file_text.proofs.Nodes.{list-one, used-one, bare-length}
 
 -- ---- items with the same nodes
 
-pub nodes-gap : (l : List (Part Child × List ℕ)) (b : List ℕ) → nodesOf (l ++ (gap, b) ∷ []) ≡ nodesOf l
-unfolding nodesOf
-nodes-gap l b = nodes-more l ((gap, b) ∷ []) ∙ append-nil (nodesOf l)
+pub nodes-misc : (l : List (Part Child × List ℕ)) (b : List ℕ) → nodesAmong (l ++ (misc, b) ∷ []) ≡ nodesAmong l
+unfolding nodesAmong
+nodes-misc l b = nodes-more l ((misc, b) ∷ []) ∙ append-nil (nodesAmong l)
 
 -- the nodes of a child behind others
-pub nodes-child : (l : List (Part Child × List ℕ)) (c : Child) (b : List ℕ) → nodesOf (l ++ (child c, b) ∷ []) ≡ nodesOf l ++ withChild c []
-unfolding nodesOf
+pub nodes-child : (l : List (Part Child × List ℕ)) (c : Child) (b : List ℕ) → nodesAmong (l ++ (child c, b) ∷ []) ≡ nodesAmong l ++ withChild c []
+unfolding nodesAmong
 nodes-child l c b = nodes-more l ((child c, b) ∷ [])
 
 -- ---- places
@@ -64,59 +64,59 @@ abbrev placeBy : ℕ → ℕ → ℕ → List (Part Child × List ℕ) → ℕ
 placeBy n k at parts = cond (isNumbered k (min Lists.mostNodes n)) (spanOf parts (k - 1) at .0) 0
 
 -- items behind, where the number is one of those before
-old-place : (n k at : ℕ) (l m : List (Part Child × List ℕ)) → n ≤ length (nodesOf l) → placeBy n k at (l ++ m) ≡ placeBy n k at l
+old-place : (n k at : ℕ) (l m : List (Part Child × List ℕ)) → n ≤ length (nodesAmong l) → placeBy n k at (l ++ m) ≡ placeBy n k at l
 old-place n k at l m h = by (isNumbered k (min Lists.mostNodes n)) refl
   where
     by : (b : Bool) → isNumbered k (min Lists.mostNodes n) ≡ b → cond b (spanOf (l ++ m) (k - 1) at .0) 0 ≡ cond b (spanOf l (k - 1) at .0) 0
     by true q =
         let i = numbered-true k (min Lists.mostNodes n) q in
-        let j : k - 1 < length (nodesOf l) = omega (arith, i .0, i .1) in
+        let j : k - 1 < length (nodesAmong l) = omega (arith, i .0, i .1) in
         ap (λ (v : ℕ × ℕ). v .0) (span-old l m (k - 1) at j)
     by false q = refl
 
 -- an item that is no node changes no place
-same-place : (k at : ℕ) (l : List (Part Child × List ℕ)) (x : Part Child × List ℕ) → nodesOf (l ++ x ∷ []) ≡ nodesOf l → placeAmong k at (l ++ x ∷ []) ≡ placeAmong k at l
-same-place k at l x e = ap (λ (n : ℕ). placeBy n k at (l ++ x ∷ [])) (ap length e) ∙ old-place (length (nodesOf l)) k at l (x ∷ []) (omega arith)
+same-place : (k at : ℕ) (l : List (Part Child × List ℕ)) (x : Part Child × List ℕ) → nodesAmong (l ++ x ∷ []) ≡ nodesAmong l → placeAmong k at (l ++ x ∷ []) ≡ placeAmong k at l
+same-place k at l x e = ap (λ (n : ℕ). placeBy n k at (l ++ x ∷ [])) (ap length e) ∙ old-place (length (nodesAmong l)) k at l (x ∷ []) (omega arith)
 
 -- the count of a list of the first 32 nodes
-count-is : (ns : List NodeRead) → Lists.listOf (bare ns) .count ≡ min (length ns) 32
+count-is : (ns : List Element) → Lists.listOf (bare ns) .count ≡ min (length ns) 32
 unfolding Lists.listOf
 count-is ns = ap (λ (n : ℕ). min n 32) (bare-length ns)
 
 -- one node more, whose `<` stands at i
-node-place : (k at i : ℕ) (l : List (Part Child × List ℕ)) (v : NodeRead) (b : List ℕ) → i ≡ at + length (flat l)
-    → wantedStart (min (length (nodesOf l)) 32) k (placeAmong k at l) i ≡ placeAmong k at (l ++ (child (node v), b) ∷ [])
+node-place : (k at i : ℕ) (l : List (Part Child × List ℕ)) (v : Element) (b : List ℕ) → i ≡ at + length (flat l)
+    → wantedStart (min (length (nodesAmong l)) 32) k (placeAmong k at l) i ≡ placeAmong k at (l ++ (child (node v), b) ∷ [])
 unfolding wantedStart
-node-place k at i l v b q = by (ltb (min (length (nodesOf l)) 32) 32) (eqb (min (length (nodesOf l)) 32 + 1) k) refl refl
+node-place k at i l v b q = by (ltb (min (length (nodesAmong l)) 32) 32) (eqb (min (length (nodesAmong l)) 32 + 1) k) refl refl
   where
-    more : placeAmong k at (l ++ (child (node v), b) ∷ []) ≡ placeBy (suc (length (nodesOf l))) k at (l ++ (child (node v), b) ∷ [])
+    more : placeAmong k at (l ++ (child (node v), b) ∷ []) ≡ placeBy (suc (length (nodesAmong l))) k at (l ++ (child (node v), b) ∷ [])
     more =
         ap (λ (m : ℕ). placeBy m k at (l ++ (child (node v), b) ∷ []))
-        (ap length (nodes-child l (node v) b) ∙ length-append (nodesOf l) (v ∷ []) ∙ add-one (length (nodesOf l)))
+        (ap length (nodes-child l (node v) b) ∙ length-append (nodesAmong l) (v ∷ []) ∙ add-one (length (nodesAmong l)))
 
-    by : (x y : Bool) → ltb (min (length (nodesOf l)) 32) 32 ≡ x → eqb (min (length (nodesOf l)) 32 + 1) k ≡ y
+    by : (x y : Bool) → ltb (min (length (nodesAmong l)) 32) 32 ≡ x → eqb (min (length (nodesAmong l)) 32 + 1) k ≡ y
         → cond x (cond y i (placeAmong k at l)) (placeAmong k at l) ≡ placeAmong k at (l ++ (child (node v), b) ∷ [])
     by true true f g =
-        let h : min (length (nodesOf l)) 32 < 32 = ltb-true (min (length (nodesOf l)) 32) 32 f in
-        let j : min (length (nodesOf l)) 32 + 1 ≡ k = eqb-true (min (length (nodesOf l)) 32 + 1) k g in
-        let e : k - 1 ≡ length (nodesOf l) = omega arith in
-        let t : isNumbered k (min Lists.mostNodes (suc (length (nodesOf l)))) ≡ true = numbered-is k (min Lists.mostNodes (suc (length (nodesOf l)))) (omega arith) (omega arith) in
+        let h : min (length (nodesAmong l)) 32 < 32 = ltb-true (min (length (nodesAmong l)) 32) 32 f in
+        let j : min (length (nodesAmong l)) 32 + 1 ≡ k = eqb-true (min (length (nodesAmong l)) 32 + 1) k g in
+        let e : k - 1 ≡ length (nodesAmong l) = omega arith in
+        let t : isNumbered k (min Lists.mostNodes (suc (length (nodesAmong l)))) ≡ true = numbered-is k (min Lists.mostNodes (suc (length (nodesAmong l)))) (omega arith) (omega arith) in
         q ∙ sym (span-new l v b at) ∙ ap (λ (m : ℕ). spanOf (l ++ (child (node v), b) ∷ []) m at .0) (sym e)
         ∙ sym (ap (λ (z : Bool). cond z (spanOf (l ++ (child (node v), b) ∷ []) (k - 1) at .0) 0) t) ∙ sym more
     by true false f g =
-        let h : min (length (nodesOf l)) 32 < 32 = ltb-true (min (length (nodesOf l)) 32) 32 f in
-        let j : min (length (nodesOf l)) 32 + 1 ≡ k → ⊥ = eqb-false (min (length (nodesOf l)) 32 + 1) k g in
-        let a : min Lists.mostNodes (suc (length (nodesOf l))) ≡ suc (length (nodesOf l)) = omega arith in
-        let c : min Lists.mostNodes (length (nodesOf l)) ≡ length (nodesOf l) = omega arith in
-        let t : isNumbered k (suc (length (nodesOf l))) ≡ isNumbered k (length (nodesOf l)) = numbered-more k (length (nodesOf l)) (λ w. j (omega arith)) in
-        let u : isNumbered k (min Lists.mostNodes (suc (length (nodesOf l)))) ≡ isNumbered k (min Lists.mostNodes (length (nodesOf l))) =
+        let h : min (length (nodesAmong l)) 32 < 32 = ltb-true (min (length (nodesAmong l)) 32) 32 f in
+        let j : min (length (nodesAmong l)) 32 + 1 ≡ k → ⊥ = eqb-false (min (length (nodesAmong l)) 32 + 1) k g in
+        let a : min Lists.mostNodes (suc (length (nodesAmong l))) ≡ suc (length (nodesAmong l)) = omega arith in
+        let c : min Lists.mostNodes (length (nodesAmong l)) ≡ length (nodesAmong l) = omega arith in
+        let t : isNumbered k (suc (length (nodesAmong l))) ≡ isNumbered k (length (nodesAmong l)) = numbered-more k (length (nodesAmong l)) (λ w. j (omega arith)) in
+        let u : isNumbered k (min Lists.mostNodes (suc (length (nodesAmong l)))) ≡ isNumbered k (min Lists.mostNodes (length (nodesAmong l))) =
         ap (isNumbered k) a ∙ t ∙ ap (isNumbered k) (sym c) in
-        sym (more ∙ ap (λ (z : Bool). cond z (spanOf (l ++ (child (node v), b) ∷ []) (k - 1) at .0) 0) u ∙ old-place (length (nodesOf l)) k at l ((child (node v), b) ∷ []) (omega arith))
+        sym (more ∙ ap (λ (z : Bool). cond z (spanOf (l ++ (child (node v), b) ∷ []) (k - 1) at .0) 0) u ∙ old-place (length (nodesAmong l)) k at l ((child (node v), b) ∷ []) (omega arith))
     by false y f g =
-        let h : 32 ≤ min (length (nodesOf l)) 32 = ltb-false (min (length (nodesOf l)) 32) 32 f in
-        let u : min Lists.mostNodes (suc (length (nodesOf l))) ≡ min Lists.mostNodes (length (nodesOf l)) = omega arith in
+        let h : 32 ≤ min (length (nodesAmong l)) 32 = ltb-false (min (length (nodesAmong l)) 32) 32 f in
+        let u : min Lists.mostNodes (suc (length (nodesAmong l))) ≡ min Lists.mostNodes (length (nodesAmong l)) = omega arith in
         sym (more ∙ ap (λ (z : ℕ). cond (isNumbered k z) (spanOf (l ++ (child (node v), b) ∷ []) (k - 1) at .0) 0) u
-        ∙ old-place (length (nodesOf l)) k at l ((child (node v), b) ∷ []) (omega arith))
+        ∙ old-place (length (nodesAmong l)) k at l ((child (node v), b) ∷ []) (omega arith))
 
 -- ---- the state with one node more
 
@@ -137,8 +137,8 @@ same-state : {l l′ : ProcessList} {o o′ : Bool} {u u′ p p′ : ℕ} (fl : 
     (record { list = l′; over = o′; used = u′; input = fl .input; output = fl .output; info = fl .info; start = p′ })
 same-state fl a b c d = cc
 
-grown : (fl : Flags) (ns : List NodeRead) (p wanted i : ℕ) (v : NodeRead)
-    → nodeState (stateWith fl ns p) (Lists.nodeOf (v .element)) wanted i ≡ stateWith fl (ns ++ v ∷ []) (wantedStart (min (length ns) 32) wanted p i)
+grown : (fl : Flags) (ns : List Element) (p wanted i : ℕ) (v : Element)
+    → nodeState (stateWith fl ns p) (Lists.nodeOf v) wanted i ≡ stateWith fl (ns ++ v ∷ []) (wantedStart (min (length ns) 32) wanted p i)
 unfolding nodeState stateWith
 grown fl ns p wanted i v =
     same-state fl (list-one ns v)
@@ -149,7 +149,7 @@ grown fl ns p wanted i v =
 -- ---- the state with one item more
 
 pub state-none : (wanted at : ℕ) → noList ≡ stateFrom wanted at (noFlags, [])
-unfolding stateFrom stateWith nodesOf Lists.total Lists.capped
+unfolding stateFrom stateWith nodesAmong Lists.total Lists.capped
 state-none wanted at = ap (λ (p : ℕ). record { list = Lists.listOf []; over = false; used = 0; input = false; output = false; info = false; start = p }) (by (isNumbered wanted 0) refl)
   where
     by : (b : Bool) → isNumbered wanted 0 ≡ b → 0 ≡ cond b (spanOf [] (wanted - 1) at .0) 0
@@ -158,12 +158,12 @@ state-none wanted at = ap (λ (p : ℕ). record { list = Lists.listOf []; over =
 
 module _ (wanted at : ℕ) (l : List (Part Child × List ℕ)) where
   -- an item that is no node
-  other : (fl : Flags) (x : Part Child × List ℕ) → nodesOf (l ++ x ∷ []) ≡ nodesOf l → stateFrom wanted at (fl, l) ≡ stateFrom wanted at (fl, l ++ x ∷ [])
+  other : (fl : Flags) (x : Part Child × List ℕ) → nodesAmong (l ++ x ∷ []) ≡ nodesAmong l → stateFrom wanted at (fl, l) ≡ stateFrom wanted at (fl, l ++ x ∷ [])
   unfolding stateFrom
-  other fl x e = ap (λ (ns : List NodeRead). stateWith fl ns (placeAmong wanted at l)) (sym e) ∙ ap (stateWith fl (nodesOf (l ++ x ∷ []))) (sym (same-place wanted at l x e))
+  other fl x e = ap (λ (ns : List Element). stateWith fl ns (placeAmong wanted at l)) (sym e) ∙ ap (stateWith fl (nodesAmong (l ++ x ∷ []))) (sym (same-place wanted at l x e))
 
-  pub state-gap : (st : ListState) (b : List ℕ) → st ≡ stateFrom wanted at (flagsOf st, l) → st ≡ stateFrom wanted at (flagsOf st, l ++ (gap, b) ∷ [])
-  state-gap st b e = e ∙ other (flagsOf st) (gap, b) (nodes-gap l b)
+  pub state-misc : (st : ListState) (b : List ℕ) → st ≡ stateFrom wanted at (flagsOf st, l) → st ≡ stateFrom wanted at (flagsOf st, l ++ (misc, b) ∷ [])
+  state-misc st b e = e ∙ other (flagsOf st) (misc, b) (nodes-misc l b)
 
   with-flags : (st : ListState) (i o f : Bool) → st ≡ stateFrom wanted at (flagsOf st, l) → flagged st i o f ≡ stateFrom wanted at (record { input = i; output = o; info = f }, l)
   unfolding stateFrom stateWith
@@ -174,16 +174,16 @@ module _ (wanted at : ℕ) (l : List (Part Child × List ℕ)) where
       → childState wanted i st c ≡ stateFrom wanted at (flagsOf (childState wanted i st c), l ++ (child c, b) ∷ [])
   unfolding stateFrom nodeState
   state-child st i (node v) b q e =
-      ap (λ (x : ListState). nodeState x (Lists.nodeOf (v .element)) wanted i) e ∙ grown (flagsOf st) (nodesOf l) (placeAmong wanted at l) wanted i v
-      ∙ ap (λ (ns : List NodeRead). stateWith (flagsOf st) ns (wantedStart (min (length (nodesOf l)) 32) wanted (placeAmong wanted at l) i)) (sym (nodes-child l (node v) b))
-      ∙ ap (stateWith (flagsOf st) (nodesOf (l ++ (child (node v), b) ∷ []))) (node-place wanted at i l v b q)
-  state-child st i description b q e = e ∙ other (flagsOf st) (child description, b) (nodes-child l description b ∙ append-nil (nodesOf l))
+      ap (λ (x : ListState). nodeState x (Lists.nodeOf v) wanted i) e ∙ grown (flagsOf st) (nodesAmong l) (placeAmong wanted at l) wanted i v
+      ∙ ap (λ (ns : List Element). stateWith (flagsOf st) ns (wantedStart (min (length (nodesAmong l)) 32) wanted (placeAmong wanted at l) i)) (sym (nodes-child l (node v) b))
+      ∙ ap (stateWith (flagsOf st) (nodesAmong (l ++ (child (node v), b) ∷ []))) (node-place wanted at i l v b q)
+  state-child st i description b q e = e ∙ other (flagsOf st) (child description, b) (nodes-child l description b ∙ append-nil (nodesAmong l))
   state-child st i inputDescriptor b q e =
-      with-flags st true (st .output) (st .info) e ∙ other (flagsOf (flagged st true (st .output) (st .info))) (child inputDescriptor, b) (nodes-child l inputDescriptor b ∙ append-nil (nodesOf l))
+      with-flags st true (st .output) (st .info) e ∙ other (flagsOf (flagged st true (st .output) (st .info))) (child inputDescriptor, b) (nodes-child l inputDescriptor b ∙ append-nil (nodesAmong l))
   state-child st i outputDescriptor b q e =
-      with-flags st (st .input) true (st .info) e ∙ other (flagsOf (flagged st (st .input) true (st .info))) (child outputDescriptor, b) (nodes-child l outputDescriptor b ∙ append-nil (nodesOf l))
+      with-flags st (st .input) true (st .info) e ∙ other (flagsOf (flagged st (st .input) true (st .info))) (child outputDescriptor, b) (nodes-child l outputDescriptor b ∙ append-nil (nodesAmong l))
   state-child st i infoChild b q e =
-      with-flags st (st .input) (st .output) true e ∙ other (flagsOf (flagged st (st .input) (st .output) true)) (child infoChild, b) (nodes-child l infoChild b ∙ append-nil (nodesOf l))
+      with-flags st (st .input) (st .output) true e ∙ other (flagsOf (flagged st (st .input) (st .output) true)) (child infoChild, b) (nodes-child l infoChild b ∙ append-nil (nodesAmong l))
 
 -- the flags behind a child
 pub flags-child : (wanted i : ℕ) (st : ListState) (c : Child) → nextFlags (flagsOf st) (child c) ≡ again (flagsOf (childState wanted i st c))

@@ -1,4 +1,5 @@
 -- The room while node after node is read. What stands behind the largest count of numbers is never described: it is cleared in the end. Assumes nothing.
+use Rattle.process_list.specs.List.{Element, allNumbers}
 use mathlib.Core.Path.{_≡_, refl, sym, ap, _∙_, subst}
 use mathlib.Core.Bool.{Bool, true, false, cond}
 use mathlib.Core.List.{List, [], _∷_, _++_}
@@ -15,9 +16,7 @@ use Rattle.process_list.proofs.Laws.{capped-exact}
 use Rattle.room.specs.Room.{Room, roomLength, stored, laid, cleared, zeroed, laidIn, clearedIn, clearedFrom, filledWith, coefficientParts, powerParts}
 use Rattle.room.proofs.Contents.{SliceFrom, laid-length, laid-behind}
 use Rattle.room.proofs.Rooms.{RoomFrom, same-room, from-room, from-refl, from-trans, from-laid, cleared-same, laid-nothing, laid-room, laid-both, laid-filled}
-use Rattle.clf.specs.Nodes.{NodeRead}
-use Rattle.clf.specs.Reading.{numbersIn}
-use Rattle.file_text.specs.Code.{bare, fitting, Counted, Holds}
+use Rattle.file_text.specs.Code.{bare, fittingNumbers, Counted, Holds}
 use Rattle.file_text.proofs.Nodes.{numbers-more}
 
 -- ---- slices that are the same before an index
@@ -118,8 +117,8 @@ fit-cleared k xs m =
 -- ---- the numbers of nodes
 
 -- before any node
-pub holds-none : (m : Room) → RoomFrom Lists.mostNumbers (laidIn 0 (numbersIn []) m) m
-unfolding numbersIn
+pub holds-none : (m : Room) → RoomFrom Lists.mostNumbers (laidIn 0 (allNumbers []) m) m
+unfolding allNumbers
 holds-none m = subst (λ (x : Room). RoomFrom Lists.mostNumbers x m) (sym (laid-nothing 0 m)) (from-refl Lists.mostNumbers m)
 
 -- numbers laid behind those of the nodes, where `used` says they end
@@ -148,35 +147,35 @@ behind-by xs ys u m₀ m₁ e f = by (leb (length xs) Lists.mostNumbers) refl
         over h = omega (arith, capped-over (length xs) h)
 
 -- one node more, or none
-pub holds-more : (l more : List NodeRead) (u : ℕ) (m₀ m₁ : Room) → Counted l → u ≡ Lists.capped (Lists.total (bare l))
-    → RoomFrom Lists.mostNumbers (laidIn 0 (numbersIn l) m₀) m₁
-    → RoomFrom Lists.mostNumbers (laidIn 0 (numbersIn (l ++ more)) m₀) (laidIn u (numbersIn more) m₁)
+pub holds-more : (l more : List Element) (u : ℕ) (m₀ m₁ : Room) → Counted l → u ≡ Lists.capped (Lists.total (bare l))
+    → RoomFrom Lists.mostNumbers (laidIn 0 (allNumbers l) m₀) m₁
+    → RoomFrom Lists.mostNumbers (laidIn 0 (allNumbers (l ++ more)) m₀) (laidIn u (allNumbers more) m₁)
 holds-more l more u m₀ m₁ k e f =
-    subst (λ (xs : List Decimal). RoomFrom Lists.mostNumbers (laidIn 0 xs m₀) (laidIn u (numbersIn more) m₁)) (sym (numbers-more l more))
-    (behind-by (numbersIn l) (numbersIn more) u m₀ m₁ (e ∙ ap Lists.capped (sym k)) f)
+    subst (λ (xs : List Decimal). RoomFrom Lists.mostNumbers (laidIn 0 xs m₀) (laidIn u (allNumbers more) m₁)) (sym (numbers-more l more))
+    (behind-by (allNumbers l) (allNumbers more) u m₀ m₁ (e ∙ ap Lists.capped (sym k)) f)
 
 -- a node that does not stand whole has changed the room from `used` on alone
-pub holds-failed : (l : List NodeRead) (u : ℕ) (m₀ m₁ m₂ : Room) → u ≡ Lists.capped (Lists.total (bare l))
-    → RoomFrom Lists.mostNumbers (laidIn 0 (numbersIn l) m₀) m₁ → RoomFrom u m₁ m₂ → Holds l m₀ m₂
+pub holds-failed : (l : List Element) (u : ℕ) (m₀ m₁ m₂ : Room) → u ≡ Lists.capped (Lists.total (bare l))
+    → RoomFrom Lists.mostNumbers (laidIn 0 (allNumbers l) m₀) m₁ → RoomFrom u m₁ m₂ → Holds l m₀ m₂
 holds-failed l u m₀ m₁ m₂ e f g =
     let t : ℕ = Lists.total (bare l) in
     let h : min t Lists.mostNumbers ≤ u = rw e (capped-least t) in
-    from-trans (min t Lists.mostNumbers) (laidIn 0 (numbersIn l) m₀) m₁ m₂ (from-less Lists.mostNumbers (min t Lists.mostNumbers) _ _ (omega arith) f) (from-less u (min t Lists.mostNumbers) _ _ h g)
+    from-trans (min t Lists.mostNumbers) (laidIn 0 (allNumbers l) m₀) m₁ m₂ (from-less Lists.mostNumbers (min t Lists.mostNumbers) _ _ (omega arith) f) (from-less u (min t Lists.mostNumbers) _ _ h g)
 
-pub holds-whole : (l : List NodeRead) (m₀ m₁ : Room) → RoomFrom Lists.mostNumbers (laidIn 0 (numbersIn l) m₀) m₁ → Holds l m₀ m₁
+pub holds-whole : (l : List Element) (m₀ m₁ : Room) → RoomFrom Lists.mostNumbers (laidIn 0 (allNumbers l) m₀) m₁ → Holds l m₀ m₁
 holds-whole l m₀ m₁ f = from-less Lists.mostNumbers (min (Lists.total (bare l)) Lists.mostNumbers) _ _ (omega arith) f
 
 -- the rest cleared: the room holds the numbers that fit, and zeros
-pub holds-cleared : (l : List NodeRead) (u : ℕ) (m₀ m₁ : Room) → Counted l → u ≡ Lists.capped (Lists.total (bare l)) → Holds l m₀ m₁
-    → clearedFrom (min u Lists.mostNumbers) m₁ ≡ filledWith (fitting (roomLength m₀) (numbersIn l)) m₀
+pub holds-cleared : (l : List Element) (u : ℕ) (m₀ m₁ : Room) → Counted l → u ≡ Lists.capped (Lists.total (bare l)) → Holds l m₀ m₁
+    → clearedFrom (min u Lists.mostNumbers) m₁ ≡ filledWith (fittingNumbers (roomLength m₀) (allNumbers l)) m₀
 holds-cleared l u m₀ m₁ k e f =
     let t : ℕ = Lists.total (bare l) in
     let a : min u Lists.mostNumbers ≡ min t Lists.mostNumbers = rw e (capped-min t) in
-    let b : min t Lists.mostNumbers ≡ min (length (numbersIn l)) Lists.mostNumbers = ap (λ (n : ℕ). min n Lists.mostNumbers) (sym k) in
-    ap (λ (n : ℕ). clearedFrom n m₁) a ∙ cleared-same (min t Lists.mostNumbers) (laidIn 0 (numbersIn l) m₀) m₁ f
-    ∙ ap (λ (n : ℕ). clearedFrom n (laidIn 0 (numbersIn l) m₀)) b ∙ fit-cleared Lists.mostNumbers (numbersIn l) m₀
+    let b : min t Lists.mostNumbers ≡ min (length (allNumbers l)) Lists.mostNumbers = ap (λ (n : ℕ). min n Lists.mostNumbers) (sym k) in
+    ap (λ (n : ℕ). clearedFrom n m₁) a ∙ cleared-same (min t Lists.mostNumbers) (laidIn 0 (allNumbers l) m₀) m₁ f
+    ∙ ap (λ (n : ℕ). clearedFrom n (laidIn 0 (allNumbers l) m₀)) b ∙ fit-cleared Lists.mostNumbers (allNumbers l) m₀
 
 -- the slices keep their lengths
-pub holds-size : (l : List NodeRead) (m₀ m₁ : Room) → Holds l m₀ m₁ → RoomFrom 0 m₀ m₁
+pub holds-size : (l : List Element) (m₀ m₁ : Room) → Holds l m₀ m₁ → RoomFrom 0 m₀ m₁
 holds-size l m₀ m₁ f =
-    from-trans 0 m₀ (laidIn 0 (numbersIn l) m₀) m₁ (from-laid 0 0 (numbersIn l) m₀ (omega arith)) (from-less (min (Lists.total (bare l)) Lists.mostNumbers) 0 _ _ (omega arith) f)
+    from-trans 0 m₀ (laidIn 0 (allNumbers l) m₀) m₁ (from-laid 0 0 (allNumbers l) m₀ (omega arith)) (from-less (min (Lists.total (bare l)) Lists.mostNumbers) 0 _ _ (omega arith) f)

@@ -1,4 +1,5 @@
 -- What the answers of the code mean.
+use Rattle.process_list.specs.List.{Element, allNumbers}
 use mathlib.Core.Path.{_≡_}
 use mathlib.Core.Bool.{Bool, true, false, cond}
 use mathlib.Core.List.{List, [], map}
@@ -21,28 +22,28 @@ use Rattle.nodes.specs.declared.CarriedNode.{CarriedNode}
 use Rattle.nodes.specs.declared.NodeName.{NodeName}
 use Rattle.nodes.specs.Code.{carriedOf, nameOf}
 use Rattle.xml.specs.Xml.{startTag}
-use Rattle.clf.specs.Nodes.{NodeRead, nodeBody, nodeFault}
+use Rattle.clf.specs.Nodes.{nodeBody, nodeFault}
 use Rattle.clf.specs.List.{Child, node, description, inputDescriptor, outputDescriptor, infoChild, Flags, childFault, childBody, listRules, listContent, Document, document, tail}
-use Rattle.clf.specs.Reading.{nodesOf, withChild, elementsOf, numbersIn}
+use Rattle.clf.specs.Reading.{nodesAmong, withChild}
 use Rattle.clf.specs.Whole.{WholeText, wholeText, wholeNodes, contentPlace, placeAmong}
 use Rattle.file_text.specs.declared.ListState.{ListState}
 use Rattle.file_text.specs.declared.ListStep.{ListStep}
 
 -- the nodes of a text without fault, or its fault
-abbrev pub afterRoot : Document → List ℕ → Out (List NodeRead)
-afterRoot d r = thenOut (tail r) (λ u q. done (nodesOf (d .parts)) q)
+abbrev pub afterRoot : Document → List ℕ → Out (List Element)
+afterRoot d r = thenOut (tail r) (λ u q. done (nodesAmong (d .parts)) q)
 
-unfoldable pub textNodes : List ℕ → Out (List NodeRead)
+unfoldable pub textNodes : List ℕ → Out (List Element)
 textNodes s = thenOut (document .run s) afterRoot
 
 -- what the list holds of nodes, but for the position
-abbrev pub bare : List NodeRead → List Node
-bare l = map Lists.nodeOf (elementsOf l)
+abbrev pub bare : List Element → List Node
+bare l = map Lists.nodeOf l
 
 -- ---- what a text leaves: its state, and the room
 
 -- the state with these nodes: the first 32 of them; whether there are more; how many numbers they have, counted no further than one more than may be
-unfoldable pub stateWith : Flags → List NodeRead → ℕ → ListState
+unfoldable pub stateWith : Flags → List Element → ℕ → ListState
 stateWith flags nodes start = record {
   list = Lists.listOf (bare nodes);
   over = ltb Lists.mostNodes (length nodes);
@@ -55,19 +56,19 @@ stateWith flags nodes start = record {
 
 -- after these items, of which the first stands at `at`: `start` is the place of the node that is wanted
 unfoldable pub stateFrom : ℕ → ℕ → WholeText → ListState
-stateFrom wanted at whole = stateWith (whole .0) (nodesOf (whole .1)) (placeAmong wanted at (whole .1))
+stateFrom wanted at whole = stateWith (whole .0) (nodesAmong (whole .1)) (placeAmong wanted at (whole .1))
 
 -- after what stands whole in a text
 unfoldable pub stateOf : ℕ → List ℕ → ListState
 stateOf wanted s = stateFrom wanted (contentPlace s) (wholeText s)
 
 -- as many of the numbers as a room of length n holds and a list may have
-abbrev pub fitting : ℕ → List Decimal → List Decimal
-fitting n xs = take (min n Lists.mostNumbers) xs
+abbrev pub fittingNumbers : ℕ → List Decimal → List Decimal
+fittingNumbers n xs = take (min n Lists.mostNumbers) xs
 
 -- as many numbers as the kinds of the nodes ask for
-abbrev pub Counted : List NodeRead → Type 0
-Counted nodes = length (numbersIn nodes) ≡ Lists.total (bare nodes)
+abbrev pub Counted : List Element → Type 0
+Counted nodes = length (allNumbers nodes) ≡ Lists.total (bare nodes)
 
 -- the text of a file: its answer is the definition's; the state is that of the nodes that stand whole, at a fault those before it;
 -- and the room holds their numbers, the rest of it is zero
@@ -76,13 +77,13 @@ pub record ListReads (wanted : ℕ) (s : List ℕ) (r : ListStep) (m₀ m₁ : R
   pub inside : Inside 0 s 0 (r .scan)
   pub state : r .state ≡ stateOf wanted s
   pub counted : Counted (wholeNodes s)
-  pub room : m₁ ≡ filledWith (fitting (roomLength m₀) (numbersIn (wholeNodes s))) m₀
+  pub room : m₁ ≡ filledWith (fittingNumbers (roomLength m₀) (allNumbers (wholeNodes s))) m₀
 
 -- ---- before the rest of the room is cleared
 
 -- the numbers of the nodes stand in the room, as far as may be; what stands behind them is not said
-abbrev pub Holds : List NodeRead → Room → Room → Type 0
-Holds nodes m₀ m₁ = RoomFrom (min (Lists.total (bare nodes)) Lists.mostNumbers) (laidIn 0 (numbersIn nodes) m₀) m₁
+abbrev pub Holds : List Element → Room → Room → Type 0
+Holds nodes m₀ m₁ = RoomFrom (min (Lists.total (bare nodes)) Lists.mostNumbers) (laidIn 0 (allNumbers nodes) m₀) m₁
 
 pub record TextReads (wanted : ℕ) (s : List ℕ) (r : ListStep) (m₀ m₁ : Room) : Type 0 where
   pub out : scanOut (λ e. wholeNodes s) s (r .scan) ≡ textNodes s
@@ -97,8 +98,8 @@ pub record ItemsRead (wanted : ℕ) (p : Parser (List (Part Child × List ℕ)))
   pub out : scanOut (λ e. parts) s (r .scan) ≡ p (drop at s)
   pub inside : Inside 0 s at (r .scan)
   pub state : r .state ≡ stateFrom wanted place whole
-  pub counted : Counted (nodesOf (whole .1))
-  pub room : Holds (nodesOf (whole .1)) m₀ m₁
+  pub counted : Counted (nodesAmong (whole .1))
+  pub room : Holds (nodesAmong (whole .1)) m₀ m₁
 
 -- ProcessList behind its name
 abbrev pub rootP : Parser (List (Part Child × List ℕ))
@@ -160,20 +161,20 @@ pub data NodeChild (wanted : ℕ) (s : List ℕ) (at e : ℕ) (name : NodeName) 
 
 -- the state after a child whose `<` stands at `at`
 abbrev pub childState : ℕ → ℕ → ListState → Child → ListState
-childState wanted at st (node v) = nodeState st (Lists.nodeOf (v .element)) wanted at
+childState wanted at st (node v) = nodeState st (Lists.nodeOf v) wanted at
 childState wanted at st description = st
 childState wanted at st inputDescriptor = flagged st true (st .output) (st .info)
 childState wanted at st outputDescriptor = flagged st (st .input) true (st .info)
 childState wanted at st infoChild = flagged st (st .input) (st .output) true
 
 -- what a child leaves: where it stands whole, its state and its numbers; else nothing has changed but the room from `used` on
-abbrev pub Leaves : ℕ → ℕ → ListState → Child → Scan → ListState → Room → Room → Type 0
-Leaves wanted at st c (Scans.At e) next m₁ m₂ = (next ≡ childState wanted at st c) × Counted (withChild c []) × (m₂ ≡ laidIn (st .used) (numbersIn (withChild c [])) m₁)
-Leaves wanted at st c (Scans.Fault k p) next m₁ m₂ = RoomFrom (st .used) m₁ m₂
-Leaves wanted at st c Scans.Cut next m₁ m₂ = RoomFrom (st .used) m₁ m₂
+abbrev pub ChildLeaves : ℕ → ℕ → ListState → Child → Scan → ListState → Room → Room → Type 0
+ChildLeaves wanted at st c (Scans.At e) next m₁ m₂ = (next ≡ childState wanted at st c) × Counted (withChild c []) × (m₂ ≡ laidIn (st .used) (allNumbers (withChild c [])) m₁)
+ChildLeaves wanted at st c (Scans.Fault k p) next m₁ m₂ = RoomFrom (st .used) m₁ m₂
+ChildLeaves wanted at st c Scans.Cut next m₁ m₂ = RoomFrom (st .used) m₁ m₂
 
 -- a child of the name w, whose `<` stands at `at` and whose name ends at e: it may not stand there, or it reads as the definition's
 pub data ChildReads (wanted : ℕ) (s w : List ℕ) (at e : ℕ) (st : ListState) (r : ListStep) (m₁ m₂ : Room) : Type 0 where
   refused : (k : ℕ) → childFault (flagsOf st) w ≡ k → (k ≡ 0 → ⊥) → r .scan ≡ Scans.Fault k at → m₂ ≡ m₁ → ChildReads wanted s w at e st r m₁ m₂
   read : (c : Child) → childFault (flagsOf st) w ≡ 0 → scanOut (λ q. c) s (r .scan) ≡ (childBody w) .run (drop e s) → Inside 1 s e (r .scan)
-      → Leaves wanted at st c (r .scan) (r .state) m₁ m₂ → ChildReads wanted s w at e st r m₁ m₂
+      → ChildLeaves wanted at st c (r .scan) (r .state) m₁ m₂ → ChildReads wanted s w at e st r m₁ m₂

@@ -9,7 +9,7 @@ ghost use Rattle.tags.specs.Code.{partIn};
 ghost use Rattle.clf.specs.List as List;
 ghost use Rattle.clf.specs.Whole.{wholeBehind, behindHead};
 ghost use Rattle.file_text.specs.Code as Code;
-use markup::Lead;
+use markup::Item;
 use nodes::CarriedNode;
 use nodes::NodeName;
 use process_list::Node;
@@ -230,12 +230,12 @@ fn list_content(
     let mut state = no_list();
     let mut i = at;
     while i < s.len() {
-        let l = markup::lead_at(s, i);
+        let l = markup::item_at(s, i);
         match l {
-            Lead::Gap(e) => {
+            Item::Misc(e) => {
                 i = e;
             }
-            Lead::Open(e) => {
+            Item::StartTag(e) => {
                 let step = list_child(s, i, e, state, wanted, coefficients, powers);
                 let scan = step.scan;
                 let next = step.state;
@@ -245,9 +245,9 @@ fn list_content(
                 state = next;
                 i = q;
             }
-            Lead::End => return step_of(markup::end_tag(s, i, b"ProcessList", 0), state),
-            Lead::Fault(k, p) => return step_of(Scan::Fault(k, p), state),
-            Lead::Cut => return step_of(Scan::Cut, state),
+            Item::EndTag => return step_of(markup::end_tag(s, i, b"ProcessList", 0), state),
+            Item::Fault(k, p) => return step_of(Scan::Fault(k, p), state),
+            Item::Cut => return step_of(Scan::Cut, state),
         }
     }
     step_of(Scan::Cut, state)

@@ -32,10 +32,10 @@ follows-app [] r t h = h
 follows-app (b ∷ c) r t h = (c ++ t, refl)
 
 -- what p makes of s, and of other bytes in its place
-pub data Answer {A : Type 0} (p : Parser A) (s : List ℕ) : Type 0 where
-  cuts : p s ≡ cut → Answer p s
-  faults : (k : ℕ) (c r : List ℕ) → s ≡ c ++ r → ((t : List ℕ) → p (s ++ t) ≡ fault k (r ++ t)) → Answer p s
-  dones : (a : A) (c r : List ℕ) → s ≡ c ++ r → ((t : List ℕ) → Follows r t → p (c ++ t) ≡ done a t) → Answer p s
+pub data StrongPrefix {A : Type 0} (p : Parser A) (s : List ℕ) : Type 0 where
+  cuts : p s ≡ cut → StrongPrefix p s
+  faults : (k : ℕ) (c r : List ℕ) → s ≡ c ++ r → ((t : List ℕ) → p (s ++ t) ≡ fault k (r ++ t)) → StrongPrefix p s
+  dones : (a : A) (c r : List ℕ) → s ≡ c ++ r → ((t : List ℕ) → Follows r t → p (c ++ t) ≡ done a t) → StrongPrefix p s
 
 seam : (s c r t : List ℕ) → s ≡ c ++ r → s ++ t ≡ c ++ (r ++ t)
 seam s c r t e = ap (λ (x : List ℕ). x ++ t) e ∙ append-assoc c r t
@@ -49,7 +49,7 @@ before-app c r =
 
 module _ {A B : Type 0} (p : Parser A) (f : A → Parser B) where
   bind-go : (s : List ℕ) (a : A) (c r : List ℕ) → s ≡ c ++ r → ((t : List ℕ) → Follows r t → p (c ++ t) ≡ done a t)
-      → Answer (f a) r → Answer (bindP p f) s
+      → StrongPrefix (f a) r → StrongPrefix (bindP p f) s
   bind-go s a c r e h (cuts q) = cuts (ap (λ (x : List ℕ). bindP p f x) e ∙ ap (λ (o : Out A). thenOut o f) (h r (follows-refl r)) ∙ q)
   bind-go s a c r e h (faults k c₂ r₂ e₂ h₂) =
       faults k (c ++ c₂) r₂ (e ∙ ap (λ (x : List ℕ). c ++ x) e₂ ∙ sym (append-assoc c c₂ r₂))
@@ -60,22 +60,22 @@ module _ {A B : Type 0} (p : Parser A) (f : A → Parser B) where
       (λ t w. ap (λ (x : List ℕ). bindP p f x) (append-assoc c c₂ t)
       ∙ ap (λ (o : Out A). thenOut o f) (h (c₂ ++ t) (subst (λ (x : List ℕ). Follows x (c₂ ++ t)) (sym e₂) (follows-app c₂ r₂ t w))) ∙ h₂ t w)
 
-  pub bind-answer : (s : List ℕ) → Answer p s → ((a : A) (r : List ℕ) → Answer (f a) r) → Answer (bindP p f) s
+  pub bind-answer : (s : List ℕ) → StrongPrefix p s → ((a : A) (r : List ℕ) → StrongPrefix (f a) r) → StrongPrefix (bindP p f) s
   bind-answer s (cuts q) g = cuts (ap (λ (o : Out A). thenOut o f) q)
   bind-answer s (faults k c r e h) g = faults k c r e (λ t. ap (λ (o : Out A). thenOut o f) (h t))
   bind-answer s (dones a c r e h) g = bind-go s a c r e h (g a r)
 
-pub ret-answer : {A : Type 0} (a : A) (s : List ℕ) → Answer (retP a) s
+pub ret-answer : {A : Type 0} (a : A) (s : List ℕ) → StrongPrefix (retP a) s
 ret-answer a s = dones a [] s refl (λ t w. refl)
 
-pub bad-answer : {A : Type 0} (k : ℕ) (s : List ℕ) → Answer (badP {A = A} k) s
+pub bad-answer : {A : Type 0} (k : ℕ) (s : List ℕ) → StrongPrefix (badP {A = A} k) s
 bad-answer k s = faults k [] s refl (λ t. refl)
 
-pub eat-answer : (s : List ℕ) → Answer eatP s
+pub eat-answer : (s : List ℕ) → StrongPrefix eatP s
 eat-answer [] = cuts refl
 eat-answer (b ∷ s) = dones b (b ∷ []) s refl (λ t w. refl)
 
-span-go : (test : ℕ → Bool) (b : ℕ) (s : List ℕ) (v : Bool) → test b ≡ v → Answer (spanP test) s → Answer (spanP test) (b ∷ s)
+span-go : (test : ℕ → Bool) (b : ℕ) (s : List ℕ) (v : Bool) → test b ≡ v → StrongPrefix (spanP test) s → StrongPrefix (spanP test) (b ∷ s)
 span-go test b s false q g =
     dones [] [] (b ∷ s) refl (λ t w. ap (spanP test) (w .1) ∙ ap (λ (v : Bool). cond v (thenOut (spanP test (w .0)) (λ l. retP (b ∷ l))) (done [] (b ∷ w .0))) q
     ∙ ap (λ (l : List ℕ). done [] l) (sym (w .1)))
@@ -83,7 +83,7 @@ span-go test b s true q (cuts e) = cuts (rw (e, q))
 span-go test b s true q (faults k c r e h) = faults k (b ∷ c) r (ap (λ (l : List ℕ). b ∷ l) e) (λ t. rw (h t, q))
 span-go test b s true q (dones w c r e h) = dones (b ∷ w) (b ∷ c) r (ap (λ (l : List ℕ). b ∷ l) e) (λ t f. rw (h t f, q))
 
-pub span-answer : (test : ℕ → Bool) (s : List ℕ) → Answer (spanP test) s
+pub span-answer : (test : ℕ → Bool) (s : List ℕ) → StrongPrefix (spanP test) s
 span-answer test [] = cuts refl
 span-answer test (b ∷ s) = span-go test b s (test b) refl (span-answer test s)
 
@@ -91,13 +91,13 @@ span-answer test (b ∷ s) = span-go test b s (test b) refl (span-answer test s)
 
 module _ {A : Type 0} where
   strict-go : (p : Parser A) (s : List ℕ) (a : A) (c r : List ℕ) → s ≡ c ++ r → ((t : List ℕ) → Follows r t → p (c ++ t) ≡ done a t)
-      → Answer (strictP p) s
+      → StrongPrefix (strictP p) s
   strict-go p s a [] r e h =
       cuts (ap (λ (o : Out A). strictOut o s) (ap p e ∙ h r (follows-refl r)) ∙ ap (λ (v : Bool). cond v (done a r) cut) (le-ltb (length r) (length s) (omega (arith, ap length e))))
   strict-go p s a (x ∷ c) r e h = dones a (x ∷ c) r e (λ t w. ap (λ (o : Out A). strictOut o (x ∷ c ++ t)) (h t w)
       ∙ ap (λ (v : Bool). cond v (done a t) cut) (lt-ltb (length t) (suc (length (c ++ t))) (simp length-append (omega arith))))
 
-  pub strict-answer : (p : Parser A) (s : List ℕ) → Answer p s → Answer (strictP p) s
+  pub strict-answer : (p : Parser A) (s : List ℕ) → StrongPrefix p s → StrongPrefix (strictP p) s
   strict-answer p s (cuts q) = cuts (ap (λ (o : Out A). strictOut o s) q)
   strict-answer p s (faults k c r e h) = faults k c r e (λ t. ap (λ (o : Out A). strictOut o (s ++ t)) (h t))
   strict-answer p s (dones a c r e h) = strict-go p s a c r e h
@@ -120,11 +120,11 @@ module _ {A : Type 0} where
   look-go f b s a [] r e h t w = let v : Follows (b ∷ s) t = subst (λ (x : List ℕ). Follows x t) (sym e) w in ap (lookP f) (v .1) ∙ ap (f b) (sym (v .1)) ∙ h t w
   look-go f b s a (x ∷ c) r e h t w = let q : x ≡ b = cc in ap (λ (y : ℕ). f y (x ∷ (c ++ t))) q ∙ h t w
 
-  pub look-answer : (f : ℕ → Parser A) (s : List ℕ) → ((b : ℕ) (r : List ℕ) → Answer (f b) (b ∷ r)) → Answer (lookP f) s
+  pub look-answer : (f : ℕ → Parser A) (s : List ℕ) → ((b : ℕ) (r : List ℕ) → StrongPrefix (f b) (b ∷ r)) → StrongPrefix (lookP f) s
   look-answer f [] g = cuts refl
   look-answer f (b ∷ s) g = look-cases (g b s)
     where
-      look-cases : Answer (f b) (b ∷ s) → Answer (lookP f) (b ∷ s)
+      look-cases : StrongPrefix (f b) (b ∷ s) → StrongPrefix (lookP f) (b ∷ s)
       look-cases (cuts q) = cuts q
       look-cases (faults k c r e h) = faults k c r e h
       look-cases (dones a c r e h) = dones a c r e (look-go f b s a c r e h)
@@ -144,28 +144,28 @@ module _ {A : Type 0} where
       let z : y ≡ c = cc in
       ap (λ (n : ℕ). strictP (f n y) (x ∷ y ∷ (d ++ t))) q ∙ ap (λ (n : ℕ). strictP (f b n) (x ∷ y ∷ (d ++ t))) z ∙ h t w
 
-  pub lookTwo-answer : (f : ℕ → ℕ → Parser A) (s : List ℕ) → ((b c : ℕ) (r : List ℕ) → Answer (f b c) (b ∷ c ∷ r)) → Answer (lookTwoP f) s
+  pub lookTwo-answer : (f : ℕ → ℕ → Parser A) (s : List ℕ) → ((b c : ℕ) (r : List ℕ) → StrongPrefix (f b c) (b ∷ c ∷ r)) → StrongPrefix (lookTwoP f) s
   lookTwo-answer f [] g = cuts refl
   lookTwo-answer f (b ∷ []) g = cuts refl
   lookTwo-answer f (b ∷ c ∷ s) g = two-cases (strict-answer (f b c) (b ∷ c ∷ s) (g b c s))
     where
-      two-cases : Answer (strictP (f b c)) (b ∷ c ∷ s) → Answer (lookTwoP f) (b ∷ c ∷ s)
+      two-cases : StrongPrefix (strictP (f b c)) (b ∷ c ∷ s) → StrongPrefix (lookTwoP f) (b ∷ c ∷ s)
       two-cases (cuts q) = cuts q
       two-cases (faults k d r e h) = faults k d r e h
       two-cases (dones a d r e h) = dones a d r e (two-go f b c s a d r e h)
 
   judge-go : (j : A → ℕ) (p : Parser A) (s : List ℕ) (a : A) (c r : List ℕ) → s ≡ c ++ r → ((t : List ℕ) → Follows r t → p (c ++ t) ≡ done a t)
-      → (n : ℕ) → j a ≡ n → Answer (judgeP j p) s
+      → (n : ℕ) → j a ≡ n → StrongPrefix (judgeP j p) s
   judge-go j p s a c r e h zero q = dones a c r e (λ t w. cc (h t w))
   judge-go j p s a c r e h (suc k) q = faults (suc k) [] s refl (λ t. ap (λ (o : Out A). judgeOut j o (s ++ t)) (ap p (seam s c r t e) ∙ h (r ++ t) (follows-self r t))
       ∙ ap (λ (n : ℕ). verdict n a (r ++ t) (s ++ t)) q)
 
-  pub judge-answer : (j : A → ℕ) (p : Parser A) (s : List ℕ) → Answer p s → Answer (judgeP j p) s
+  pub judge-answer : (j : A → ℕ) (p : Parser A) (s : List ℕ) → StrongPrefix p s → StrongPrefix (judgeP j p) s
   judge-answer j p s (cuts q) = cuts (ap (λ (o : Out A). judgeOut j o s) q)
   judge-answer j p s (faults k c r e h) = faults k c r e (λ t. ap (λ (o : Out A). judgeOut j o (s ++ t)) (h t))
   judge-answer j p s (dones a c r e h) = judge-go j p s a c r e h (j a) refl
 
-  settle-fault-go : (v : ℕ) (p : Parser A) (s : List ℕ) (k : ℕ) (c r : List ℕ) → s ≡ c ++ r → ((t : List ℕ) → p (s ++ t) ≡ fault k (r ++ t)) → Answer (settleP (suc v) p) s
+  settle-fault-go : (v : ℕ) (p : Parser A) (s : List ℕ) (k : ℕ) (c r : List ℕ) → s ≡ c ++ r → ((t : List ℕ) → p (s ++ t) ≡ fault k (r ++ t)) → StrongPrefix (settleP (suc v) p) s
   settle-fault-go v p s k [] r e h =
       faults (min (suc v) k) [] s refl (λ t. ap (λ (o : Out A). settleOut (suc v) o (s ++ t)) (h t)
       ∙ ap (λ (b : Bool). cond b (fault (min (suc v) k) (s ++ t)) (fault (suc v) (s ++ t)))
@@ -175,7 +175,7 @@ module _ {A : Type 0} where
       ∙ ap (λ (b : Bool). cond b (fault (min (suc v) k) (s ++ t)) (fault (suc v) (s ++ t)))
       (ne-eqb (length (r ++ t)) (length (s ++ t)) (λ q. omega (arith, length-append r t, length-append s t, length-append c r, ap length e))))
 
-  pub settle-answer : (v : ℕ) (p : Parser A) (s : List ℕ) → Answer p s → Answer (settleP v p) s
+  pub settle-answer : (v : ℕ) (p : Parser A) (s : List ℕ) → StrongPrefix p s → StrongPrefix (settleP v p) s
   settle-answer v p s (cuts q) = cuts (ap (λ (o : Out A). settleOut v o s) q)
   settle-answer zero p s (faults k c r e h) = faults k c r e (λ t. ap (λ (o : Out A). settleOut 0 o (s ++ t)) (h t))
   settle-answer (suc v) p s (faults k c r e h) = settle-fault-go v p s k c r e h
@@ -183,12 +183,12 @@ module _ {A : Type 0} where
   settle-answer (suc v) p s (dones a c r e h) =
       faults (suc v) [] s refl (λ t. ap (λ (o : Out A). settleOut (suc v) o (s ++ t)) (ap p (seam s c r t e) ∙ h (r ++ t) (follows-self r t)))
 
-  pub blame-answer : (p : Parser A) (s : List ℕ) → Answer p s → Answer (blameP p) s
+  pub blame-answer : (p : Parser A) (s : List ℕ) → StrongPrefix p s → StrongPrefix (blameP p) s
   blame-answer p s (cuts q) = cuts (ap (λ (o : Out A). blameOut o s) q)
   blame-answer p s (faults k c r e h) = faults k [] s refl (λ t. ap (λ (o : Out A). blameOut o (s ++ t)) (h t))
   blame-answer p s (dones a c r e h) = dones a c r e (λ t w. ap (λ (o : Out A). blameOut o (c ++ t)) (h t w))
 
-  pub kept-answer : (p : Parser A) (s : List ℕ) → Answer p s → Answer (keptP p) s
+  pub kept-answer : (p : Parser A) (s : List ℕ) → StrongPrefix p s → StrongPrefix (keptP p) s
   kept-answer p s (cuts q) = cuts (ap (λ (o : Out A). keptOut o s) q)
   kept-answer p s (faults k c r e h) = faults k c r e (λ t. ap (λ (o : Out A). keptOut o (s ++ t)) (h t))
   kept-answer p s (dones a c r e h) = dones (a, c) c r e (λ t w. ap (λ (o : Out A). keptOut o (c ++ t)) (h t w) ∙ ap (λ (x : List ℕ). done (a, x) t) (before-app c t))
@@ -295,7 +295,7 @@ module _ {S B : Type 0} (f : S → Parser (Turn S B)) where
     on : (t : List ℕ) → Follows r t → loopP f st (x ∷ c ++ t) ≡ loopP f st′ t
     on t w = loop-again st (x ∷ c ++ t) st′ t (h t w) (simp length-append (omega arith))
 
-    loop-go : Answer (loopP f st′) r → Answer (loopP f st) s
+    loop-go : StrongPrefix (loopP f st′) r → StrongPrefix (loopP f st) s
     loop-go (cuts q) = cuts (ap (loopP f st) e ∙ on r (follows-refl r) ∙ q)
     loop-go (faults k c₂ r₂ e₂ h₂) =
         faults k ((x ∷ c) ++ c₂) r₂ (e ∙ ap (λ (l : List ℕ). x ∷ c ++ l) e₂ ∙ sym (append-assoc (x ∷ c) c₂ r₂))
@@ -305,7 +305,7 @@ module _ {S B : Type 0} (f : S → Parser (Turn S B)) where
         (λ t w. ap (loopP f st) (append-assoc (x ∷ c) c₂ t)
         ∙ on (c₂ ++ t) (subst (λ (l : List ℕ). Follows l (c₂ ++ t)) (sym e₂) (follows-app c₂ r₂ t w)) ∙ h₂ t w)
 
-  loop-by : (n : ℕ) → ((st : S) (s : List ℕ) → length s < n → Answer (loopP f st) s) → (st : S) (s : List ℕ) → length s ≤ n → Answer (f st) s → Answer (loopP f st) s
+  loop-by : (n : ℕ) → ((st : S) (s : List ℕ) → length s < n → StrongPrefix (loopP f st) s) → (st : S) (s : List ℕ) → length s ≤ n → StrongPrefix (f st) s → StrongPrefix (loopP f st) s
   loop-by n ih st s l (cuts q) = cuts (loop-cut st s q)
   loop-by n ih st s l (faults k c r e h) = faults k c r e (λ t. loop-fault st (s ++ t) k (r ++ t) (h t))
   loop-by n ih st s l (dones (last b) c r e h) = dones b c r e (λ t w. loop-last st (c ++ t) b t (h t w))
@@ -314,9 +314,9 @@ module _ {S B : Type 0} (f : S → Parser (Turn S B)) where
   loop-by n ih st s l (dones (again st′) (x ∷ c) r e h) =
       loop-go s st st′ x c r e h (ih st′ r (omega (arith, ap length e, length-append c r)))
 
-  loop-all : ((st : S) (s : List ℕ) → Answer (f st) s) → (n : ℕ) (st : S) (s : List ℕ) → length s < n → Answer (loopP f st) s
+  loop-all : ((st : S) (s : List ℕ) → StrongPrefix (f st) s) → (n : ℕ) (st : S) (s : List ℕ) → length s < n → StrongPrefix (loopP f st) s
   loop-all g zero st s h = absurd (omega arith)
   loop-all g (suc n) st s h = loop-by n (loop-all g n) st s (omega arith) (g st s)
 
-  pub loop-answer : ((st : S) (s : List ℕ) → Answer (f st) s) → (st : S) (s : List ℕ) → Answer (loopP f st) s
+  pub loop-answer : ((st : S) (s : List ℕ) → StrongPrefix (f st) s) → (st : S) (s : List ℕ) → StrongPrefix (loopP f st) s
   loop-answer g st s = loop-all g (suc (length s)) st s (omega arith)

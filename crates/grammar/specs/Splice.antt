@@ -8,13 +8,13 @@ use lib.ListN.{length, take, length-append}
 use lib.Dec.{ltb}
 use borrow.Author.Tests.{ltb-true, lt-ltb, le-ltb}
 use Rattle.grammar.specs.Parse.{Out, done, fault, cut, Parser, Turn, again, last, thenOut, bindP, retP, before, keptOut, keptP, strictOut, strictP, turnOut, loopP}
-use Rattle.grammar.specs.Laws.{nope, Follows, follows-self, follows-refl, follows-app, Answer, cuts, faults, dones, before-app, strict-less, loop-step, loop-again, loop-last, loop-fault, loop-cut}
+use Rattle.grammar.specs.Laws.{nope, Follows, follows-self, follows-refl, follows-app, StrongPrefix, cuts, faults, dones, before-app, strict-less, loop-step, loop-again, loop-last, loop-fault, loop-cut}
 use Rattle.grammar.specs.Grammar.{G, added, oneItem, items}
 
 -- ---- the law by an answer
 
 module _ {A : Type 0} (p : Parser A) where
-  pub done-law : (s : List ℕ) (a : A) (r : List ℕ) → Answer p s → p s ≡ done a r
+  pub done-law : (s : List ℕ) (a : A) (r : List ℕ) → StrongPrefix p s → p s ≡ done a r
       → (c : List ℕ) × (s ≡ c ++ r) × ((t : List ℕ) → Follows r t → p (c ++ t) ≡ done a t)
   done-law s a r (cuts q) e = nope cc
   done-law s a r (faults k c u w h) e = nope (cc (append-nil s, h []))
@@ -24,7 +24,7 @@ module _ {A : Type 0} (p : Parser A) where
       let y : u ≡ r = cc in
       (c, w ∙ ap (λ (z : List ℕ). c ++ z) y, λ t v. h t (subst (λ (z : List ℕ). Follows z t) (sym y) v) ∙ ap (λ (z : A). done z t) x)
 
-  pub fault-law : (s : List ℕ) (k : ℕ) (r : List ℕ) → Answer p s → p s ≡ fault k r
+  pub fault-law : (s : List ℕ) (k : ℕ) (r : List ℕ) → StrongPrefix p s → p s ≡ fault k r
       → (c : List ℕ) × (s ≡ c ++ r) × ((t : List ℕ) → p (s ++ t) ≡ fault k (r ++ t))
   fault-law s k r (cuts q) e = nope cc
   fault-law s k r (faults j c u w h) e =
@@ -35,15 +35,15 @@ module _ {A : Type 0} (p : Parser A) where
   fault-law s k r (dones b c u w h) e = let g : p (c ++ u) ≡ done b u = h u (follows-refl u) in nope cc
 
   -- an answer that is not `cut` stays as bytes are appended
-  pub stable-done : (s : List ℕ) (a : A) (r t : List ℕ) → Answer p s → p s ≡ done a r → p (s ++ t) ≡ done a (r ++ t)
+  pub stable-done : (s : List ℕ) (a : A) (r t : List ℕ) → StrongPrefix p s → p s ≡ done a r → p (s ++ t) ≡ done a (r ++ t)
   stable-done s a r t g q =
       let k : (c : List ℕ) × (s ≡ c ++ r) × ((u : List ℕ) → Follows r u → p (c ++ u) ≡ done a u) = done-law s a r g q in
       ap (λ (l : List ℕ). p (l ++ t)) (k .1) ∙ ap p (append-assoc (k .0) r t) ∙ k .2 (r ++ t) (follows-self r t)
 
-  pub stable-fault : (s : List ℕ) (k : ℕ) (r t : List ℕ) → Answer p s → p s ≡ fault k r → p (s ++ t) ≡ fault k (r ++ t)
+  pub stable-fault : (s : List ℕ) (k : ℕ) (r t : List ℕ) → StrongPrefix p s → p s ≡ fault k r → p (s ++ t) ≡ fault k (r ++ t)
   stable-fault s k r t g q = (fault-law s k r g q) .2 t
 
-  pub kept-law : (s : List ℕ) (x : A × List ℕ) (r : List ℕ) → Answer p s → keptP p s ≡ done x r
+  pub kept-law : (s : List ℕ) (x : A × List ℕ) (r : List ℕ) → StrongPrefix p s → keptP p s ≡ done x r
       → (s ≡ x .1 ++ r) × ((t : List ℕ) → Follows r t → p (x .1 ++ t) ≡ done (x .0) t)
   kept-law s x r (cuts q) e = let z : keptP p s ≡ cut = ap (λ (o : Out A). keptOut o s) q in nope cc
   kept-law s x r (faults k c u w h) e =
@@ -343,7 +343,7 @@ module _ {S A : Type 0} (item : S → G A) (next : S → A → Turn S (Unit {0})
         ∙ ap (λ (o : Out (List (A × List ℕ))). thenOut o (λ k. retP ((a, b ∷ d) ∷ k)))
         (ap (turns v₂) (sym (turns-flat xs v₂ u₂ r w₂)) ∙ w₂)
 
-    -- they are one item, which leads from each state where x led: the items are the same but for this one
+    -- they are one item, which contentItem from each state where x led: the items are the same but for this one
     pub splice-done : (a : A) → ((v : S) → (item v) .run (b ∷ d) ≡ done a []) → ((v : S) → next v a ≡ next v (x .0))
         → turns st (flat bs ++ ((b ∷ d) ++ (flat xs ++ r))) ≡ done (bs ++ (a, b ∷ d) ∷ xs) r
     splice-done a g n =

@@ -7,7 +7,7 @@ use Rattle.process_list.specs.List.{Element, placed, allNumbers, listOf}
 use Rattle.room.specs.Room.{Room, roomLength, filledWith}
 use Rattle.valid.specs.Valid.{isValid}
 use Rattle.valid.specs.Valid as Valid
-use Rattle.look.specs.Replacing.{Answer, replaced, refused, replace}
+use Rattle.look.specs.Replacing.{Replacing, replaced, refused, replace}
 
 pub record Look : Type 0 where
   pub list : ProcessList
@@ -22,10 +22,10 @@ unfoldable pub holding : Look → List Element → Look
 holding x es = record { list = listOf (placed es); room = filledWith (allNumbers es) (x .room) }
 
 -- replacing: 16 first, for a look that is no accepted reading; then as the list alone says
-unfoldable pub replaceIn : Look → ℕ → List ℕ → Answer
+unfoldable pub replaceIn : Look → ℕ → List ℕ → Replacing
 replaceIn x k e = cond (isValid (x .list) (x .room)) (replace (roomOf x) (Valid.elementsOf (x .list) (x .room)) k e) (refused 16 0)
 
 -- 'Any other refusal changes nothing'
-abbrev pub lookAfter : Look → Answer → Look
+abbrev pub lookAfter : Look → Replacing → Look
 lookAfter x (replaced es) = holding x es
 lookAfter x (refused n p) = x

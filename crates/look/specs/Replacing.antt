@@ -6,12 +6,12 @@ use lib.Dec.{eqb, leb, ltb}
 use lib.ListN.{length, set}
 use Rattle.process_list.specs.declared.Verdict.{Verdict}
 use Rattle.process_list.specs.declared.Verdict.the-variants.{Accepted, NoNode, TooManyNodes, DepthDiffers, TooManyNumbers}
-use Rattle.process_list.specs.List.{Element, verdict, refusalOf, placeOf}
+use Rattle.process_list.specs.List.{Element, verdict, verdictNumber, verdictPlace}
 use Rattle.grammar.specs.Parse.{Out, done, fault, cut}
 use Rattle.grammar.specs.Grammar.{G, ret, bad, look, judge, blame, eat, seq, _>>_}
 use Rattle.xml.specs.Bytes.{bytes, isNameByte, lessThan}
 use Rattle.xml.specs.Xml.{byte, word}
-use Rattle.clf.specs.Nodes.{NodeRead, NodeName, isMatrix, isLut1d, isRange, isCdl, notCarried, nodeFault, nodeBody}
+use Rattle.clf.specs.Nodes.{NodeName, isMatrix, isLut1d, isRange, isCdl, notCarried, nodeFault, nodeBody}
 use Rattle.clf.specs.Reading.{mostBytes, placeIn, isNumbered}
 
 -- ---- the element alone
@@ -40,44 +40,44 @@ unfoldable pub start : G NodeName
 start = blame (seq (byte lessThan 20 >> look startName) (λ n. look (nameEnds n)))
 
 -- the element: its start; a node that is not carried is 7 there; and what stands behind its name, as in a file
-unfoldable pub element : G NodeRead
+unfoldable pub element : G Element
 element = seq (judge nodeFault start) nodeBody
 
 -- ---- the answer of a call
 
 -- 0 and the elements of the list as it then is, or a refusal number and its place
-pub data Answer : Type 0 where
-  replaced : List Element → Answer
-  refused : ℕ → ℕ → Answer
+pub data Replacing : Type 0 where
+  replaced : List Element → Replacing
+  refused : ℕ → ℕ → Replacing
 
 -- ---- by the list alone: 'Replacing: 16, 19, 4 (the element alone), then the element's own fault, then 10, 13'. The list is a reading, so 16 does not arise
 
-abbrev pub byVerdict : List Element → Verdict → Answer
+abbrev pub byVerdict : List Element → Verdict → Replacing
 byVerdict es Accepted = replaced es
-byVerdict es NoNode = refused (refusalOf NoNode) (placeOf NoNode)
-byVerdict es TooManyNodes = refused (refusalOf TooManyNodes) (placeOf TooManyNodes)
-byVerdict es (DepthDiffers k) = refused (refusalOf (DepthDiffers k)) (placeOf (DepthDiffers k))
-byVerdict es TooManyNumbers = refused (refusalOf TooManyNumbers) (placeOf TooManyNumbers)
+byVerdict es NoNode = refused (verdictNumber NoNode) (verdictPlace NoNode)
+byVerdict es TooManyNodes = refused (verdictNumber TooManyNodes) (verdictPlace TooManyNodes)
+byVerdict es (DepthDiffers k) = refused (verdictNumber (DepthDiffers k)) (verdictPlace (DepthDiffers k))
+byVerdict es TooManyNumbers = refused (verdictNumber TooManyNumbers) (verdictPlace TooManyNumbers)
 
 -- the list with its new element, for a room of this length
-unfoldable pub listed : ℕ → List Element → Answer
+unfoldable pub listed : ℕ → List Element → Replacing
 listed room es = byVerdict es (verdict room es)
 
 -- by what the element alone is: 'bytes after' are 20 at the first of them; a place is counted in the element
-abbrev pub byElement : ℕ → List Element → ℕ → List ℕ → Out NodeRead → Answer
-byElement room es k e (done n []) = listed room (set es (k - 1) (n .element))
+abbrev pub byElement : ℕ → List Element → ℕ → List ℕ → Out Element → Replacing
+byElement room es k e (done n []) = listed room (set es (k - 1) n)
 byElement room es k e (done n (b ∷ r)) = refused 20 (placeIn e (b ∷ r))
 byElement room es k e (fault j r) = refused j (placeIn e r)
 byElement room es k e cut = refused 1 (length e)
 
 -- the element e in the place of node k
-unfoldable pub replace : ℕ → List Element → ℕ → List ℕ → Answer
+unfoldable pub replace : ℕ → List Element → ℕ → List ℕ → Replacing
 replace room es k e =
     cond (isNumbered k (length es))
     (cond (ltb mostBytes (length e)) (refused 4 0) (byElement room es k e (element .run e)))
     (refused 19 0)
 
 -- 'Any other refusal changes nothing'
-abbrev pub listAfter : List Element → Answer → List Element
+abbrev pub listAfter : List Element → Replacing → List Element
 listAfter es (replaced new) = new
 listAfter es (refused n p) = es

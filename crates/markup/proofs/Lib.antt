@@ -1,4 +1,4 @@
 pub mod Answers
 pub mod Known
 pub mod Tags
-pub mod Leading
+pub mod ItemLaws

@@ -12,7 +12,7 @@ use Rattle.grammar.specs.Parse.{Out, done, fault, cut, Parser, thenOut, bindP, 
 use Rattle.grammar.specs.Grammar.{G, bad, judge, settle, _>>_}
 use Rattle.xml.specs.Bytes.{same, slash, greaterThan}
 use Rattle.xml.specs.Xml.{spaces, byte, comment, openName, closeName, endTag, strayEnd}
-use Rattle.xml.specs.Elements.{stranger, onlyEnd}
+use Rattle.xml.specs.Elements.{forbidden, onlyEnd}
 use Rattle.xml.specs.Code.{part, Reads, noValue, Failed}
 use Rattle.xml.specs.CodeLaws.{reads-fewer, reads-then, reads-failed, reads-ret, reads-well, reads-ill, reads-strict, look-two-at}
 use Rattle.xml.specs.declared.Scan.{Scan}
@@ -94,21 +94,21 @@ module _ (s : List ℕ) (at : ℕ) where
     abbrev choose : Bool → Bool → G (Unit {0})
     choose x y = cond x (settle 3 comment >> bad 3) (cond y (bad 3) (judge (λ w. 5) openName >> bad 5))
 
-    by : (x y : Bool) → eqb b 33 ≡ x → eqb b 63 ≡ y → (r : Scan) → Reads 1 ((choose x y) .run) noValue s at r → Reads 1 ((stranger b) .run) noValue s at r
+    by : (x y : Bool) → eqb b 33 ≡ x → eqb b 63 ≡ y → (r : Scan) → Reads 1 ((choose x y) .run) noValue s at r → Reads 1 ((forbidden b) .run) noValue s at r
     by x y qx qy r v = record {
       out = v .out ∙ sym (ap (λ (t : Bool). (choose t (eqb b 63)) .run (drop at s)) qx ∙ ap (λ (t : Bool). (choose x t) .run (drop at s)) qy);
       inside = v .inside;
     }
 
-    pub stranger-comment : (r : Scan) → b ≡ 33 → Reads 1 (comment .run) noValue s at r → Reads 1 ((stranger b) .run) noValue s at (settledScan 3 r at)
+    pub stranger-comment : (r : Scan) → b ≡ 33 → Reads 1 (comment .run) noValue s at r → Reads 1 ((forbidden b) .run) noValue s at (settledScan 3 r at)
     stranger-comment r q v =
         by true (eqb b 63) (eq-eqb b 33 q) refl (settledScan 3 r at) (reads-settled (comment .run) noValue s at 1 (λ u. badP 3) noValue 1 3 r three v)
 
     module _ (nc : b ≡ 33 → ⊥) where
-      pub stranger-question : b ≡ 63 → Reads 1 ((stranger b) .run) noValue s at (Fault 3 at)
+      pub stranger-question : b ≡ 63 → Reads 1 ((forbidden b) .run) noValue s at (Fault 3 at)
       stranger-question q = by false true (ne-eqb b 33 nc) (eq-eqb b 63 q) (Fault 3 at) (record { out = refl; inside = (omega arith, omega arith) })
 
-      pub stranger-element : (r : Scan) → (b ≡ 63 → ⊥) → Reads 2 (openName .run) (part s (at + 1)) s at r → Reads 1 ((stranger b) .run) noValue s at (refusedScan r 5 at)
+      pub stranger-element : (r : Scan) → (b ≡ 63 → ⊥) → Reads 2 (openName .run) (part s (at + 1)) s at r → Reads 1 ((forbidden b) .run) noValue s at (refusedScan r 5 at)
       stranger-element r q v =
           by false false (ne-eqb b 33 nc) (ne-eqb b 63 q) (refusedScan r 5 at) (reads-refused (openName .run) (part s (at + 1)) s at 2 (λ w. badP 5) noValue 1 5 r five v)
 
@@ -116,7 +116,7 @@ module _ (s : List ℕ) (at : ℕ) where
 
   module _ (w : List ℕ) (missing : ℕ) where
     abbrev only : ℕ → ℕ → Parser (Unit {0})
-    only a b = (cond (eqb b slash) (endTag w missing) (stranger b)) .run
+    only a b = (cond (eqb b slash) (endTag w missing) (forbidden b)) .run
 
     pub only-cut : length s ≤ at → Reads 1 ((onlyEnd w missing) .run) noValue s at Cut
     unfolding onlyEnd
@@ -128,20 +128,20 @@ module _ (s : List ℕ) (at : ℕ) where
         record { out = sym (ap (lookTwoP only) (here s at h ∙ ap (λ (l : List ℕ). getD s at 0 ∷ l) (past s (at + 1) k))); inside = tt }
 
     module _ (h : at + 1 < length s) where
-      only-by : (t : Bool) → eqb (getD s (at + 1) 0) 47 ≡ t → (r : Scan) → Reads 1 ((cond t (endTag w missing) (stranger (getD s (at + 1) 0))) .run) noValue s at r
+      only-by : (t : Bool) → eqb (getD s (at + 1) 0) 47 ≡ t → (r : Scan) → Reads 1 ((cond t (endTag w missing) (forbidden (getD s (at + 1) 0))) .run) noValue s at r
           → Reads 1 ((onlyEnd w missing) .run) noValue s at r
       unfolding onlyEnd
       only-by t q r v =
-          let z : Reads 1 (strictP ((cond t (endTag w missing) (stranger (getD s (at + 1) 0))) .run)) noValue s at r =
-          reads-strict ((cond t (endTag w missing) (stranger (getD s (at + 1) 0))) .run) noValue s at 1 r (omega arith) v in
+          let z : Reads 1 (strictP ((cond t (endTag w missing) (forbidden (getD s (at + 1) 0))) .run)) noValue s at r =
+          reads-strict ((cond t (endTag w missing) (forbidden (getD s (at + 1) 0))) .run) noValue s at 1 r (omega arith) v in
           record {
-            out = z .out ∙ sym (look-two-at only s at h ∙ ap (λ (t : Bool). strictP ((cond t (endTag w missing) (stranger (getD s (at + 1) 0))) .run) (drop at s)) q);
+            out = z .out ∙ sym (look-two-at only s at h ∙ ap (λ (t : Bool). strictP ((cond t (endTag w missing) (forbidden (getD s (at + 1) 0))) .run) (drop at s)) q);
             inside = z .inside;
           }
 
       pub only-end : (r : Scan) → getD s (at + 1) 0 ≡ 47 → Reads 1 ((endTag w missing) .run) noValue s at r → Reads 1 ((onlyEnd w missing) .run) noValue s at r
       only-end r q v = only-by true (eq-eqb (getD s (at + 1) 0) 47 q) r v
 
-      pub only-stranger : (r : Scan) → (getD s (at + 1) 0 ≡ 47 → ⊥) → Reads 1 ((stranger (getD s (at + 1) 0)) .run) noValue s at r
+      pub only-stranger : (r : Scan) → (getD s (at + 1) 0 ≡ 47 → ⊥) → Reads 1 ((forbidden (getD s (at + 1) 0)) .run) noValue s at r
           → Reads 1 ((onlyEnd w missing) .run) noValue s at r
       only-stranger r q v = only-by false (ne-eqb (getD s (at + 1) 0) 47 q) r v

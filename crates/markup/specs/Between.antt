@@ -1,4 +1,4 @@
--- What stands between elements, by the answer of its first bytes: the laws by which a loop over an element's content is read off `lead_at`. Assumes nothing.
+-- What stands between elements, by the answer of its first bytes: the laws by which a loop over an element's content is read off `item_at`. Assumes nothing.
 use mathlib.Core.Path.{_≡_, refl, sym, ap, _∙_}
 use mathlib.Core.Bool.{Bool, true, false, cond}
 use mathlib.Core.List.{List, [], _∷_, append-nil}
@@ -9,23 +9,23 @@ use lib.Dec.{eqb}
 use borrow.Author.Tests.{lt-ltb}
 use Rattle.grammar.specs.Parse.{Out, done, fault, cut, thenOut, bindP, retP, strictOut, strictP, lookTwoP, verdict, judgeOut, settleOut, settleP, badP, samePlace}
 use Rattle.grammar.specs.Grammar.{G, ret, bad, lookTwo, judge, settle, eat, seq, _>>_}
-use Rattle.grammar.specs.Laws.{Answer, cuts, faults, dones, follows-refl, nope}
+use Rattle.grammar.specs.Laws.{StrongPrefix, cuts, faults, dones, follows-refl, nope}
 use Rattle.xml.specs.Bytes.{isSpace, lessThan, slash, exclamation, question, ampersand}
 use Rattle.xml.specs.Xml.{comment, entity, openName}
-use Rattle.xml.specs.Elements.{Part, gap, child, close, markup, between}
+use Rattle.xml.specs.Elements.{Part, misc, child, close, markup, between}
 use Rattle.xml.specs.Code.{part, scanOut, Reads, noValue}
 use Rattle.xml.specs.declared.Scan.{Scan}
 use Rattle.xml.specs.declared.Scan.the-variants as Scans
 use Rattle.xml.specs.CodeLaws.{verdict-well, verdict-ill}
-use Rattle.markup.specs.Leads.{Leading, passed, starts, ends, leadTwo, leads, leadOut, LeadsTo}
-use Rattle.markup.specs.declared.Lead.{Lead}
-use Rattle.markup.specs.declared.Lead.the-variants as Leads
+use Rattle.markup.specs.Items.{ItemFound, passed, starts, ends, itemByTwo, contentItem, itemOut, ItemReads}
+use Rattle.markup.specs.declared.Item.{Item}
+use Rattle.markup.specs.declared.Item.the-variants as Items
 
 -- what a grammar leaves is no longer than what it was given
 pub leaves : {A : Type 0} (p : G A) (s : List ℕ) (a : A) (r : List ℕ) → p .run s ≡ done a r → length r ≤ length s
 leaves p s a r q = go (p .law s)
   where
-    go : Answer (p .run) s → length r ≤ length s
+    go : StrongPrefix (p .run) s → length r ≤ length s
     go (cuts e) = nope cc
     go (faults k c u e h) = let z : p .run s ≡ fault k u = ap (p .run) (sym (append-nil s)) ∙ h [] ∙ ap (fault k) (append-nil u) in nope cc
     go (dones b c u e h) =
@@ -35,8 +35,8 @@ leaves p s a r q = go (p .law s)
 
 module _ {C : Type 0} (end : G (Unit {0})) (refusal : List ℕ → ℕ) (body : List ℕ → G C) where
   -- the answer by that of the first bytes of s
-  abbrev pub byLead : List ℕ → Out Leading → Out (Part C)
-  byLead s (done passed r) = strictOut (done gap r) s
+  abbrev pub byLead : List ℕ → Out ItemFound → Out (Part C)
+  byLead s (done passed r) = strictOut (done misc r) s
   byLead s (done (starts w) r) = strictOut (thenOut (verdict (refusal w) w r s) (λ n. bindP ((body n) .run) (λ v. retP (child v)))) s
   byLead s (done ends r) = strictOut (thenOut (end .run s) (λ u. retP close)) s
   byLead s (fault k r) = fault k r
@@ -47,12 +47,12 @@ module _ {C : Type 0} (end : G (Unit {0})) (refusal : List ℕ → ℕ) (body : 
 
   -- behind a `<`
   by-second : (u : List ℕ) (x y z : Bool)
-      → strictP ((cond x (end >> ret close) (cond y (comment >> ret gap) (cond z (bad 3) (seq (judge refusal openName) (λ w. seq (body w) (λ v. ret (child v))))))) .run) u
+      → strictP ((cond x (end >> ret close) (cond y (comment >> ret misc) (cond z (bad 3) (seq (judge refusal openName) (λ w. seq (body w) (λ v. ret (child v))))))) .run) u
       ≡ byLead u (cond x (done ends u) (cond y (thenOut (comment .run u) (λ w. retP passed)) (cond z (fault 3 u) (thenOut (openName .run u) (λ w. retP (starts w))))))
   by-second u true y z = refl
   by-second u false true z = go (comment .run u)
     where
-      go : (o : Out (Unit {0})) → strictOut (thenOut o (λ w. retP gap)) u ≡ byLead u (thenOut o (λ w. retP passed))
+      go : (o : Out (Unit {0})) → strictOut (thenOut o (λ w. retP misc)) u ≡ byLead u (thenOut o (λ w. retP passed))
       go (done w r) = refl
       go (fault k r) = refl
       go cut = refl
@@ -64,14 +64,14 @@ module _ {C : Type 0} (end : G (Unit {0})) (refusal : List ℕ → ℕ) (body : 
       go (fault k r) = refl
       go cut = refl
 
-  by-two : (b : ℕ) (s : List ℕ) → lookTwoP (λ a c. (markup end refusal body a c) .run) (b ∷ s) ≡ byLead (b ∷ s) (leadTwo (b ∷ s))
+  by-two : (b : ℕ) (s : List ℕ) → lookTwoP (λ a c. (markup end refusal body a c) .run) (b ∷ s) ≡ byLead (b ∷ s) (itemByTwo (b ∷ s))
   by-two b [] = refl
   by-two b (c ∷ s) = by-second (b ∷ c ∷ s) (eqb c slash) (eqb c exclamation) (eqb c question)
 
   by-first : (b : ℕ) (s : List ℕ) (x y z : Bool)
-      → (cond x (eat >> ret gap) (cond y (lookTwo (markup end refusal body)) (cond z (settle 5 entity >> bad 5) (bad 5)))) .run (b ∷ s)
-      ≡ byLead (b ∷ s) (cond x (done passed s) (cond y (leadTwo (b ∷ s)) (cond z (thenOut (settleP 5 (entity .run) (b ∷ s)) (λ u. retP passed)) (fault 5 (b ∷ s)))))
-  by-first b s true y z = sym (ap (λ (t : Bool). cond t (done gap s) cut) (lt-ltb (length s) (suc (length s)) (omega arith)))
+      → (cond x (eat >> ret misc) (cond y (lookTwo (markup end refusal body)) (cond z (settle 5 entity >> bad 5) (bad 5)))) .run (b ∷ s)
+      ≡ byLead (b ∷ s) (cond x (done passed s) (cond y (itemByTwo (b ∷ s)) (cond z (thenOut (settleP 5 (entity .run) (b ∷ s)) (λ u. retP passed)) (fault 5 (b ∷ s)))))
+  by-first b s true y z = sym (ap (λ (t : Bool). cond t (done misc s) cut) (lt-ltb (length s) (suc (length s)) (omega arith)))
   by-first b s false true z = by-two b s
   by-first b s false false true = go (entity .run (b ∷ s))
     where
@@ -86,45 +86,45 @@ module _ {C : Type 0} (end : G (Unit {0})) (refusal : List ℕ → ℕ) (body : 
   by-first b s false false false = refl
 
   -- what stands between elements is what its first bytes say
-  pub between-leads : (s : List ℕ) → (between end refusal body) .run s ≡ byLead s (leads s)
-  unfolding between leads
-  between-leads [] = refl
-  between-leads (b ∷ s) = by-first b s (isSpace b) (eqb b lessThan) (eqb b ampersand)
+  pub between-item : (s : List ℕ) → (between end refusal body) .run s ≡ byLead s (contentItem s)
+  unfolding between contentItem
+  between-item [] = refl
+  between-item (b ∷ s) = by-first b s (isSpace b) (eqb b lessThan) (eqb b ampersand)
 
   -- ---- by the code's answer r for the first bytes at a place
 
   module _ (s : List ℕ) (at : ℕ) where
-    by-answer : (r : Lead) → LeadsTo s at r → (between end refusal body) .run (drop at s) ≡ byLead (drop at s) (leadOut s at r)
-    by-answer r v = between-leads (drop at s) ∙ ap (byLead (drop at s)) (sym (v .out))
+    by-answer : (r : Item) → ItemReads s at r → (between end refusal body) .run (drop at s) ≡ byLead (drop at s) (itemOut s at r)
+    by-answer r v = between-item (drop at s) ∙ ap (byLead (drop at s)) (sym (v .out))
 
     moved : {A : Type 0} (a : A) (r : List ℕ) → length r < length (drop at s) → strictOut (done a r) (drop at s) ≡ done a r
     moved a r l = ap (λ (t : Bool). cond t (done a r) cut) (lt-ltb (length r) (length (drop at s)) l)
 
-    pub between-gap : (e : ℕ) → LeadsTo s at (Leads.Gap e) → (between end refusal body) .run (drop at s) ≡ done gap (drop e s)
-    between-gap e v = by-answer (Leads.Gap e) v ∙ moved gap (drop e s) (simp length-drop (omega (arith, v .inside)))
+    pub between-misc : (e : ℕ) → ItemReads s at (Items.Misc e) → (between end refusal body) .run (drop at s) ≡ done misc (drop e s)
+    between-misc e v = by-answer (Items.Misc e) v ∙ moved misc (drop e s) (simp length-drop (omega (arith, v .inside)))
 
-    pub between-fault : (k p : ℕ) → LeadsTo s at (Leads.Fault k p) → (between end refusal body) .run (drop at s) ≡ fault k (drop p s)
-    between-fault k p v = by-answer (Leads.Fault k p) v
+    pub between-fault : (k p : ℕ) → ItemReads s at (Items.Fault k p) → (between end refusal body) .run (drop at s) ≡ fault k (drop p s)
+    between-fault k p v = by-answer (Items.Fault k p) v
 
-    pub between-cut : LeadsTo s at Leads.Cut → (between end refusal body) .run (drop at s) ≡ cut
-    between-cut v = by-answer Leads.Cut v
+    pub between-cut : ItemReads s at Items.Cut → (between end refusal body) .run (drop at s) ≡ cut
+    between-cut v = by-answer Items.Cut v
 
     -- ---- a start tag, whose name ends at e
 
-    module _ (e : ℕ) (v : LeadsTo s at (Leads.Open e)) where
+    module _ (e : ℕ) (v : ItemReads s at (Items.StartTag e)) where
       abbrev w : List ℕ
       w = part s (at + 1) e
 
       pub between-refused : (k : ℕ) → refusal w ≡ k → (k ≡ 0 → ⊥) → (between end refusal body) .run (drop at s) ≡ fault k (drop at s)
       between-refused k q z =
-          by-answer (Leads.Open e) v
+          by-answer (Items.StartTag e) v
           ∙ ap (λ (o : Out (List ℕ)). strictOut (thenOut o afterName) (drop at s))
           (ap (λ (n : ℕ). verdict n w (drop e s) (drop at s)) q ∙ verdict-ill k w (drop e s) (drop at s) z)
 
       module _ (q : refusal w ≡ 0) where
         by-body : (o : Out C) → (body w) .run (drop e s) ≡ o → (between end refusal body) .run (drop at s) ≡ strictOut (thenOut o (λ v. retP (child v))) (drop at s)
         by-body o x =
-            by-answer (Leads.Open e) v
+            by-answer (Items.StartTag e) v
             ∙ ap (λ (o : Out (List ℕ)). strictOut (thenOut o afterName) (drop at s)) (verdict-well (refusal w) w (drop e s) (drop at s) q)
             ∙ ap (λ (o : Out C). strictOut (thenOut o (λ v. retP (child v))) (drop at s)) x
 
@@ -141,9 +141,9 @@ module _ {C : Type 0} (end : G (Unit {0})) (refusal : List ℕ → ℕ) (body : 
 
     -- ---- an end tag
 
-    module _ (v : LeadsTo s at Leads.End) where
+    module _ (v : ItemReads s at Items.EndTag) where
       by-end : (o : Out (Unit {0})) → end .run (drop at s) ≡ o → (between end refusal body) .run (drop at s) ≡ strictOut (thenOut o (λ u. retP close)) (drop at s)
-      by-end o x = by-answer Leads.End v ∙ ap (λ (o : Out (Unit {0})). strictOut (thenOut o (λ u. retP close)) (drop at s)) x
+      by-end o x = by-answer Items.EndTag v ∙ ap (λ (o : Out (Unit {0})). strictOut (thenOut o (λ u. retP close)) (drop at s)) x
 
       pub between-end : (e : ℕ) → end .run (drop at s) ≡ done tt (drop e s) → at < e → e ≤ length s → (between end refusal body) .run (drop at s) ≡ done close (drop e s)
       between-end e x h k = by-end (done tt (drop e s)) x ∙ moved close (drop e s) (simp length-drop (omega arith))

@@ -1,3 +1,3 @@
-pub mod Leads
+pub mod Items
 pub mod Settled
 pub mod Between

@@ -6,14 +6,14 @@ ghost use Rattle.xml.specs.Xml as Xml;
 ghost use Rattle.xml.specs.Elements as Elements;
 ghost use Rattle.xml.specs.Code.{Reads, part, noValue};
 ghost use Rattle.markup.specs.Settled.{settledScan, refusedScan, spacesByte, endAlone};
-ghost use Rattle.markup.specs.Leads.{LeadsTo, LeadsBy, leadTwo, gapOf, openOf};
+ghost use Rattle.markup.specs.Items.{ItemReads, ItemReadsBy, itemByTwo, miscOf, startTagOf};
 use xml::Scan;
 
 // What stands between elements: white space or a comment up to a place; a start tag, whose name ends at a place; an end tag; or none of these.
-pub enum Lead {
-    Gap(usize),
-    Open(usize),
-    End,
+pub enum Item {
+    Misc(usize),
+    StartTag(usize),
+    EndTag,
     Fault(u8, usize),
     Cut,
 }
@@ -91,72 +91,72 @@ pub fn stray_end(s: &[u8], at: usize) -> Scan
     refused(xml::close_name(s, at), 2, at)
 }
 
-fn gap_of(r: Scan) -> Lead
-    ensures { λ l. ⌜ l ≡ gapOf r ⌝ }
+fn misc_of(r: Scan) -> Item
+    ensures { λ l. ⌜ l ≡ miscOf r ⌝ }
 {
     match r {
-        Scan::At(e) => Lead::Gap(e),
-        Scan::Fault(k, p) => Lead::Fault(k, p),
-        Scan::Cut => Lead::Cut,
+        Scan::At(e) => Item::Misc(e),
+        Scan::Fault(k, p) => Item::Fault(k, p),
+        Scan::Cut => Item::Cut,
     }
 }
 
-fn open_of(r: Scan) -> Lead
-    ensures { λ l. ⌜ l ≡ openOf r ⌝ }
+fn start_tag_of(r: Scan) -> Item
+    ensures { λ l. ⌜ l ≡ startTagOf r ⌝ }
 {
     match r {
-        Scan::At(e) => Lead::Open(e),
-        Scan::Fault(k, p) => Lead::Fault(k, p),
-        Scan::Cut => Lead::Cut,
+        Scan::At(e) => Item::StartTag(e),
+        Scan::Fault(k, p) => Item::Fault(k, p),
+        Scan::Cut => Item::Cut,
     }
 }
 
 // What a `<` begins between elements.
-fn lead_markup(s: &[u8], at: usize) -> Lead
+fn markup_item(s: &[u8], at: usize) -> Item
     requires { ⌜ at < length (now s) ⌝ }
-    ensures { λ r. ⌜ LeadsBy leadTwo (now (s .entry)) at r ⌝ }
+    ensures { λ r. ⌜ ItemReadsBy itemByTwo (now (s .entry)) at r ⌝ }
 {
     let next = at + 1;
     if s.len() <= next {
-        return Lead::Cut;
+        return Item::Cut;
     }
     let b = s[next];
     if b == b'/' {
-        return Lead::End;
+        return Item::EndTag;
     }
     if b == b'!' {
-        return gap_of(xml::comment(s, at));
+        return misc_of(xml::comment(s, at));
     }
     if b == b'?' {
-        return Lead::Fault(3, at);
+        return Item::Fault(3, at);
     }
-    open_of(xml::open_name(s, at))
+    start_tag_of(xml::open_name(s, at))
 }
 
 // What stands between elements.
-pub fn lead_at(s: &[u8], at: usize) -> Lead
-    ensures { λ r. ⌜ LeadsTo (now (s .entry)) at r ⌝ }
+pub fn item_at(s: &[u8], at: usize) -> Item
+    ensures { λ r. ⌜ ItemReads (now (s .entry)) at r ⌝ }
 {
     if s.len() <= at {
-        return Lead::Cut;
+        return Item::Cut;
     }
     let b = s[at];
     if xml::is_space(b) {
-        return Lead::Gap(at + 1);
+        return Item::Misc(at + 1);
     }
     if b == b'<' {
-        return lead_markup(s, at);
+        return markup_item(s, at);
     }
     if b == b'&' {
-        return gap_of(settled(5, xml::entity(s, at), at));
+        return misc_of(settled(5, xml::entity(s, at), at));
     }
-    Lead::Fault(5, at)
+    Item::Fault(5, at)
 }
 
 // What a `<` begins where no element may stand, and no end tag stands: a fault, or cut short. The next byte is b.
-fn stranger(s: &[u8], at: usize, b: u8) -> Scan
+fn forbidden(s: &[u8], at: usize, b: u8) -> Scan
     requires { ⌜ at < length (now s) ⌝ }
-    ensures { λ r. ⌜ Reads 1 ((Elements.stranger b) .run) noValue (now (s .entry)) at r ⌝ }
+    ensures { λ r. ⌜ Reads 1 ((Elements.forbidden b) .run) noValue (now (s .entry)) at r ⌝ }
 {
     if b == b'!' {
         return settled(3, xml::comment(s, at), at);
@@ -182,5 +182,5 @@ pub fn only_end(s: &[u8], at: usize, w: &[u8], missing: u8) -> Scan
     if b == b'/' {
         return end_tag(s, at, w, missing);
     }
-    stranger(s, at, b)
+    forbidden(s, at, b)
 }

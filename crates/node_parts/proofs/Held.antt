@@ -12,17 +12,17 @@ use Rattle.grammar.specs.Parse.{Out, done, fault, cut, Parser, Turn, again, las
 use Rattle.grammar.specs.Grammar.{G}
 use Rattle.grammar.specs.Laws.{loop-again, loop-last, loop-fault, loop-cut, nope}
 use Rattle.xml.specs.Xml.{endTag}
-use Rattle.xml.specs.Elements.{Part, gap, child, close, between, Holder, afterPart, heldPart, held}
+use Rattle.xml.specs.Elements.{Part, misc, child, close, between, Holder, afterPart, heldPart, held}
 use Rattle.xml.specs.Code.{part, scanOut, Inside, Reads, noValue, Failed}
 use Rattle.xml.specs.declared.Scan.{Scan}
 use Rattle.xml.specs.declared.Scan.the-variants.{At, Fault, Cut}
 use Rattle.tags.specs.Code.{partIn}
 use Rattle.tags.proofs.Words.{part-in}
-use Rattle.markup.specs.Leads.{LeadsTo, leadOut}
+use Rattle.markup.specs.Items.{ItemReads, itemOut}
 use Rattle.markup.specs.Settled.{endAlone}
-use Rattle.markup.specs.Between.{byLead, between-leads}
-use Rattle.markup.specs.declared.Lead.{Lead}
-use Rattle.markup.specs.declared.Lead.the-variants as Leads
+use Rattle.markup.specs.Between.{byLead, between-item}
+use Rattle.markup.specs.declared.Item.{Item}
+use Rattle.markup.specs.declared.Item.the-variants as Items
 use Rattle.node_parts.specs.Held.{Went, childOut, Child, Goes, HeldAt, ReadsTo}
 
 -- ---- an end tag before which something lacks is never done
@@ -74,9 +74,9 @@ module _ {S : Type 0} (h : Holder S) where
     abbrev parts : S → Parser (Turn S S)
     parts v = (heldPart h v) .run
 
-    turn : (r : Lead) → LeadsTo s i r → next (drop i s) ≡ byLead (endTag (h .name) (h .missing st)) (h .fault st) (h .body st) (drop i s) (leadOut s i r)
+    turn : (r : Item) → ItemReads s i r → next (drop i s) ≡ byLead (endTag (h .name) (h .missing st)) (h .fault st) (h .body st) (drop i s) (itemOut s i r)
     turn r v =
-        between-leads (endTag (h .name) (h .missing st)) (h .fault st) (h .body st) (drop i s)
+        between-item (endTag (h .name) (h .missing st)) (h .fault st) (h .body st) (drop i s)
         ∙ ap (byLead (endTag (h .name) (h .missing st)) (h .fault st) (h .body st) (drop i s)) (sym (v .out))
 
     -- the bytes from e on are fewer
@@ -89,23 +89,23 @@ module _ {S : Type 0} (h : Holder S) where
     abbrev after : Out (Part S) → Out (Turn S S)
     after o = thenOut o (λ p. retP (afterPart st p))
 
-    turn-gap : (e : ℕ) → LeadsTo s i (Leads.Gap e) → loopP parts st (drop i s) ≡ loopP parts st (drop e s)
-    turn-gap e v =
-        loop-again parts st (drop i s) st (drop e s) (ap after (turn (Leads.Gap e) v ∙ strict gap e (v .inside .0) (v .inside .1))) (fewer e (v .inside .0) (v .inside .1))
+    turn-misc : (e : ℕ) → ItemReads s i (Items.Misc e) → loopP parts st (drop i s) ≡ loopP parts st (drop e s)
+    turn-misc e v =
+        loop-again parts st (drop i s) st (drop e s) (ap after (turn (Items.Misc e) v ∙ strict misc e (v .inside .0) (v .inside .1))) (fewer e (v .inside .0) (v .inside .1))
 
-    turn-fault : (k p : ℕ) → LeadsTo s i (Leads.Fault k p) → loopP parts st (drop i s) ≡ fault k (drop p s)
-    turn-fault k p v = loop-fault parts st (drop i s) k (drop p s) (ap after (turn (Leads.Fault k p) v))
+    turn-fault : (k p : ℕ) → ItemReads s i (Items.Fault k p) → loopP parts st (drop i s) ≡ fault k (drop p s)
+    turn-fault k p v = loop-fault parts st (drop i s) k (drop p s) (ap after (turn (Items.Fault k p) v))
 
-    turn-cut : LeadsTo s i Leads.Cut → loopP parts st (drop i s) ≡ cut
-    turn-cut v = loop-cut parts st (drop i s) (ap after (turn Leads.Cut v))
+    turn-cut : ItemReads s i Items.Cut → loopP parts st (drop i s) ≡ cut
+    turn-cut v = loop-cut parts st (drop i s) (ap after (turn Items.Cut v))
 
     turn-ended : length s ≤ i → loopP parts st (drop i s) ≡ cut
     unfolding between
     turn-ended l = loop-cut parts st (drop i s) (ap (parts st) (past s i l))
 
     -- at an end tag, which answers r
-    turn-end : (r : Scan) → LeadsTo s i Leads.End → Reads 1 ((endTag (h .name) (h .missing st)) .run) noValue s i r → loopP parts st (drop i s) ≡ scanOut (λ q. st) s r
-    turn-end r v w = go r (w .inside) (turn Leads.End v ∙ ap (λ (o : Out (Unit {0})). strictOut (thenOut o (λ u. retP close)) (drop i s)) (sym (w .out)))
+    turn-end : (r : Scan) → ItemReads s i Items.EndTag → Reads 1 ((endTag (h .name) (h .missing st)) .run) noValue s i r → loopP parts st (drop i s) ≡ scanOut (λ q. st) s r
+    turn-end r v w = go r (w .inside) (turn Items.EndTag v ∙ ap (λ (o : Out (Unit {0})). strictOut (thenOut o (λ u. retP close)) (drop i s)) (sym (w .out)))
       where
         go : (r : Scan) → Inside 1 s i r → next (drop i s) ≡ strictOut (thenOut (scanOut noValue s r) (λ u. retP close)) (drop i s)
             → loopP parts st (drop i s) ≡ scanOut (λ q. st) s r
@@ -114,7 +114,7 @@ module _ {S : Type 0} (h : Holder S) where
         go Cut n q = loop-cut parts st (drop i s) (ap after q)
 
     -- at a child, by its answer
-    module _ (e : ℕ) (v : LeadsTo s i (Leads.Open e)) (st′ : S) where
+    module _ (e : ℕ) (v : ItemReads s i (Items.StartTag e)) (st′ : S) where
       abbrev w : List ℕ
       w = part s (i + 1) e
 
@@ -125,7 +125,7 @@ module _ {S : Type 0} (h : Holder S) where
 
       opened : (r : Scan) → Child h st s i e st′ r → next (drop i s) ≡ strictOut (thenOut (scanOut (λ q. st′) s r) (λ v. retP (child v))) (drop i s)
       opened r c =
-          turn (Leads.Open e) v ∙ same (h .fault st w)
+          turn (Items.StartTag e) v ∙ same (h .fault st w)
           ∙ ap (λ (o : Out S). strictOut (thenOut o (λ v. retP (child v))) (drop i s)) (sym (c .out))
 
       turn-child : (q : ℕ) → Child h st s i e st′ (At q) → loopP parts st (drop i s) ≡ loopP parts st′ (drop q s)
@@ -148,11 +148,11 @@ module _ {S : Type 0} (h : Holder S) where
     from n (Fault k p) j = (omega (arith, v .low), j .1)
     from n Cut j = tt
 
-    pub held-gap : (e : ℕ) → LeadsTo s i (Leads.Gap e) → HeldAt h st₀ s at e R
-    held-gap e l = record { st = v .st; low = omega (arith, v .low, l .inside); same = v .same ∙ turn-gap (v .st) s i e l; stands = v .stands }
+    pub held-misc : (e : ℕ) → ItemReads s i (Items.Misc e) → HeldAt h st₀ s at e R
+    held-misc e l = record { st = v .st; low = omega (arith, v .low, l .inside); same = v .same ∙ turn-misc (v .st) s i e l; stands = v .stands }
 
     -- a child, with the answer r
-    module _ (e : ℕ) (l : LeadsTo s i (Leads.Open e)) (r : Scan) (R₂ : S → Type 0) (F : Type 0) (g : (st : S) → R st → Goes h st s i e r R₂ F) where
+    module _ (e : ℕ) (l : ItemReads s i (Items.StartTag e)) (r : Scan) (R₂ : S → Type 0) (F : Type 0) (g : (st : S) → R st → Goes h st s i e r R₂ F) where
       abbrev went : Goes h (v .st) s i e r R₂ F
       went = g (v .st) (v .stands)
 
@@ -183,7 +183,7 @@ module _ {S : Type 0} (h : Holder S) where
 
     module _ (R₂ : S → Type 0) (F : Type 0) where
       -- the end tag
-      pub held-end : (r : Scan) → LeadsTo s i Leads.End → ((st : S) → R st → Reads 1 ((endTag (h .name) (h .missing st)) .run) noValue s i r × Went r (R₂ st) F)
+      pub held-end : (r : Scan) → ItemReads s i Items.EndTag → ((st : S) → R st → Reads 1 ((endTag (h .name) (h .missing st)) .run) noValue s i r × Went r (R₂ st) F)
           → ReadsTo ((held h st₀) .run) s at r R₂ F
       held-end r l g =
           let w : Reads 1 ((endTag (h .name) (h .missing (v .st))) .run) noValue s i r × Went r (R₂ (v .st)) F = g (v .st) (v .stands) in
@@ -194,14 +194,14 @@ module _ {S : Type 0} (h : Holder S) where
           }
 
       -- none of these
-      pub held-fault : (k p : ℕ) → LeadsTo s i (Leads.Fault k p) → F → ReadsTo ((held h st₀) .run) s at (Fault k p) R₂ F
+      pub held-fault : (k p : ℕ) → ItemReads s i (Items.Fault k p) → F → ReadsTo ((held h st₀) .run) s at (Fault k p) R₂ F
       held-fault k p l f = record {
         value = v .st;
         reads = record { out = sym (v .same ∙ turn-fault (v .st) s i k p l); inside = from 1 (Fault k p) (l .inside) };
         left = f;
       }
 
-      pub held-cut : LeadsTo s i Leads.Cut → F → ReadsTo ((held h st₀) .run) s at Cut R₂ F
+      pub held-cut : ItemReads s i Items.Cut → F → ReadsTo ((held h st₀) .run) s at Cut R₂ F
       held-cut l f = record { value = v .st; reads = record { out = sym (v .same ∙ turn-cut (v .st) s i l); inside = tt }; left = f }
 
       pub held-ended : length s ≤ i → F → ReadsTo ((held h st₀) .run) s at Cut R₂ F

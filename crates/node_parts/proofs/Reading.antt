@@ -11,12 +11,11 @@ use Rattle.xml.specs.declared.Scan.{Scan}
 use Rattle.xml.specs.declared.Scan.the-variants.{At, Fault, Cut}
 use Rattle.room.specs.Room.{Room, clearedFrom}
 use Rattle.tags.specs.Code.{attributesOf}
-use Rattle.tags.specs.declared.Seen.{Seen}
+use Rattle.tags.specs.declared.Attributes.{Attributes}
 use Rattle.values.specs.Code.{Laid, NumbersRead}
 use Rattle.decimal.specs.declared.Decimal.{Decimal}
 use Rattle.clf.specs.Nodes as Nodes
-use Rattle.clf.specs.Nodes.{NodeRead}
-use Rattle.process_list.specs.List.{numbersOf, nodeOf}
+use Rattle.process_list.specs.List.{Element, numbersOf, nodeOf}
 use Rattle.process_list.specs.declared.Kind.{Kind}
 use Rattle.node_parts.specs.Code.{finishedNode, noNode, NumbersIn, NodeReads}
 use Rattle.node_parts.specs.Held.{Went, ReadsTo}
@@ -91,13 +90,13 @@ text-to p s at Cut F f v = record { value = tt; reads = v; left = f }
 
 module _ (base : ℕ) (step : NodeStep) (m₀ m₁ : Room) where
   -- the answer's node is v
-  pub record NodeIs (v : NodeRead) : Type 0 where
-    pub node : step .node ≡ nodeOf (v .element)
-    pub all : length (v .element .numbers) ≡ numbersOf (v .element .kind)
-    pub room : Laid base (v .element .numbers) m₀ m₁
+  pub record NodeIs (v : Element) : Type 0 where
+    pub node : step .node ≡ nodeOf v
+    pub all : length (v .numbers) ≡ numbersOf (v .kind)
+    pub room : Laid base (v .numbers) m₀ m₁
 
   -- a node that has been read
-  pub node-reads : (p : Parser NodeRead) (s : List ℕ) (at e : ℕ) (F : Type 0) → step .scan ≡ At e → ReadsTo p s at (At e) NodeIs F → NodeReads p s at base step m₀ m₁
+  pub node-reads : (p : Parser Element) (s : List ℕ) (at e : ℕ) (F : Type 0) → step .scan ≡ At e → ReadsTo p s at (At e) NodeIs F → NodeReads p s at base step m₀ m₁
   node-reads p s at e F q v = record {
     value = v .value;
     out = rw q (v .reads .out);
@@ -108,13 +107,13 @@ module _ (base : ℕ) (step : NodeStep) (m₀ m₁ : Room) where
   }
 
 -- the node of these attributes
-pub finished-is : (s : List ℕ) (base : ℕ) (m₀ m₁ : Room) (seen : Seen) (scan : Scan) (kind : Kind) (ns : List Decimal) → length ns ≡ numbersOf kind → Laid base ns m₀ m₁
-    → NodeIs base (finishedNode s seen scan kind) m₀ m₁ (Nodes.nodeOf (attributesOf s seen) kind ns)
+pub finished-is : (s : List ℕ) (base : ℕ) (m₀ m₁ : Room) (attributes : Attributes) (scan : Scan) (kind : Kind) (ns : List Decimal) → length ns ≡ numbersOf kind → Laid base ns m₀ m₁
+    → NodeIs base (finishedNode s attributes scan kind) m₀ m₁ (Nodes.elementWith (attributesOf s attributes) kind ns)
 unfolding finishedNode nodeOf
-finished-is s base m₀ m₁ seen scan kind ns n r = record { node = refl; all = n; room = r }
+finished-is s base m₀ m₁ attributes scan kind ns n r = record { node = refl; all = n; room = r }
 
 -- no node, where there is no next place
-pub node-failed : (p : Parser NodeRead) (s : List ℕ) (at base : ℕ) (r : Scan) (step : NodeStep) (m₀ m₁ : Room) (R : NodeRead → Type 0) (F : Type 0) → Failed r
+pub node-failed : (p : Parser Element) (s : List ℕ) (at base : ℕ) (r : Scan) (step : NodeStep) (m₀ m₁ : Room) (R : Element → Type 0) (F : Type 0) → Failed r
     → step ≡ noNode r → m₁ ≡ clearedFrom base m₀ → ReadsTo p s at r R F → NodeReads p s at base step m₀ m₁
 node-failed p s at base (At e) step m₀ m₁ R F f q z v = absurd f
 node-failed p s at base (Fault k i) step m₀ m₁ R F f q z v = rw q (record { value = v .value; out = v .reads .out; inside = v .reads .inside; node = refl; all = tt; room = z })

@@ -11,8 +11,8 @@ use decimal::Decimal;
 use process_list::Depth;
 use process_list::Kind;
 use process_list::Node;
+use tags::Attributes;
 use tags::DepthRead;
-use tags::Seen;
 use xml::Scan;
 
 // A node: how it reads, and what the list holds of it but for the position.
@@ -21,10 +21,10 @@ pub struct NodeStep {
     pub node: Node,
 }
 
-pub fn depth_at(s: &[u8], seen: Seen, w: &[u8]) -> Depth
-    ensures { λ r. ⌜ r ≡ Nodes.depthAt (now (w .entry)) (attributesOf (now (s .entry)) seen) ⌝ }
+pub fn depth_at(s: &[u8], attributes: Attributes, w: &[u8]) -> Depth
+    ensures { λ r. ⌜ r ≡ Nodes.depthAt (now (w .entry)) (attributesOf (now (s .entry)) attributes) ⌝ }
 {
-    let span = tags::text_of(s, seen, w);
+    let span = tags::text_of(s, attributes, w);
     let a = span.start;
     let e = span.end;
     let d = tags::depth_of(tags::part(s, a, e));
@@ -34,21 +34,21 @@ pub fn depth_at(s: &[u8], seen: Seen, w: &[u8]) -> Depth
     }
 }
 
-pub fn style_is(s: &[u8], seen: Seen, w: &[u8]) -> bool
-    ensures { λ r. ⌜ r ≡ same (textOf (bytes "style") (attributesOf (now (s .entry)) seen)) (now (w .entry)) ⌝ }
+pub fn style_is(s: &[u8], attributes: Attributes, w: &[u8]) -> bool
+    ensures { λ r. ⌜ r ≡ same (textOf (bytes "style") (attributesOf (now (s .entry)) attributes)) (now (w .entry)) ⌝ }
 {
-    let span = tags::text_of(s, seen, b"style");
+    let span = tags::text_of(s, attributes, b"style");
     let a = span.start;
     let e = span.end;
     xml::same(tags::part(s, a, e), w)
 }
 
 // The node of these attributes.
-pub fn finished(s: &[u8], seen: Seen, scan: Scan, kind: Kind) -> NodeStep
-    ensures { λ r. ⌜ r ≡ Code.finishedNode (now (s .entry)) seen scan kind ⌝ }
+pub fn finished(s: &[u8], attributes: Attributes, scan: Scan, kind: Kind) -> NodeStep
+    ensures { λ r. ⌜ r ≡ Code.finishedNode (now (s .entry)) attributes scan kind ⌝ }
 {
-    let input = depth_at(s, seen, b"inBitDepth");
-    let output = depth_at(s, seen, b"outBitDepth");
+    let input = depth_at(s, attributes, b"inBitDepth");
+    let output = depth_at(s, attributes, b"outBitDepth");
     let node = process_list::unplaced(kind, input, output);
     NodeStep { scan, node }
 }

@@ -21,10 +21,10 @@ use Rattle.pixel.specs.Hold.{hold}
 use Rattle.pixel_lut.specs.Lut1d.{floorTo, position}
 
 -- finite, with no minus sign
-abbrev pub plain : Float → Bool
-plain nan = false
-plain (inf s) = false
-plain (fin s m e) = not s
+abbrev pub plainFloat : Float → Bool
+plainFloat nan = false
+plainFloat (inf s) = false
+plainFloat (fin s m e) = not s
 
 -- ---- numbers
 leb-same : (a b c d : ℕ) → (a ≤ b → c ≤ d) → (c ≤ d → a ≤ b) → leb a b ≡ leb c d
@@ -98,7 +98,7 @@ below-whole (fin false n d) k m e v t =
     let x : n * up d ≡ k * down d = sym (mul-one (n * up d)) ∙ v .1 in
     le-of-mul-le-mul-right (le-trans h (le-of-eq (ap (λ (z : ℕ). z * down e) x ∙ mul-right-comm k (down d) (down e)))) (down-pos d)
 
-pub floor-is : (p : Float) (k : ℕ) → k < 65536 → T (plain p) → T (le p (whole k)) → toUnsigned 64 p ≡ floorTo k p
+pub floor-is : (p : Float) (k : ℕ) → k < 65536 → T (plainFloat p) → T (le p (whole k)) → toUnsigned 64 p ≡ floorTo k p
 unfolding toUnsigned
 floor-is nan k h q t = absurd q
 floor-is (inf s) k h q t = absurd q
@@ -109,14 +109,14 @@ floor-is (fin false m e) k h q t =
     let d : k / 1 ≡ k = div-one k in
     omega (arith, floor-min k m e (omega arith), c, d)
 
-pub above-minus-one : (p : Float) → T (plain p) → T (lt (fin true 1 (pos 0)) p)
+pub above-minus-one : (p : Float) → T (plainFloat p) → T (lt (fin true 1 (pos 0)) p)
 unfolding lt
 above-minus-one nan q = absurd q
 above-minus-one (inf s) q = absurd q
 above-minus-one (fin true m e) q = absurd q
 above-minus-one (fin false m e) q = lt→ltb 0 (1 * down e + m * up e * 1) (omega (arith, down-pos e))
 
-pub below-limit : (p : Float) (k : ℕ) → k < 65536 → T (plain p) → T (le p (whole k)) → T (lt p (fin false 1 (pos 64)))
+pub below-limit : (p : Float) (k : ℕ) → k < 65536 → T (plainFloat p) → T (le p (whole k)) → T (lt p (fin false 1 (pos 64)))
 unfolding lt
 below-limit nan k h q t = absurd q
 below-limit (inf s) k h q t = absurd q
@@ -157,7 +157,7 @@ hold-in x = go (lt one x) (lt F64.zero x) refl refl
     go false true a b = held-in x a b
     go false false a b = zero-in
 
-plain-of : (x : Float) (a c : ℕ) → HasValue x false a c → T (plain x)
+plain-of : (x : Float) (a c : ℕ) → HasValue x false a c → T (plainFloat x)
 plain-of nan a c v = absurd v
 plain-of (inf s) a c v = absurd v
 plain-of (fin true m e) a c v = absurd (true≢false (v .0))
@@ -169,11 +169,11 @@ inf-over nan k v t = v
 inf-over (inf s) k v t = v
 inf-over (fin s m e) k v t = t
 
-units-plain : (y : Float) (j q k : ℕ) → HasValue y false j 1 → T (le (units binary64 false q k) y) → T (plain (units binary64 false q k))
+units-plain : (y : Float) (j q k : ℕ) → HasValue y false j 1 → T (le (units binary64 false q k) y) → T (plainFloat (units binary64 false q k))
 unfolding units
 units-plain y j q k v = go (ltb (q * 2 ^ k) (2 ^ (low binary64 + suc (emax binary64))))
   where
-    go : (b : Bool) → T (le (cond b (odd (suc (prec binary64)) false q k (low binary64)) (inf false)) y) → T (plain (cond b (odd (suc (prec binary64)) false q k (low binary64)) (inf false)))
+    go : (b : Bool) → T (le (cond b (odd (suc (prec binary64)) false q k (low binary64)) (inf false)) y) → T (plainFloat (cond b (odd (suc (prec binary64)) false q k (low binary64)) (inf false)))
     go true t = plain-of (odd (suc (prec binary64)) false q k (low binary64)) (q * 2 ^ k) (2 ^ low binary64) (odd-sign (suc (prec binary64)) false q k (low binary64))
     go false t = absurd (inf-over y j v t)
 
@@ -183,7 +183,7 @@ scaled m ue de nud k dd h v =
     le-trans (le-of-eq (mul-one (m * ue * nud))) (le-trans (mul-le-mul-right nud h) (le-of-eq (ap (λ (z : ℕ). de * z) x ∙ mul-left-comm de k dd)))
 
 mul-under : (h w : Float) (k : ℕ) → InUnit h → HasValue w false k 1 → HasValue (round binary64 false k 1) false k 1
-    → T (plain (mul binary64 h w)) × T (le (mul binary64 h w) (round binary64 false k 1))
+    → T (plainFloat (mul binary64 h w)) × T (le (mul binary64 h w) (round binary64 false k 1))
 unfolding mul
 mul-under nan w k u v z = absurd u
 mul-under (inf s) w k u v z = absurd u
@@ -198,12 +198,12 @@ mul-under (fin false m e) (fin false n d) k u v z =
     round-mono binary64 a c k 1 (mul-pos (down-pos e) (down-pos d)) (lit< tt) (scaled m (up e) (down e) (n * up d) k (down d) (u .1) (v .1)) in
     (round-plain a c (round binary64 false k 1) k z l, l)
   where
-    round-plain : (a c : ℕ) (y : Float) (j : ℕ) → HasValue y false j 1 → T (le (round binary64 false a c) y) → T (plain (round binary64 false a c))
+    round-plain : (a c : ℕ) (y : Float) (j : ℕ) → HasValue y false j 1 → T (le (round binary64 false a c) y) → T (plainFloat (round binary64 false a c))
     round-plain a c y j v t =
-        subst (λ (x : Float). T (plain x)) (sym (round-is binary64 false a c))
+        subst (λ (x : Float). T (plainFloat x)) (sym (round-is binary64 false a c))
         (units-plain y j (kept 53 (a * 2 ^ low binary64) c) (drop 53 (a * 2 ^ low binary64) c) v (subst (λ (x : Float). T (le x y)) (round-is binary64 false a c) t))
 
-pub position-in : (n : ℕ) (x : Fraction) → n ≤ 65536 → T (plain (position n x)) × T (le (position n x) (whole (n - 1)))
+pub position-in : (n : ℕ) (x : Fraction) → n ≤ 65536 → T (plainFloat (position n x)) × T (le (position n x) (whole (n - 1)))
 unfolding position ofInt
 position-in n x h =
     let v : HasValue (whole (n - 1)) false (n - 1) 1 = whole-value (n - 1) (omega arith) in
@@ -219,13 +219,13 @@ floor-le (suc k) p = go (le (whole (suc k)) p) (floor-le k p)
     go false h = omega arith
 
 -- ---- the index is at most p, and no larger index up to k is
-zero-at-most : (p : Float) → T (plain p) → T (le (whole 0) p)
+zero-at-most : (p : Float) → T (plainFloat p) → T (le (whole 0) p)
 zero-at-most nan q = absurd q
 zero-at-most (inf s) q = absurd q
 zero-at-most (fin true m e) q = absurd q
 zero-at-most (fin false m e) q = subst T (sym (at-most (whole 0) 0 m e (whole-value 0 (omega arith)) ∙ le-leb 0 (m * up e / down e) (omega arith))) tt
 
-pub floor-at-most : (k : ℕ) (p : Float) → T (plain p) → T (le (whole (floorTo k p)) p)
+pub floor-at-most : (k : ℕ) (p : Float) → T (plainFloat p) → T (le (whole (floorTo k p)) p)
 unfolding floorTo
 floor-at-most zero p q = zero-at-most p q
 floor-at-most (suc k) p q = go (le (whole (suc k)) p) refl (floor-at-most k p q)

@@ -25,7 +25,7 @@ fn position(n: usize, x: Fraction) -> f64
 // The largest index up to top that is at most p.
 fn floor_to(top: usize, p: f64) -> usize
     requires { ⌜ top < 65536 ⌝ }
-    requires { ⌜ T (Floor.plain p) ⌝ }
+    requires { ⌜ T (Floor.plainFloat p) ⌝ }
     requires { ⌜ T (le p (F64.whole top)) ⌝ }
     ensures { λ r. ⌜ r ≡ Lut1d.floorTo top p ⌝ }
 {

@@ -19,8 +19,8 @@ abbrev pub pixelAt : List Float → ℕ → Pixel
 pixelAt xs i = record { r = getD xs i nan; g = getD xs (i + 1) nan; b = getD xs (i + 2) nan }
 
 -- a pixel put there
-abbrev pub stored : List Float → ℕ → Pixel → List Float
-stored xs i q = set (set (set xs i (q .r)) (i + 1) (q .g)) (i + 2) (q .b)
+abbrev pub storedPixel : List Float → ℕ → Pixel → List Float
+storedPixel xs i q = set (set (set xs i (q .r)) (i + 1) (q .g)) (i + 2) (q .b)
 
 -- three at i
 drop3 : (xs : List Float) (i : ℕ) → i + 2 < length xs → drop i xs ≡ getD xs i nan ∷ getD xs (i + 1) nan ∷ getD xs (i + 2) nan ∷ drop (i + 3) xs
@@ -33,13 +33,13 @@ drop3 xs i h =
     ∙ ap (λ (l : List Float). getD xs i nan ∷ l) (drop-cons xs (suc i) nan (omega arith)
     ∙ ap (λ (l : List Float). getD xs (suc i) nan ∷ l) (drop-cons xs (suc (suc i)) nan (omega arith))))
 
-drop-stored : (xs : List Float) (i : ℕ) (q : Pixel) → drop (i + 3) (stored xs i q) ≡ drop (i + 3) xs
+drop-stored : (xs : List Float) (i : ℕ) (q : Pixel) → drop (i + 3) (storedPixel xs i q) ≡ drop (i + 3) xs
 drop-stored xs i q =
     drop-set-lt (i + 3) (set (set xs i (q .r)) (i + 1) (q .g)) (i + 2) (q .b) (omega arith)
     ∙ drop-set-lt (i + 3) (set xs i (q .r)) (i + 1) (q .g) (omega arith)
     ∙ drop-set-lt (i + 3) xs i (q .r) (omega arith)
 
-take-stored : (xs : List Float) (i : ℕ) (q : Pixel) → i + 2 < length xs → take (i + 3) (stored xs i q) ≡ take i xs ++ (q .r ∷ q .g ∷ q .b ∷ [])
+take-stored : (xs : List Float) (i : ℕ) (q : Pixel) → i + 2 < length xs → take (i + 3) (storedPixel xs i q) ≡ take i xs ++ (q .r ∷ q .g ∷ q .b ∷ [])
 take-stored xs i q h =
     let a = set xs i (q .r) in
     let b = set a (i + 1) (q .g) in
@@ -60,11 +60,11 @@ take-stored xs i q h =
 pub done-start : (f : Pixel → Pixel) (xs : List Float) → Done f xs xs 0
 done-start f xs = refl
 
-pub done-more : (f : Pixel → Pixel) (xs₀ xs : List Float) (i : ℕ) → i + 2 < length xs → Done f xs₀ xs i → Done f xs₀ (stored xs i (f (pixelAt xs i))) (i + 3)
+pub done-more : (f : Pixel → Pixel) (xs₀ xs : List Float) (i : ℕ) → i + 2 < length xs → Done f xs₀ xs i → Done f xs₀ (storedPixel xs i (f (pixelAt xs i))) (i + 3)
 unfolding eachPixel
 done-more f xs₀ xs i h d =
     let q = f (pixelAt xs i) in
-    ap (λ (l : List Float). take (i + 3) (stored xs i q) ++ eachPixel f l) (drop-stored xs i q)
+    ap (λ (l : List Float). take (i + 3) (storedPixel xs i q) ++ eachPixel f l) (drop-stored xs i q)
     ∙ ap (λ (l : List Float). l ++ eachPixel f (drop (i + 3) xs)) (take-stored xs i q h)
     ∙ append-assoc (take i xs) (q .r ∷ q .g ∷ q .b ∷ []) (eachPixel f (drop (i + 3) xs))
     ∙ sym (ap (λ (l : List Float). take i xs ++ eachPixel f l) (drop3 xs i h))
@@ -89,14 +89,14 @@ pub record Passed (f : Pixel → Pixel) (xs₀ xs : List Float) (i : ℕ) : Type
   pub whole : length xs ≡ length xs₀
   pub done : Done f xs₀ xs i
 
-length-stored : (xs : List Float) (i : ℕ) (q : Pixel) → length (stored xs i q) ≡ length xs
+length-stored : (xs : List Float) (i : ℕ) (q : Pixel) → length (storedPixel xs i q) ≡ length xs
 length-stored xs i q = simp length-set
 
 pub passed-start : (f : Pixel → Pixel) (xs : List Float) → Passed f xs xs 0
 passed-start f xs = record { within = omega arith; whole = refl; done = done-start f xs }
 
 -- one pixel read, mapped and put back
-pub passed-more : {f : Pixel → Pixel} {xs₀ xs : List Float} {i : ℕ} {x y : Pixel} {ys : List Float} → Passed f xs₀ xs i → i + 2 < length xs → x ≡ pixelAt xs i → y ≡ f x → ys ≡ stored xs i y → Passed f xs₀ ys (i + 3)
+pub passed-more : {f : Pixel → Pixel} {xs₀ xs : List Float} {i : ℕ} {x y : Pixel} {ys : List Float} → Passed f xs₀ xs i → i + 2 < length xs → x ≡ pixelAt xs i → y ≡ f x → ys ≡ storedPixel xs i y → Passed f xs₀ ys (i + 3)
 passed-more {f} {xs₀} {xs} {i} {x} {y} {ys} p h ex ey es =
     let l : length ys ≡ length xs = ap length es ∙ length-stored xs i y in
     record { within = omega arith; whole = l ∙ p .whole; done = rw (es, ey, ex) (done-more f xs₀ xs i h (p .done)) }

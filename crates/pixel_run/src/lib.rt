@@ -99,7 +99,7 @@ fn load(pixels: &[f64], i: usize) -> Pixel
 // A pixel put at i.
 fn store(pixels: &mut [f64], i: usize, y: Pixel)
     requires { ⌜ i + 2 < length (now pixels) ⌝ }
-    ensures { λ _. ⌜ now (pixels .exit) ≡ EachLaws.stored (now (pixels .entry)) i y ⌝ }
+    ensures { λ _. ⌜ now (pixels .exit) ≡ EachLaws.storedPixel (now (pixels .entry)) i y ⌝ }
 {
     pixels[i] = y.r;
     pixels[i + 1] = y.g;

@@ -10,7 +10,7 @@ use Rattle.decimal.specs.declared.Decimal.{Decimal}
 use Rattle.decimal.specs.Decimal as Decimals
 use Rattle.grammar.specs.Parse.{Parser, bindP, retP}
 use Rattle.process_list.specs.declared.Kind.the-variants.{Range}
-use Rattle.process_list.specs.List.{numbersOf}
+use Rattle.process_list.specs.List.{Element, numbersOf}
 use Rattle.room.specs.Room.{Room, clearedFrom}
 use Rattle.xml.specs.Bytes.{same, bytes}
 use Rattle.xml.specs.Xml.{Tag, textOf, startTag, endTag}
@@ -18,14 +18,14 @@ use Rattle.xml.specs.Elements.{held, textElement}
 use Rattle.xml.specs.Code.{Reads, noValue, Failed}
 use Rattle.xml.specs.declared.Scan.{Scan}
 use Rattle.xml.specs.declared.Scan.the-variants.{At, Fault, Cut}
-use Rattle.markup.specs.Leads.{LeadsTo}
-use Rattle.markup.specs.declared.Lead.the-variants as Leads
+use Rattle.markup.specs.Items.{ItemReads}
+use Rattle.markup.specs.declared.Item.the-variants as Items
 use Rattle.tags.specs.Code.{partIn, attributesOf}
 use Rattle.tags.specs.Ended.{tagOf}
 use Rattle.tags.specs.declared.StartTag.{StartTag}
 use Rattle.values.specs.Code.{Laid, NumbersRead}
 use Rattle.clf.specs.Numbers.{valueElement, anyNumber}
-use Rattle.clf.specs.Nodes.{NodeRead, isSome, orElse, oneOf, RangeState, noValues, rangeIndex, rangeBody, rangeFault, rangeHolder, rangeTexts, rangeNode, nodeRules, range}
+use Rattle.clf.specs.Nodes.{isSome, orElse, oneOf, RangeState, noValues, rangeIndex, rangeBody, rangeFault, rangeHolder, rangeTexts, rangeNode, nodeRules, range}
 use Rattle.node_parts.specs.Code.{NumbersIn, finishedNode, noNode, smallNumbers, NodeReads}
 use Rattle.node_parts.specs.Held.{Went, Goes, HeldAt, ReadsTo}
 use Rattle.node_parts.specs.declared.NodeStep.{NodeStep}
@@ -92,7 +92,7 @@ module _ (s : List ℕ) (at i : ℕ) (m : Room) (state : RangeStep) (v : HeldAt 
   either Cut A a = tt
 
   -- the end tag
-  pub content-end : LeadsTo s i Leads.End → (missing : ℕ) (r : Scan) → missing ≡ missingOf (state .found) m → Reads 1 ((endTag (bytes "Range") missing) .run) noValue s i r
+  pub content-end : ItemReads s i Items.EndTag → (missing : ℕ) (r : Scan) → missing ≡ missingOf (state .found) m → Reads 1 ((endTag (bytes "Range") missing) .run) noValue s i r
       → ReadsTo ((held rangeHolder noValues) .run) s at r (RangeStands m (withScan state r)) (Unit {0})
   content-end l missing r q w =
       held-end rangeHolder noValues s at i (RangeStands m state) v (RangeStands m (withScan state r)) (Unit {0}) r l
@@ -104,7 +104,7 @@ module _ (s : List ℕ) (at base : ℕ) (tag : StartTag) where
   abbrev opens : Parser Tag
   opens = (startTag (nodeRules (λ w. 0) rangeTexts)) .run
 
-  abbrev rest-of : Tag → Parser NodeRead
+  abbrev rest-of : Tag → Parser Element
   rest-of t = bindP ((held rangeHolder noValues) .run) (λ st. retP (rangeNode (t .attributes) st))
 
   -- the start tag is at fault
@@ -118,14 +118,14 @@ module _ (s : List ℕ) (at base : ℕ) (tag : StartTag) where
   module _ (m₀ m₁ m : Room) (c : RangeStep) (step : NodeStep) (q : ℕ) (v : Reads 1 opens (λ e. tagOf s tag) s at (At q))
       (w : ReadsTo ((held rangeHolder noValues) .run) s q (c .scan) (RangeStands m c) (Unit {0})) where
     -- what holds of the content's state, of the node made of it
-    abbrev Whole : (NodeRead → Type 0) → Type 0
+    abbrev Whole : (Element → Type 0) → Type 0
     Whole R = ReadsTo (bindP opens rest-of) s at (c .scan) R (Unit {0})
 
-    whole : (R : NodeRead → Type 0) → ((st : RangeState) → RangeStands m c st → R (rangeNode (attributesOf s (tag .seen)) st)) → Whole R
+    whole : (R : Element → Type 0) → ((st : RangeState) → RangeStands m c st → R (rangeNode (attributesOf s (tag .attributes)) st)) → Whole R
     unfolding tagOf
     whole R g =
         to-then opens s at R (Unit {0}) rest-of (λ e. tagOf s tag) q (c .scan) v
-        (to-map ((held rangeHolder noValues) .run) s q R (Unit {0}) (λ st. rangeNode (attributesOf s (tag .seen)) st) (c .scan) (RangeStands m c) g w)
+        (to-map ((held rangeHolder noValues) .run) s q R (Unit {0}) (λ st. rangeNode (attributesOf s (tag .attributes)) st) (c .scan) (RangeStands m c) g w)
 
     -- the content is at fault
     pub content-failed : Failed (c .scan) → step ≡ noNode (c .scan) → m₁ ≡ clearedFrom base m₀ → NodeReads (range .run) s at base step m₀ m₁
@@ -133,16 +133,16 @@ module _ (s : List ℕ) (at base : ℕ) (tag : StartTag) where
     content-failed f z y =
         node-failed (bindP opens rest-of) s at base (c .scan) step m₀ m₁ (λ n. Unit {0}) (Unit {0}) f z y (whole (λ n. Unit {0}) (λ st x. tt))
 
-    module _ (e : ℕ) (i : c .scan ≡ At e) (clamp : Bool) (z : clamp ≡ not (same (textOf (bytes "style") (attributesOf s (tag .seen))) (bytes "noClamp")))
-        (h : Laid base (smallNumbers m) m₀ m₁) (y : step ≡ finishedNode s (tag .seen) (At e) (Range clamp)) where
+    module _ (e : ℕ) (i : c .scan ≡ At e) (clamp : Bool) (z : clamp ≡ not (same (textOf (bytes "style") (attributesOf s (tag .attributes))) (bytes "noClamp")))
+        (h : Laid base (smallNumbers m) m₀ m₁) (y : step ≡ finishedNode s (tag .attributes) (At e) (Range clamp)) where
       four : length (smallNumbers m) ≡ 4 → length (smallNumbers m) ≡ numbersOf (Range clamp)
       unfolding numbersOf
       four x = x
 
-      is : (st : RangeState) → RangeStands m c st → NodeIs base step m₀ m₁ (rangeNode (attributesOf s (tag .seen)) st)
+      is : (st : RangeState) → RangeStands m c st → NodeIs base step m₀ m₁ (rangeNode (attributesOf s (tag .attributes)) st)
       is st x =
           let n = numbers m c st x in
-          rw (y, ← z, ← n) (finished-is s base m₀ m₁ (tag .seen) (At e) (Range clamp) (smallNumbers m) (four (ap length n)) h)
+          rw (y, ← z, ← n) (finished-is s base m₀ m₁ (tag .attributes) (At e) (Range clamp) (smallNumbers m) (four (ap length n)) h)
 
       pub range-node : NodeReads (range .run) s at base step m₀ m₁
       unfolding range finishedNode

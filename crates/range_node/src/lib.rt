@@ -1,4 +1,5 @@
 // Range: Descriptions, then four values in any order.
+ghost use Rattle.process_list.specs.List.{Element};
 ghost use mathlib.Core.Path.{_≡_};
 ghost use mathlib.Core.Bool.{true};
 ghost use Prim.Native.Nat.{_+_, _≤_};
@@ -9,7 +10,7 @@ ghost use Rattle.clf.specs.Nodes as Nodes;
 ghost use Rattle.node_parts.specs.Code.{smallNumbers, NodeReads};
 ghost use Rattle.node_parts.specs.Held.{Goes, ReadsTo};
 ghost use Rattle.range_node.specs.Code as Code;
-use markup::Lead;
+use markup::Item;
 use node_parts::NodeStep;
 use process_list::Kind;
 use tags::TagKind;
@@ -194,12 +195,12 @@ fn range_content(s: &[u8], at: usize, coefficients: &mut [i64], powers: &mut [i8
     let mut state = no_values(at);
     let mut i = at;
     while i < s.len() {
-        let l = markup::lead_at(s, i);
+        let l = markup::item_at(s, i);
         match l {
-            Lead::Gap(e) => {
+            Item::Misc(e) => {
                 i = e;
             }
-            Lead::Open(e) => {
+            Item::StartTag(e) => {
                 state = range_child(s, i, e, state, coefficients, powers);
                 let r = state.scan;
                 let Scan::At(q) = r else {
@@ -207,16 +208,16 @@ fn range_content(s: &[u8], at: usize, coefficients: &mut [i64], powers: &mut [i8
                 };
                 i = q;
             }
-            Lead::End => {
+            Item::EndTag => {
                 let found = state.found;
                 let missing = range_missing(found, coefficients, powers);
                 let r = markup::end_tag(s, i, b"Range", missing);
                 return range_with(state, r);
             }
-            Lead::Fault(k, p) => {
+            Item::Fault(k, p) => {
                 return range_with(state, Scan::Fault(k, p));
             }
-            Lead::Cut => {
+            Item::Cut => {
                 return range_with(state, Scan::Cut);
             }
         }
@@ -236,7 +237,7 @@ pub fn read_range(
 {
     let tag = tags::start_tag(s, at, TagKind::Range);
     let end = tag.end;
-    let seen = tag.seen;
+    let attributes = tag.attributes;
     let r = tags::behind(end);
     let Scan::At(q) = r else {
         return node_parts::failed(r, coefficients, powers, base);
@@ -249,6 +250,6 @@ pub fn read_range(
         return node_parts::failed(scan, coefficients, powers, base);
     };
     node_parts::store_all(&small, &small_powers, coefficients, powers, base);
-    let clamp = !node_parts::style_is(s, seen, b"noClamp");
-    node_parts::finished(s, seen, scan, Kind::Range { clamp })
+    let clamp = !node_parts::style_is(s, attributes, b"noClamp");
+    node_parts::finished(s, attributes, scan, Kind::Range { clamp })
 }

@@ -13,29 +13,28 @@ use Rattle.process_list.specs.List.{Element, nodeOf, nodesOf, listOf, placed, p
 use Rattle.process_list.proofs.Laws.{capped-exact}
 use Rattle.process_list.proofs.Lists.{list-nodes, list-count, total-place, placed-length, heads-length, Fine, accepted-fine}
 use Rattle.grammar.specs.Parse.{Out, done, fault, cut}
-use Rattle.clf.specs.Nodes.{NodeRead}
 use Rattle.clf.specs.List.{Document, document, tail}
-use Rattle.clf.specs.Reading.{Reading, accepted, faulty, unfit, byVerdict, listReading, tailReading, textReading, readText, read, mostBytes, elementsOf}
+use Rattle.clf.specs.Reading.{Reading, accepted, faulty, unfit, byVerdict, listReading, tailReading, textReading, readText, read, mostBytes}
 use Rattle.reading.specs.declared.Answer.{Answer}
-use Rattle.reading.specs.Code.{answerOf}
+use Rattle.reading.specs.Code.{readingAnswer}
 use Rattle.reading.specs.Counts.{nodeCount, numberCount}
 
 -- ---- an accepted reading's list was judged, and found right
 abbrev Judged : ℕ → Reading → Type 0
-Judged room (accepted l) = verdict room (elementsOf l) ≡ Accepted
+Judged room (accepted l) = verdict room l ≡ Accepted
 Judged room (faulty k p) = Unit {0}
 Judged room (unfit k p) = Unit {0}
 
-by-verdict : (room : ℕ) (l : List NodeRead) (v : Verdict) → verdict room (elementsOf l) ≡ v → Judged room (byVerdict l v)
+by-verdict : (room : ℕ) (l : List Element) (v : Verdict) → verdict room l ≡ v → Judged room (byVerdict l v)
 by-verdict room l Accepted e = e
 by-verdict room l NoNode e = tt
 by-verdict room l TooManyNodes e = tt
 by-verdict room l (DepthDiffers k) e = tt
 by-verdict room l TooManyNumbers e = tt
 
-list-judged : (room : ℕ) (l : List NodeRead) → Judged room (listReading room l)
+list-judged : (room : ℕ) (l : List Element) → Judged room (listReading room l)
 unfolding listReading
-list-judged room l = by-verdict room l (verdict room (elementsOf l)) refl
+list-judged room l = by-verdict room l (verdict room l) refl
 
 tail-judged : (room : ℕ) (s : List ℕ) (d : Document) (o : Out (Unit {0})) → Judged room (tailReading room s d o)
 tail-judged room s d (done u r) = list-judged room _
@@ -74,24 +73,20 @@ module _ (room : ℕ) (es : List Element) (e : verdict room es ≡ Accepted) whe
   numbers-are : capped (total (nodesOf (listOf (placed es)))) ≡ total (map nodeOf es)
   numbers-are = ap (λ (ns : List Node). capped (total ns)) (list-nodes (placed es) few) ∙ ap capped placed-total ∙ capped-exact _ (omega (arith, fine .holds))
 
-nodes-length : (l : List NodeRead) → length (elementsOf l) ≡ length l
-nodes-length [] = refl
-nodes-length (n ∷ l) = ap suc (nodes-length l)
-
 -- ---- the list of a reading
-counts : (room : ℕ) (r : Reading) → Judged room r → answerOf r .list .count ≡ nodeCount r
-unfolding answerOf listOf placed placeFrom
-counts room (accepted l) j = count-is room (elementsOf l) j ∙ nodes-length l
+counts : (room : ℕ) (r : Reading) → Judged room r → readingAnswer r .list .count ≡ nodeCount r
+unfolding readingAnswer listOf placed placeFrom
+counts room (accepted l) j = count-is room l j
 counts room (faulty k p) j = refl
 counts room (unfit k p) j = refl
 
-numbers : (room : ℕ) (r : Reading) → Judged room r → capped (total (nodesOf (answerOf r .list))) ≡ numberCount r
-unfolding answerOf listOf total capped placed nodesOf placeFrom
-numbers room (accepted l) j = numbers-are room (elementsOf l) j
+numbers : (room : ℕ) (r : Reading) → Judged room r → capped (total (nodesOf (readingAnswer r .list))) ≡ numberCount r
+unfolding readingAnswer listOf total capped placed nodesOf placeFrom
+numbers room (accepted l) j = numbers-are room l j
 numbers room (faulty k p) j = refl
 numbers room (unfit k p) j = refl
 
-module _ (room : ℕ) (s : List ℕ) (a : Answer) (e : a ≡ answerOf (read room s)) where
+module _ (room : ℕ) (s : List ℕ) (a : Answer) (e : a ≡ readingAnswer (read room s)) where
   pub answer-count : a .list .count ≡ nodeCount (read room s)
   answer-count = ap (λ (x : Answer). x .list .count) e ∙ counts room (read room s) (read-judged room s)
 

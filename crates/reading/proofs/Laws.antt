@@ -1,4 +1,5 @@
 -- Reading, from what a text's code answered. Assumes nothing.
+use Rattle.process_list.specs.List.{Element, allNumbers}
 use mathlib.Core.Path.{_≡_, refl, sym, ap, _∙_, subst}
 use mathlib.Core.Bool.{Bool, true, false, cond, _&&_}
 use mathlib.Core.List.{List, [], _∷_}
@@ -23,10 +24,9 @@ use Rattle.room.proofs.Rooms.{RoomFrom, from-refl, length-at-most, cleared-noth
 use Rattle.xml.specs.declared.Scan.{Scan}
 use Rattle.xml.specs.declared.Scan.the-variants as Scans
 use Rattle.xml.specs.Code.{scanOut, Inside}
-use Rattle.clf.specs.Nodes.{NodeRead}
 use Rattle.clf.specs.List.{Document, document, tail}
 use Rattle.clf.specs.Places.{nodeSpan}
-use Rattle.clf.specs.Reading.{Reading, accepted, faulty, unfit, mostBytes, nodesIn, nodesOf, elementsOf, numbersIn, placeIn, byVerdict, listReading, tailReading, textReading, readText, read, readAlone, askedFor, descriptionAsked}
+use Rattle.clf.specs.Reading.{Reading, accepted, faulty, unfit, mostBytes, nodesIn, nodesAmong, placeIn, byVerdict, listReading, tailReading, textReading, readText, read, readAlone, askedFor, descriptionAsked}
 use Rattle.clf.specs.Whole.{wholeNodes, wholePlace}
 use Rattle.clf.specs.Description.{noPart, partFrom, partAsked, descriptionPart}
 use Rattle.clf.proofs.Whole.{document-whole, place-whole}
@@ -35,16 +35,16 @@ use Rattle.describing.specs.Code.{noPlace, IsPlace, IsPart}
 use Rattle.describing.proofs.Texts.{none-found}
 use Rattle.file_text.specs.declared.ListState.{ListState}
 use Rattle.file_text.specs.declared.ListStep.{ListStep}
-use Rattle.file_text.specs.Code.{bare, stateWith, stateFrom, stateOf, fitting, ListReads, textNodes, afterRoot}
+use Rattle.file_text.specs.Code.{bare, stateWith, stateFrom, stateOf, fittingNumbers, ListReads, textNodes, afterRoot}
 use Rattle.file_text.proofs.Nodes.{bare-length}
 use Rattle.reading.specs.declared.Judged.{Judged}
 use Rattle.reading.specs.declared.Judged.the-variants.{Accepted, Refused}
 use Rattle.reading.specs.Code as Code
-use Rattle.reading.specs.Code.{checkedOf, answerOf, ReadsInto, judgedScan, judgedStep, refusedAnswer, acceptedAnswer, judgedOf, checkedBy, askedBy, TextAlone}
+use Rattle.reading.specs.Code.{checkedOf, readingAnswer, ReadsInto, judgedScan, judgedStep, refusedAnswer, acceptedAnswer, judgedOf, checkedBy, askedBy, TextAlone}
 
 -- ---- reading by the nodes of the text
 
-abbrev byNodes : ℕ → List ℕ → Out (List NodeRead) → Reading
+abbrev byNodes : ℕ → List ℕ → Out (List Element) → Reading
 byNodes room s (done l r) = listReading room l
 byNodes room s (fault k r) = faulty k (placeIn s r)
 byNodes room s cut = faulty 1 (length s)
@@ -53,7 +53,7 @@ text-by : (room : ℕ) (s : List ℕ) → readText room s ≡ byNodes room s (te
 unfolding readText textNodes
 text-by room s = by (document .run s)
   where
-    by-tail : (d : Document) (o : Out (Unit {0})) → tailReading room s d o ≡ byNodes room s (thenOut o (λ u q. done (nodesOf (d .parts)) q))
+    by-tail : (d : Document) (o : Out (Unit {0})) → tailReading room s d o ≡ byNodes room s (thenOut o (λ u q. done (nodesAmong (d .parts)) q))
     by-tail d (done u r) = refl
     by-tail d (fault k r) = refl
     by-tail d cut = refl
@@ -68,16 +68,12 @@ place-back s p h = omega (arith, length-drop p s)
 
 -- ---- the verdict over the list
 
-list-judged : (l : List NodeRead) (v : Verdict) → judgedOf (byVerdict l v) ≡ Code.byVerdict v
+list-judged : (l : List Element) (v : Verdict) → judgedOf (byVerdict l v) ≡ Code.byVerdict v
 list-judged l Verdicts.Accepted = refl
 list-judged l Verdicts.NoNode = refl
 list-judged l Verdicts.TooManyNodes = refl
 list-judged l (Verdicts.DepthDiffers k) = refl
 list-judged l Verdicts.TooManyNumbers = refl
-
-elements-length : (l : List NodeRead) → length (elementsOf l) ≡ length l
-elements-length [] = refl
-elements-length (n ∷ l) = ap suc (elements-length l)
 
 -- ---- what the state of a text says
 
@@ -95,11 +91,11 @@ module _ (wanted : ℕ) (s : List ℕ) (st : ListState) (e : st ≡ stateOf want
   state-start = ap (λ (x : ListState). x .start) e
 
   -- the verdict that the code sees is the list's
-  seen : (room : ℕ) → cond (st .over) Verdicts.TooManyNodes (Lists.judged room (Lists.nodesOf (st .list))) ≡ Lists.verdict room (elementsOf (wholeNodes s))
+  seen : (room : ℕ) → cond (st .over) Verdicts.TooManyNodes (Lists.judged room (Lists.nodesOf (st .list))) ≡ Lists.verdict room (wholeNodes s)
   seen room =
-      ap (λ (b : Bool). cond b Verdicts.TooManyNodes (Lists.judged room (Lists.nodesOf (st .list)))) (state-over ∙ ap (ltb 32) (sym (elements-length (wholeNodes s))))
-      ∙ ap (λ (x : _). cond (ltb 32 (length (elementsOf (wholeNodes s)))) Verdicts.TooManyNodes (Lists.judged room (Lists.nodesOf x))) state-list
-      ∙ sym (verdict-list room (elementsOf (wholeNodes s)))
+      ap (λ (b : Bool). cond b Verdicts.TooManyNodes (Lists.judged room (Lists.nodesOf (st .list)))) state-over
+      ∙ ap (λ (x : _). cond (ltb 32 (length (wholeNodes s))) Verdicts.TooManyNodes (Lists.judged room (Lists.nodesOf x))) state-list
+      ∙ sym (verdict-list room (wholeNodes s))
 
 -- ---- what is to be said of a text
 
@@ -109,7 +105,7 @@ module _ (wanted : ℕ) (s : List ℕ) (r : ListStep) (m₀ m₁ : Room) (h : Li
   unfolding listReading
   judged-go (Scans.At e) q b =
       ap Code.byVerdict (seen wanted s (r .state) (h .state) room)
-      ∙ sym (ap judgedOf (text-by room s ∙ ap (byNodes room s) (sym q)) ∙ list-judged (wholeNodes s) (Lists.verdict room (elementsOf (wholeNodes s))))
+      ∙ sym (ap judgedOf (text-by room s ∙ ap (byNodes room s) (sym q)) ∙ list-judged (wholeNodes s) (Lists.verdict room (wholeNodes s)))
   judged-go (Scans.Fault k p) q b = sym (ap judgedOf (text-by room s ∙ ap (byNodes room s) (sym q)) ∙ ap (Refused k) (place-back s p (b .1)))
   judged-go Scans.Cut q b = sym (ap judgedOf (text-by room s ∙ ap (byNodes room s) (sym q)))
 
@@ -119,7 +115,7 @@ module _ (wanted : ℕ) (s : List ℕ) (r : ListStep) (m₀ m₁ : Room) (h : Li
 
 -- ---- an accepted text
 
-verdict-accepted : (l : List NodeRead) (v : Verdict) → judgedOf (byVerdict l v) ≡ Accepted → (byVerdict l v ≡ accepted l) × (v ≡ Verdicts.Accepted)
+verdict-accepted : (l : List Element) (v : Verdict) → judgedOf (byVerdict l v) ≡ Accepted → (byVerdict l v ≡ accepted l) × (v ≡ Verdicts.Accepted)
 verdict-accepted l Verdicts.Accepted q = (refl, refl)
 verdict-accepted l Verdicts.NoNode q = nope cc
 verdict-accepted l Verdicts.TooManyNodes q = nope cc
@@ -136,12 +132,12 @@ record Sound (s : List ℕ) (room : ℕ) : Type 0 where
   found : document .run s ≡ done text behind
 
 module _ (s : List ℕ) (room : ℕ) where
-  by-list : (d : Document) (u : List ℕ) → document .run s ≡ done d u → (l : List NodeRead) → l ≡ wholeNodes s → readText room s ≡ listReading room l
+  by-list : (d : Document) (u : List ℕ) → document .run s ≡ done d u → (l : List Element) → l ≡ wholeNodes s → readText room s ≡ listReading room l
       → judgedOf (readText room s) ≡ Accepted → Sound s room
   unfolding listReading Lists.verdict
   by-list d u e l n t j =
       let v : readText room s ≡ listReading room (wholeNodes s) = t ∙ ap (listReading room) n in
-      let a = verdict-accepted (wholeNodes s) (Lists.verdict room (elementsOf (wholeNodes s))) (ap judgedOf (sym v) ∙ j) in
+      let a = verdict-accepted (wholeNodes s) (Lists.verdict room (wholeNodes s)) (ap judgedOf (sym v) ∙ j) in
       let f : Fine room (bare (wholeNodes s)) = accepted-fine room (bare (wholeNodes s)) (a .1) in
       record { reading = v ∙ a .0; few = omega (arith, f .few, bare-length (wholeNodes s)); fits = f .holds; text = d; behind = u; found = e }
 
@@ -154,7 +150,7 @@ module _ (s : List ℕ) (room : ℕ) where
         where
           behind : (t : Out (Unit {0})) → tail u ≡ t → judgedOf (tailReading room s d t) ≡ Accepted → Sound s room
           behind (done x q) w y =
-              by-list d u e (nodesOf (d .parts)) ((document-whole s d u e) .nodes) (ap (textReading room s) e ∙ ap (tailReading room s d) w) j
+              by-list d u e (nodesAmong (d .parts)) ((document-whole s d u e) .nodes) (ap (textReading room s) e ∙ ap (tailReading room s d) w) j
           behind (fault k q) w y = nope cc
           behind cut w y = nope cc
       by (fault k u) e z = nope cc
@@ -175,8 +171,8 @@ filled-from xs m h =
     slice ys t u v = record { size = filled-length (roomLength m) (pos 0) ys t u v; front = refl; behind = filled-behind (roomLength m) (pos 0) ys t u }
 
 -- a refused reading: an empty list, the room zeroed
-refusal-answer : (k p : ℕ) (x : Reading) → judgedOf x ≡ Refused k p → (refusedAnswer k p ≡ answerOf x) × (numbersIn (nodesIn x) ≡ [])
-unfolding answerOf Lists.placed Lists.placeFrom numbersIn
+refusal-answer : (k p : ℕ) (x : Reading) → judgedOf x ≡ Refused k p → (refusedAnswer k p ≡ readingAnswer x) × (allNumbers (nodesIn x) ≡ [])
+unfolding readingAnswer Lists.placed Lists.placeFrom allNumbers
 refusal-answer k p (accepted l) q = nope cc
 refusal-answer k p (faulty j i) q = let a : j ≡ k = cc in let b : i ≡ p = cc in (ap (λ (n : ℕ). refusedAnswer n p) (sym a) ∙ ap (refusedAnswer j) (sym b), refl)
 refusal-answer k p (unfit j i) q = let a : j ≡ k = cc in let b : i ≡ p = cc in (ap (λ (n : ℕ). refusedAnswer n p) (sym a) ∙ ap (refusedAnswer j) (sym b), refl)
@@ -196,7 +192,7 @@ refused-into x k p m₀ m₂ j e = record {
 none-size : (m₀ m₂ : Room) → m₂ ≡ filledWith [] m₀ → RoomFrom 0 m₀ m₂
 none-size m₀ m₂ e = subst (λ (m : Room). RoomFrom 0 m₀ m) (sym e) (filled-from [] m₀ (omega arith))
 
-fitting-less : (n : ℕ) (xs : List Decimal) → length (fitting n xs) ≤ n
+fitting-less : (n : ℕ) (xs : List Decimal) → length (fittingNumbers n xs) ≤ n
 fitting-less n xs = simp length-take (omega arith)
 
 module _ (s : List ℕ) (r : ListStep) (m₀ m₁ : Room) (h : ListReads 0 s r m₀ m₁) (n : ℕ) (e : n ≡ roomLength m₀) where
@@ -205,7 +201,7 @@ module _ (s : List ℕ) (r : ListStep) (m₀ m₁ : Room) (h : ListReads 0 s r m
 
   module _ (k p : ℕ) (q : judgedStep (length s) r n ≡ Refused k p) (m₂ : Room) (z : m₂ ≡ clearedIn 0 n m₁) where
     zeroed : m₂ ≡ filledWith [] m₀
-    zeroed = cleared-all (fitting (roomLength m₀) (numbersIn (wholeNodes s))) m₀ m₁ m₂ n (fitting-less (roomLength m₀) (numbersIn (wholeNodes s))) (h .room) e z
+    zeroed = cleared-all (fittingNumbers (roomLength m₀) (allNumbers (wholeNodes s))) m₀ m₁ m₂ n (fitting-less (roomLength m₀) (allNumbers (wholeNodes s))) (h .room) e z
 
     pub text-refused : ReadsInto (readText (roomLength m₀) s) (refusedAnswer k p) m₀ m₂
     text-refused = refused-into (readText (roomLength m₀) s) k p m₀ m₂ (text-judged (Refused k p) q) zeroed
@@ -218,24 +214,24 @@ module _ (s : List ℕ) (r : ListStep) (m₀ m₁ : Room) (h : ListReads 0 s r m
     well : Sound s (roomLength m₀)
     well = sound s (roomLength m₀) (text-judged Accepted q)
 
-    all-fit : length (numbersIn (wholeNodes s)) ≤ min (roomLength m₀) Lists.mostNumbers
+    all-fit : length (allNumbers (wholeNodes s)) ≤ min (roomLength m₀) Lists.mostNumbers
     all-fit = omega (arith, well .fits, h .counted)
 
-    held : m₁ ≡ filledWith (numbersIn (wholeNodes s)) m₀
-    held = h .room ∙ ap (λ (xs : List Decimal). filledWith xs m₀) (take-all (min (roomLength m₀) Lists.mostNumbers) (numbersIn (wholeNodes s)) all-fit)
+    held : m₁ ≡ filledWith (allNumbers (wholeNodes s)) m₀
+    held = h .room ∙ ap (λ (xs : List Decimal). filledWith xs m₀) (take-all (min (roomLength m₀) Lists.mostNumbers) (allNumbers (wholeNodes s)) all-fit)
 
-    answer-go : acceptedAnswer (r .state) ≡ answerOf (accepted (wholeNodes s))
-    unfolding answerOf
+    answer-go : acceptedAnswer (r .state) ≡ readingAnswer (accepted (wholeNodes s))
+    unfolding readingAnswer
     answer-go =
         ap (λ (l : _). record { number = 0; place = 0; list = Lists.placedList l }) (state-list 0 s (r .state) (h .state))
         ∙ ap (λ (l : _). record { number = 0; place = 0; list = l })
-        (list-placed (elementsOf (wholeNodes s)) (omega (arith, well .few, elements-length (wholeNodes s))) (omega (arith, well .fits)))
+        (list-placed (wholeNodes s) (omega (arith, well .few)) (omega (arith, well .fits)))
 
     pub text-accepted : ReadsInto (readText (roomLength m₀) s) (acceptedAnswer (r .state)) m₀ m₁
     text-accepted = subst (λ (x : Reading). ReadsInto x (acceptedAnswer (r .state)) m₀ m₁) (sym (well .reading)) (record { answer = answer-go; room = held })
 
     pub accepted-size : RoomFrom 0 m₀ m₁
-    accepted-size = subst (λ (m : Room). RoomFrom 0 m₀ m) (sym held) (filled-from (numbersIn (wholeNodes s)) m₀ (omega (arith, all-fit)))
+    accepted-size = subst (λ (m : Room). RoomFrom 0 m₀ m) (sym held) (filled-from (allNumbers (wholeNodes s)) m₀ (omega (arith, all-fit)))
 
 -- ---- the limit of 16 MiB
 
@@ -353,7 +349,7 @@ module _ (k : ℕ) (s : List ℕ) (r : ListStep) (t : TextAlone k s r) (small : 
       let i = numbered (judgedStep (length s) r 262144) k (r .state .list .count) q in
       let v : Sound s 262144 = sound-alone k s r t small (i .0) in
       let c : r .state .list .count ≡ length (wholeNodes s) = count-is k s r t small (v .few) in
-      let n : length (nodesOf (v .text .parts)) ≡ length (wholeNodes s) = ap length ((document-whole s (v .text) (v .behind) (v .found)) .nodes) in
+      let n : length (nodesAmong (v .text .parts)) ≡ length (wholeNodes s) = ap length ((document-whole s (v .text) (v .behind) (v .found)) .nodes) in
       state-start k s (r .state) (t .reads .state) ∙ place-whole s (v .text) (v .behind) k (v .found) (i .1) (omega (arith, i .2)) (omega (arith, v .few))
 
   pub part-found : (d : Part) → askedBy (judgedStep (length s) r 262144) k (r .state .list .count) ≡ Accepted → IsPlace s (partFrom (r .state .start) s) d → IsPlace s (descriptionPart k s) d
@@ -364,10 +360,10 @@ module _ (k : ℕ) (s : List ℕ) (r : ListStep) (t : TextAlone k s r) (small : 
       subst (λ (w : ℕ × ℕ). IsPlace s w d) e h
 
 -- the verdict as the code takes it apart
-pub verdict-fine : (v : Verdict) → Lists.refusalOf v ≡ 0 → Accepted ≡ Code.byVerdict v
+pub verdict-fine : (v : Verdict) → Lists.verdictNumber v ≡ 0 → Accepted ≡ Code.byVerdict v
 verdict-fine v q = sym (ap Code.byVerdict (accepted-number v q))
 
-pub verdict-refused : (v : Verdict) → (Lists.refusalOf v ≡ 0 → ⊥) → Refused (Lists.refusalOf v) (Lists.placeOf v) ≡ Code.byVerdict v
+pub verdict-refused : (v : Verdict) → (Lists.verdictNumber v ≡ 0 → ⊥) → Refused (Lists.verdictNumber v) (Lists.verdictPlace v) ≡ Code.byVerdict v
 verdict-refused Verdicts.Accepted q = absurd (q refl)
 verdict-refused Verdicts.NoNode q = refl
 verdict-refused Verdicts.TooManyNodes q = refl

@@ -1,4 +1,5 @@
 -- What reading, the file check and the Description answer, for the code's records.
+use Rattle.process_list.specs.List.{allNumbers}
 use mathlib.Core.Path.{_≡_}
 use mathlib.Core.Bool.{cond, _&&_}
 use mathlib.Core.List.{List, []}
@@ -10,7 +11,7 @@ use Rattle.process_list.specs.List as Lists
 use Rattle.room.specs.Room.{Room, filledWith}
 use Rattle.xml.specs.declared.Scan.{Scan}
 use Rattle.xml.specs.declared.Scan.the-variants as Scans
-use Rattle.clf.specs.Reading.{Reading, accepted, faulty, unfit, numberOf, placeNumber, nodesIn, elementsOf, numbersIn}
+use Rattle.clf.specs.Reading.{Reading, accepted, faulty, unfit, readingNumber, readingPlace, nodesIn}
 use Rattle.file_text.specs.declared.ListState.{ListState}
 use Rattle.file_text.specs.declared.ListStep.{ListStep}
 use Rattle.file_text.specs.Code.{ListReads}
@@ -23,25 +24,25 @@ use Rattle.reading.specs.declared.Judged.the-variants.{Accepted, Refused
 
 -- the refusal number and its place
 abbrev pub checkedOf : Reading → Checked
-checkedOf r = record { number = numberOf r; place = placeNumber r }
+checkedOf r = record { number = readingNumber r; place = readingPlace r }
 
 -- and the list: its nodes in file order, their numbers without gaps
-unfoldable pub answerOf : Reading → Answer
-answerOf r = record { number = numberOf r; place = placeNumber r; list = Lists.listOf (Lists.placed (elementsOf (nodesIn r))) }
+unfoldable pub readingAnswer : Reading → Answer
+readingAnswer r = record { number = readingNumber r; place = readingPlace r; list = Lists.listOf (Lists.placed (nodesIn r)) }
 
 -- the answer of a reading, and the whole of the lent room after it: the numbers in node order, 'the unused rest of the room is zero'; all of it where the reading is refused
 pub record ReadsInto (reading : Reading) (r : Answer) (m₀ m₁ : Room) : Type 0 where
-  pub answer : r ≡ answerOf reading
-  pub room : m₁ ≡ filledWith (numbersIn (nodesIn reading)) m₀
+  pub answer : r ≡ readingAnswer reading
+  pub room : m₁ ≡ filledWith (allNumbers (nodesIn reading)) m₀
 
 -- ---- what the small steps of the code do
 
 abbrev pub byVerdict : Verdict → Judged
 byVerdict Verdicts.Accepted = Accepted
-byVerdict Verdicts.NoNode = Refused (Lists.refusalOf Verdicts.NoNode) (Lists.placeOf Verdicts.NoNode)
-byVerdict Verdicts.TooManyNodes = Refused (Lists.refusalOf Verdicts.TooManyNodes) (Lists.placeOf Verdicts.TooManyNodes)
-byVerdict (Verdicts.DepthDiffers k) = Refused (Lists.refusalOf (Verdicts.DepthDiffers k)) (Lists.placeOf (Verdicts.DepthDiffers k))
-byVerdict Verdicts.TooManyNumbers = Refused (Lists.refusalOf Verdicts.TooManyNumbers) (Lists.placeOf Verdicts.TooManyNumbers)
+byVerdict Verdicts.NoNode = Refused (Lists.verdictNumber Verdicts.NoNode) (Lists.verdictPlace Verdicts.NoNode)
+byVerdict Verdicts.TooManyNodes = Refused (Lists.verdictNumber Verdicts.TooManyNodes) (Lists.verdictPlace Verdicts.TooManyNodes)
+byVerdict (Verdicts.DepthDiffers k) = Refused (Lists.verdictNumber (Verdicts.DepthDiffers k)) (Lists.verdictPlace (Verdicts.DepthDiffers k))
+byVerdict Verdicts.TooManyNumbers = Refused (Lists.verdictNumber Verdicts.TooManyNumbers) (Lists.verdictPlace Verdicts.TooManyNumbers)
 
 abbrev pub judgedScan : ℕ → Scan → Judged → Judged
 judgedScan length (Scans.At e) j = j

@@ -3,11 +3,11 @@ use mathlib.Core.List.{map}
 use Prim.Native.Nat.{ℕ}
 use lib.ListN.{length}
 use Rattle.process_list.specs.List.{nodeOf, total}
-use Rattle.clf.specs.Reading.{Reading, nodesIn, elementsOf}
+use Rattle.clf.specs.Reading.{Reading, nodesIn}
 
 abbrev pub nodeCount : Reading → ℕ
 nodeCount r = length (nodesIn r)
 
 -- 'Matrix 9 or 12 numbers, LUT1D n or 3n, Range 4, ASC_CDL 10'
 abbrev pub numberCount : Reading → ℕ
-numberCount r = total (map nodeOf (elementsOf (nodesIn r)))
+numberCount r = total (map nodeOf (nodesIn r))

@@ -21,19 +21,18 @@ use Rattle.grammar.specs.Parse.{Out, done, before, thenOut, retP, keptOut, loop
 use Rattle.grammar.specs.Laws.{nope}
 use Rattle.xml.specs.Bytes.{bytes, isSpace, isLetter}
 use Rattle.xml.specs.Xml.{Tag}
-use Rattle.xml.specs.Elements.{gap, between}
-use Rattle.clf.specs.Nodes.{NodeRead}
+use Rattle.xml.specs.Elements.{misc, between}
 use Rattle.clf.specs.List.{noFlags, Document, listContent, document, tail}
-use Rattle.clf.specs.Reading.{accepted, faulty, unfit, mostBytes, nodesOf, nodesIn, byVerdict, listReading, tailReading, textReading, readText, read}
+use Rattle.clf.specs.Reading.{accepted, faulty, unfit, mostBytes, nodesAmong, nodesIn, byVerdict, listReading, tailReading, textReading, readText, read}
 use Rattle.clf.specs.Reading as Reading
 use Rattle.look.specs.Look.{Look, roomOf, holding}
 use Rattle.claims.specs.LookRuns.{readInto}
-use Rattle.claims.proofs.Rules.{WholeElements, read-short, text-elements}
+use Rattle.claims.proofs.Rules.{WholeElements, whole-rules, accepted-rules, read-short, text-elements}
 use Rattle.claims.proofs.Look.{held-valid}
 use Rattle.written_form.specs.Written.{refused, written, isIdByte, idRight, nodesText, headText, listText, fitting, writeOf}
 use Rattle.written_form.proofs.Short.{elements-short}
-use Rattle.reads_back.specs.Back.{Allowed, ReadAs, HasPlaces, Valid, held, writing, EqualRoom, asRead, Leaves, LeavesIn, WrittenReadsBack, WrittenReadsIn, Refusal16, ExactlyAllowed}
-use Rattle.reads_back.proofs.Nodes.{readAs}
+use Rattle.claims.specs.Rules.{Allowed}
+use Rattle.reads_back.specs.Back.{ReadAs, HasPlaces, Valid, held, writing, EqualRoom, asRead, ReadingLeaves, ReadingLeavesIn, WrittenReadsBack, WrittenReadsIn, Refusal16, ExactlyAllowed}
 use Rattle.reads_back.proofs.Items.{Item, items-from, line-item, Read, nodes-read}
 use Rattle.reads_back.proofs.Heads.{Id, id-parts, rootAttributes, head-reads}
 
@@ -43,16 +42,16 @@ record Documented (id : List ℕ) (es : List Element) : Type 0 where
   start : List ℕ
   items : List Item
   reads : document .run (listText id es) ≡ done (record { start = start; parts = items }) (10 ∷ [])
-  nodes : nodesOf items ≡ map readAs es
+  nodes : nodesAmong items ≡ es
 
 document-reads : (id : List ℕ) (es : List Element) → Id id → every sound es ≡ true → Documented id es
-unfolding listText headText document nodesOf
+unfolding listText headText document nodesAmong
 document-reads id es k h =
     let s : List ℕ = listText id es in
     let n : List ℕ = nodesText es (bytes "</ProcessList>\n") in
-    let g : Item = (gap, before (10 ∷ n) n) in
+    let g : Item = (misc, before (10 ∷ n) n) in
     let tag : Tag = record { attributes = rootAttributes id k; empty = false } in
-    let i : Read noFlags (g ∷ []) n (10 ∷ []) (map readAs es) = nodes-read noFlags (g ∷ []) es (10 ∷ []) h in
+    let i : Read noFlags (g ∷ []) n (10 ∷ []) es = nodes-read noFlags (g ∷ []) es (10 ∷ []) h in
     record {
       start = before s (10 ∷ n);
       items = g ∷ i .parts;
@@ -67,10 +66,6 @@ tail-reads = refl
 
 -- ---- reading it
 
-elements-back : (es : List Element) → Reading.elementsOf (map readAs es) ≡ es
-elements-back [] = refl
-elements-back (e ∷ es) = ap (λ (l : List Element). e ∷ l) (elements-back es)
-
 allowed-verdict : (room : ℕ) (es : List Element) → Allowed room es → verdict room es ≡ Accepted
 unfolding verdict
 allowed-verdict room es a =
@@ -81,11 +76,11 @@ allowed-verdict room es a =
       holds = omega (arith, a .holds, all-length es (a .nodes));
     })
 
-list-accepted : (room : ℕ) (es : List Element) → verdict room es ≡ Accepted → listReading room (map readAs es) ≡ accepted (map readAs es)
+list-accepted : (room : ℕ) (es : List Element) → verdict room es ≡ Accepted → listReading room es ≡ accepted es
 unfolding listReading
-list-accepted room es v = ap (λ (l : List Element). byVerdict (map readAs es) (verdict room l)) (elements-back es) ∙ ap (byVerdict (map readAs es)) v
+list-accepted room es v = ap (byVerdict es) v
 
-text-accepted : (room : ℕ) (id : List ℕ) (es : List Element) → Id id → every sound es ≡ true → verdict room es ≡ Accepted → readText room (listText id es) ≡ accepted (map readAs es)
+text-accepted : (room : ℕ) (id : List ℕ) (es : List Element) → Id id → every sound es ≡ true → verdict room es ≡ Accepted → readText room (listText id es) ≡ accepted es
 unfolding readText
 text-accepted room id es k h v =
     let s : List ℕ = listText id es in
@@ -105,29 +100,13 @@ pub list-reads-back : (room : ℕ) (id : List ℕ) (es : List Element) → idRig
 unfolding read
 list-reads-back room id es i a =
     let k : Id id = id-parts id i in
-    record {
-      nodes = map readAs es;
-      accepted = ap (λ (v : Bool). cond v (faulty 4 0) (readText room (listText id es))) (le-ltb mostBytes (length (listText id es)) (text-small room id es i a))
-          ∙ text-accepted room id es k (a .nodes) (allowed-verdict room es a);
-      elements = elements-back es;
-    }
+    ap (λ (v : Bool). cond v (faulty 4 0) (readText room (listText id es))) (le-ltb mostBytes (length (listText id es)) (text-small room id es i a))
+    ∙ text-accepted room id es k (a .nodes) (allowed-verdict room es a)
 
 -- ---- which lists are read
 
-verdict-allowed : (room : ℕ) (es : List Element) → every sound es ≡ true → verdict room es ≡ Accepted → Allowed room es
-unfolding verdict
-verdict-allowed room es h v =
-    let f : Fine room (map nodeOf es) = accepted-fine room (map nodeOf es) v in
-    record {
-      some = omega (arith, f .some, heads-length es);
-      few = omega (arith, f .few, heads-length es);
-      chained = f .chained;
-      holds = omega (arith, f .holds, all-length es h);
-      nodes = h;
-    }
-
 -- what is accepted keeps the rules
-accepted-whole : (room : ℕ) (file : List ℕ) (l : List NodeRead) → read room file ≡ accepted l → WholeElements room (Reading.elementsOf l)
+accepted-whole : (room : ℕ) (file : List ℕ) (l : List Element) → read room file ≡ accepted l → WholeElements room l
 accepted-whole room file l e = text-elements room file l (read-short room file l e .text)
 
 plain-id : idRight (bytes "a") ≡ true
@@ -139,9 +118,7 @@ pub exactly-allowed : (room : ℕ) (es : List Element) → ExactlyAllowed room e
 exactly-allowed room es = (λ a. (listText (bytes "a") es, list-reads-back room (bytes "a") es plain-id a), λ f. back (f .0) (f .1))
   where
     back : (file : List ℕ) → ReadAs room file es → Allowed room es
-    back file r =
-        let w : WholeElements room (Reading.elementsOf (r .nodes)) = accepted-whole room file (r .nodes) (r .accepted) in
-        subst (Allowed room) (r .elements) (verdict-allowed room (Reading.elementsOf (r .nodes)) (w .sounds) (w .fits))
+    back file r = accepted-rules room file es r
 
 -- ---- list and room
 
@@ -151,7 +128,7 @@ module _ (x : Look) (p : HasPlaces x) (v : Valid x) where
   reading = parts (x .list) (x .room) p v
 
   held-allowed : Allowed (roomOf x) (held x)
-  held-allowed = verdict-allowed (roomOf x) (held x) (reading .sounds) (reading .accepted)
+  held-allowed = whole-rules (roomOf x) (held x) (record { sounds = reading .sounds; fits = reading .accepted })
 
   holding-self : holding x (held x) ≡ asRead x
   unfolding holding
@@ -166,13 +143,13 @@ module _ (x : Look) (p : HasPlaces x) (v : Valid x) where
     unfolding holding
     holding-in = (sym (reading .list) ∙ sym (file-list (x .list)), refl)
 
-    pub valid-reads-in : (id : List ℕ) → idRight id ≡ true → LeavesIn y (listText id (held x)) x
+    pub valid-reads-in : (id : List ℕ) → idRight id ≡ true → ReadingLeavesIn y (listText id (held x)) x
     valid-reads-in id i =
         let r : ReadAs (roomOf y) (listText id (held x)) (held x) = list-reads-back (roomOf y) id (held x) i allowed-in in
-        let q : readInto y (listText id (held x)) ≡ holding y (held x) = ap (λ (z : Reading.Reading). holding y (Reading.elementsOf (nodesIn z))) (r .accepted) ∙ ap (holding y) (r .elements) in
+        let q : readInto y (listText id (held x)) ≡ holding y (held x) = ap (λ (z : Reading.Reading). holding y (nodesIn z)) r in
         record {
-          nodes = r .nodes;
-          accepted = r .accepted;
+          nodes = held x;
+          accepted = r;
           list = ap (λ (z : Look). z .list) q ∙ holding-in .0;
           room = ap (λ (z : Look). z .room) q ∙ holding-in .1;
         }
@@ -184,14 +161,14 @@ module _ (x : Look) (p : HasPlaces x) (v : Valid x) where
     holding-equal es = rw (filled-equal (allNumbers es) (x .room) (y .room) (e .room) (e .behind)) refl
 
     -- the text of a valid list and room, under any right id
-    pub valid-reads-back : (id : List ℕ) → idRight id ≡ true → Leaves y (listText id (held x)) x
+    pub valid-reads-back : (id : List ℕ) → idRight id ≡ true → ReadingLeaves y (listText id (held x)) x
     valid-reads-back id i =
         let r : ReadAs (roomOf x) (listText id (held x)) (held x) = list-reads-back (roomOf x) id (held x) i held-allowed in
-        let q : read (roomOf y) (listText id (held x)) ≡ accepted (r .nodes) = ap (λ (n : ℕ). read n (listText id (held x))) (e .room) ∙ r .accepted in
+        let q : read (roomOf y) (listText id (held x)) ≡ accepted (held x) = ap (λ (n : ℕ). read n (listText id (held x))) (e .room) ∙ r in
         record {
-          nodes = r .nodes;
+          nodes = held x;
           accepted = q;
-          look = ap (λ (z : Reading.Reading). holding y (Reading.elementsOf (nodesIn z))) q ∙ ap (holding y) (r .elements) ∙ holding-equal (held x) ∙ holding-self;
+          look = ap (λ (z : Reading.Reading). holding y (nodesIn z)) q ∙ holding-equal (held x) ∙ holding-self;
         }
 
 -- what writing answered: list and room are valid, the id is right, and the text is theirs
@@ -215,13 +192,13 @@ wrote x id out text e = go (isValid (x .list) (x .room)) (idRight id) (ltb out (
 pub written-reads-back : (x : Look) → HasPlaces x → WrittenReadsBack x
 written-reads-back x p id out text e y room =
     let w : Wrote x id text = wrote x id out text e in
-    subst (λ (t : List ℕ). Leaves y t x) (w .is) (valid-reads-back x p (w .valid) y room id (w .right))
+    subst (λ (t : List ℕ). ReadingLeaves y t x) (w .is) (valid-reads-back x p (w .valid) y room id (w .right))
 
 -- and in every room that holds the numbers
 pub written-reads-in : (x : Look) → HasPlaces x → WrittenReadsIn x
 written-reads-in x p id out text e y h =
     let w : Wrote x id text = wrote x id out text e in
-    subst (λ (t : List ℕ). LeavesIn y t x) (w .is) (valid-reads-in x p (w .valid) y h id (w .right))
+    subst (λ (t : List ℕ). ReadingLeavesIn y t x) (w .is) (valid-reads-in x p (w .valid) y h id (w .right))
 
 -- ---- refusal 16
 
@@ -230,11 +207,11 @@ pub read-self : (x : Look) → asRead x ≡ x
 read-self x = ap (λ (l : ProcessList). record { list = l; room = x .room }) (file-list (x .list))
 
 -- what an accepted reading leaves, whatever list and room held before, is valid
-pub left-valid : (y : Look) (file : List ℕ) (x : Look) → Leaves y file x → Valid x
+pub left-valid : (y : Look) (file : List ℕ) (x : Look) → ReadingLeaves y file x → Valid x
 left-valid y file x l =
-    let es : List Element = Reading.elementsOf (l .nodes) in
+    let es : List Element = (l .nodes) in
     let w : WholeElements (roomOf y) es = accepted-whole (roomOf y) file (l .nodes) (l .accepted) in
-    let q : holding y es ≡ x = ap (λ (z : Reading.Reading). holding y (Reading.elementsOf (nodesIn z))) (sym (l .accepted)) ∙ l .look ∙ read-self x in
+    let q : holding y es ≡ x = ap (λ (z : Reading.Reading). holding y (nodesIn z)) (sym (l .accepted)) ∙ l .look ∙ read-self x in
     subst Valid q (held-valid y es w)
 
 itself : (x : Look) → EqualRoom x x
@@ -249,17 +226,16 @@ refusal-16 x p = (λ v. (listText (bytes "a") (held x), valid-reads-back x p v x
 -- every list that a reading leaves, a refused one too
 pub read-places : (y : Look) (file : List ℕ) → HasPlaces (readInto y file)
 unfolding holding
-read-places y file = list-length (placed (Reading.elementsOf (nodesIn (read (roomOf y) file))))
+read-places y file = list-length (placed (nodesIn (read (roomOf y) file)))
 
 -- and its room is equal to the one that was lent
-read-few : (room : ℕ) (file : List ℕ) → length (allNumbers (Reading.elementsOf (nodesIn (read room file)))) ≤ room
+read-few : (room : ℕ) (file : List ℕ) → length (allNumbers (nodesIn (read room file))) ≤ room
 unfolding allNumbers
 read-few room file = go (read room file) refl
   where
-    go : (r : Reading.Reading) → read room file ≡ r → length (allNumbers (Reading.elementsOf (nodesIn r))) ≤ room
+    go : (r : Reading.Reading) → read room file ≡ r → length (allNumbers (nodesIn r)) ≤ room
     go (accepted l) e =
-        let w : WholeElements room (Reading.elementsOf l) = accepted-whole room file l e in
-        let a : Allowed room (Reading.elementsOf l) = verdict-allowed room (Reading.elementsOf l) (w .sounds) (w .fits) in
+        let a : Allowed room l = accepted-rules room file l e in
         omega (arith, a .holds)
     go (faulty k p) e = omega arith
     go (unfit k p) e = omega arith
@@ -269,7 +245,7 @@ unfolding holding
 holding-room y es h = record { room = sym (filled-room (allNumbers es) (y .room) h); behind = sym (filled-beyond (allNumbers es) (y .room) h) }
 
 -- so: read any file, write the list out under any id, read that text into the same room: list and room are the same
-pub read-written-read : (y : Look) (file id : List ℕ) (out : ℕ) (text : List ℕ) → writing (readInto y file) id out ≡ written text → Leaves y text (readInto y file)
+pub read-written-read : (y : Look) (file id : List ℕ) (out : ℕ) (text : List ℕ) → writing (readInto y file) id out ≡ written text → ReadingLeaves y text (readInto y file)
 read-written-read y file id out text e =
     written-reads-back (readInto y file) (read-places y file) id out text e y
-    (holding-room y (Reading.elementsOf (nodesIn (read (roomOf y) file))) (read-few (roomOf y) file))
+    (holding-room y (nodesIn (read (roomOf y) file)) (read-few (roomOf y) file))

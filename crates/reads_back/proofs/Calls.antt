@@ -19,9 +19,8 @@ use Rattle.process_list.specs.List.{Element, verdict}
 use Rattle.room.specs.Room.{Room, roomLength}
 use Rattle.valid.specs.Valid.{isValid, elementsOf}
 use Rattle.tags.specs.Code.{partIn}
-use Rattle.clf.specs.Nodes.{NodeRead}
 use Rattle.clf.specs.Description.{bytesOf, partAsked, descriptionPart}
-use Rattle.clf.specs.Reading.{Reading, accepted, faulty, unfit, mostBytes, numberOf, isNumbered, nodesIn, descriptionAsked, read}
+use Rattle.clf.specs.Reading.{Reading, accepted, faulty, unfit, mostBytes, readingNumber, isNumbered, nodesIn, descriptionAsked, read}
 use Rattle.clf.specs.Reading as R
 use Rattle.reading.specs.declared.Answer.{Answer}
 use Rattle.reading.specs.declared.Checked.{Checked}
@@ -41,10 +40,10 @@ use Rattle.running.specs.Running.{notThrees, notFinite, ran, ranOf, pixelsOf}
 use Rattle.written_form.specs.Written.{Writing, refused, written, idRight, listText, fitting, writeOf, outputOf}
 use Rattle.written_form.specs.Written as Text
 use Rattle.writing.specs.declared.Written.{Written}
-use Rattle.writing.specs.Writing.{answerOf}
+use Rattle.writing.specs.Writing.{writingAnswer}
 use Rattle.demand3.proofs.Whole.{read-look}
 use Rattle.reads_back.specs.declared.WrittenRead.{WrittenRead}
-use Rattle.reads_back.specs.Back.{HasPlaces, Valid, SomeReading, EqualRoom, asRead, Leaves, LeavesIn, writing}
+use Rattle.reads_back.specs.Back.{HasPlaces, Valid, SomeReading, EqualRoom, asRead, ReadingLeaves, ReadingLeavesIn, writing}
 use Rattle.reads_back.specs.Calls.{ReadBack, ReadIn, WroteAndRead, Refuses16, WriteRefuses, RunRefuses, ReplaceRefuses, CheckedAndRead, Describes}
 use Rattle.reads_back.proofs.Back.{written-reads-back, written-reads-in, refusal-16}
 
@@ -56,47 +55,47 @@ record Zero (w : Writing) : Type 0 where
   is : w ≡ written text
 
 -- the refusals of writing are 16, 18 and 17
-zero-written : (x : Look) (id : List ℕ) (n : ℕ) → Text.numberOf (writing x id n) ≡ 0 → Zero (writing x id n)
+zero-written : (x : Look) (id : List ℕ) (n : ℕ) → Text.writingNumber (writing x id n) ≡ 0 → Zero (writing x id n)
 unfolding writeOf fitting
 zero-written x id n z = go (isValid (x .list) (x .room)) (idRight id) (ltb n (length (listText id (elementsOf (x .list) (x .room))))) z
   where
     text : List ℕ
     text = listText id (elementsOf (x .list) (x .room))
 
-    go : (a b c : Bool) → Text.numberOf (cond a (cond b (cond c (refused 17) (written text)) (refused 18)) (refused 16)) ≡ 0
+    go : (a b c : Bool) → Text.writingNumber (cond a (cond b (cond c (refused 17) (written text)) (refused 18)) (refused 16)) ≡ 0
         → Zero (cond a (cond b (cond c (refused 17) (written text)) (refused 18)) (refused 16))
     go true true true z = absurd (omega arith)
     go true true false z = record { text = text; is = refl }
     go true false c z = absurd (omega arith)
     go false b c z = absurd (omega arith)
 
-text-front : (w : Writing) (text out : List ℕ) → w ≡ written text → take (Text.lengthOf w) (outputOf w out) ≡ text
+text-front : (w : Writing) (text out : List ℕ) → w ≡ written text → take (Text.writingLength w) (outputOf w out) ≡ text
 text-front w text out e =
-    subst (λ (v : Writing). take (Text.lengthOf v) (outputOf v out) ≡ text) (sym e) (take-at text (drop (length text) out) (length text) refl)
+    subst (λ (v : Writing). take (Text.writingLength v) (outputOf v out) ≡ text) (sym e) (take-at text (drop (length text) out) (length text) refl)
 
-reads-text : (x : Look) (m₀ m₁ : Room) (text : List ℕ) (r : Answer) → Leaves (lookOf (x .list) m₀) text x → ReadsInto (read (roomLength m₀) text) r m₀ m₁ → ReadBack x r m₁
-unfolding Reads.answerOf
+reads-text : (x : Look) (m₀ m₁ : Room) (text : List ℕ) (r : Answer) → ReadingLeaves (lookOf (x .list) m₀) text x → ReadsInto (read (roomLength m₀) text) r m₀ m₁ → ReadBack x r m₁
+unfolding Reads.readingAnswer
 reads-text x m₀ m₁ text r l h =
     let y : Look = lookOf (x .list) m₀ in
     let q : lookOf (r .list) m₁ ≡ asRead x = read-look y text r m₁ h ∙ l .look in
     record {
-      number = ap (λ (a : Answer). a .number) (h .answer) ∙ ap numberOf (l .accepted);
+      number = ap (λ (a : Answer). a .number) (h .answer) ∙ ap readingNumber (l .accepted);
       list = ap (λ (z : Look). z .list) q;
       room = ap (λ (z : Look). z .room) q;
     }
 
 -- the same in a room that holds the numbers
-reads-text-in : (x : Look) (m₀ m₁ : Room) (text : List ℕ) (r : Answer) → LeavesIn (lookOf (x .list) m₀) text x → ReadsInto (read (roomLength m₀) text) r m₀ m₁ → ReadIn x r m₀ m₁
-unfolding Reads.answerOf
+reads-text-in : (x : Look) (m₀ m₁ : Room) (text : List ℕ) (r : Answer) → ReadingLeavesIn (lookOf (x .list) m₀) text x → ReadsInto (read (roomLength m₀) text) r m₀ m₁ → ReadIn x r m₀ m₁
+unfolding Reads.readingAnswer
 reads-text-in x m₀ m₁ text r l h =
     let q : lookOf (r .list) m₁ ≡ readInto (lookOf (x .list) m₀) text = read-look (lookOf (x .list) m₀) text r m₁ h in
     record {
-      number = ap (λ (a : Answer). a .number) (h .answer) ∙ ap numberOf (l .accepted);
+      number = ap (λ (a : Answer). a .number) (h .answer) ∙ ap readingNumber (l .accepted);
       list = ap (λ (z : Look). z .list) q ∙ l .list;
       room = ap (λ (z : Look). z .room) q ∙ l .room;
     }
 
-pub wrote-read : (x : Look) → HasPlaces x → (id : List ℕ) (w : Written) (r : Answer) (out₀ out₁ : List ℕ) (m₀ m₁ : Room) → w ≡ answerOf (writing x id (length out₀)) → out₁ ≡ outputOf (writing x id (length out₀)) out₀
+pub wrote-read : (x : Look) → HasPlaces x → (id : List ℕ) (w : Written) (r : Answer) (out₀ out₁ : List ℕ) (m₀ m₁ : Room) → w ≡ writingAnswer (writing x id (length out₀)) → out₁ ≡ outputOf (writing x id (length out₀)) out₀
     → ReadsInto (read (roomLength m₀) (take (w .length) out₁)) r m₀ m₁ → WroteAndRead x id (record { wrote = w; answer = r }) out₀ out₁ m₀ m₁
 wrote-read x p id w r out₀ out₁ m₀ m₁ e o h =
     record {
@@ -113,17 +112,17 @@ wrote-read x p id w r out₀ out₁ m₀ m₁ e o h =
     from : (k : Zero (writing x id (length out₀))) → ReadsInto (read (roomLength m₀) (k .text)) r m₀ m₁
     from k =
         subst (λ (s : List ℕ). ReadsInto (read (roomLength m₀) s) r m₀ m₁)
-        (ap (λ (v : Written). take (v .length) out₁) e ∙ ap (take (Text.lengthOf (writing x id (length out₀)))) o ∙ text-front (writing x id (length out₀)) (k .text) out₀ (k .is)) h
+        (ap (λ (v : Written). take (v .length) out₁) e ∙ ap (take (Text.writingLength (writing x id (length out₀)))) o ∙ text-front (writing x id (length out₀)) (k .text) out₀ (k .is)) h
 
 -- as the code goes: the part of the output that was written is read
-written-fits : (x : Look) (id : List ℕ) (n : ℕ) → Text.lengthOf (writing x id n) ≤ n
+written-fits : (x : Look) (id : List ℕ) (n : ℕ) → Text.writingLength (writing x id n) ≤ n
 unfolding writeOf fitting
 written-fits x id n = go (isValid (x .list) (x .room)) (idRight id) (ltb n (length text)) refl
   where
     text : List ℕ
     text = listText id (elementsOf (x .list) (x .room))
 
-    go : (a b c : Bool) → ltb n (length text) ≡ c → Text.lengthOf (cond a (cond b (cond c (refused 17) (written text)) (refused 18)) (refused 16)) ≤ n
+    go : (a b c : Bool) → ltb n (length text) ≡ c → Text.writingLength (cond a (cond b (cond c (refused 17) (written text)) (refused 18)) (refused 16)) ≤ n
     go true true true e = omega arith
     go true true false e = ltb-false n (length text) e
     go true false c e = omega arith
@@ -133,10 +132,10 @@ part-front : (s : List ℕ) (n : ℕ) → n ≤ length s → partIn s 0 n ≡ ta
 unfolding partIn
 part-front s n h = let z : n - 0 ≡ n = omega arith in rw (le-leb n (length s) h, z) refl
 
-pub wrote-part-read : (x : Look) → HasPlaces x → (id : List ℕ) (w : Written) (r : Answer) (out₀ out₁ : List ℕ) (m₀ m₁ : Room) → w ≡ answerOf (writing x id (length out₀)) → out₁ ≡ outputOf (writing x id (length out₀)) out₀
+pub wrote-part-read : (x : Look) → HasPlaces x → (id : List ℕ) (w : Written) (r : Answer) (out₀ out₁ : List ℕ) (m₀ m₁ : Room) → w ≡ writingAnswer (writing x id (length out₀)) → out₁ ≡ outputOf (writing x id (length out₀)) out₀
     → length out₁ ≡ length out₀ → (t : List ℕ) → t ≡ partIn out₁ 0 (w .length) → ReadsInto (read (roomLength m₀) t) r m₀ m₁ → WroteAndRead x id (record { wrote = w; answer = r }) out₀ out₁ m₀ m₁
 wrote-part-read x p id w r out₀ out₁ m₀ m₁ e o l t q h =
-    let n : w .length ≡ Text.lengthOf (writing x id (length out₀)) = ap (λ (v : Written). v .length) e in
+    let n : w .length ≡ Text.writingLength (writing x id (length out₀)) = ap (λ (v : Written). v .length) e in
     let k : w .length ≤ length out₁ = omega (arith, written-fits x id (length out₀)) in
     wrote-read x p id w r out₀ out₁ m₀ m₁ e o (subst (λ (s : List ℕ). ReadsInto (read (roomLength m₀) s) r m₀ m₁) (q ∙ part-front out₁ (w .length) k) h)
 
@@ -153,7 +152,7 @@ refuses x p n f g = (λ e s. f (refusal-16 x p .1 s) e, λ z. go (isValid (x .li
 pub valid-both : (x : Look) → HasPlaces x → (r : Bool) → r ≡ isValid (x .list) (x .room) → (r ≡ true) ↔ SomeReading x
 valid-both x p r e = (λ z. refusal-16 x p .0 (sym e ∙ z), λ s. e ∙ refusal-16 x p .1 s)
 
-pub write-refuses : (x : Look) → HasPlaces x → (id : List ℕ) (r : Written) (out₀ out₁ : List ℕ) → r ≡ answerOf (writing x id (length out₀)) → out₁ ≡ outputOf (writing x id (length out₀)) out₀
+pub write-refuses : (x : Look) → HasPlaces x → (id : List ℕ) (r : Written) (out₀ out₁ : List ℕ) → r ≡ writingAnswer (writing x id (length out₀)) → out₁ ≡ outputOf (writing x id (length out₀)) out₀
     → WriteRefuses x id r out₀ out₁
 unfolding writeOf fitting
 write-refuses x p id r out₀ out₁ e o = record {
@@ -161,13 +160,13 @@ write-refuses x p id r out₀ out₁ e o = record {
   output = o;
   refuses = refuses x p (r .number)
       (λ v z. valid (isValid (x .list) (x .room)) (idRight id) (ltb (length out₀) (length text)) v (sym (ap (λ (w : Written). w .number) e) ∙ z))
-      (λ v. ap (λ (w : Written). w .number) e ∙ ap (λ (b : Bool). Text.numberOf (cond b (cond (idRight id) (cond (ltb (length out₀) (length text)) (refused 17) (written text)) (refused 18)) (refused 16))) v);
+      (λ v. ap (λ (w : Written). w .number) e ∙ ap (λ (b : Bool). Text.writingNumber (cond b (cond (idRight id) (cond (ltb (length out₀) (length text)) (refused 17) (written text)) (refused 18)) (refused 16))) v);
 }
   where
     text : List ℕ
     text = listText id (elementsOf (x .list) (x .room))
 
-    valid : (a b c : Bool) → a ≡ true → Text.numberOf (cond a (cond b (cond c (refused 17) (written text)) (refused 18)) (refused 16)) ≡ 16 → ⊥
+    valid : (a b c : Bool) → a ≡ true → Text.writingNumber (cond a (cond b (cond c (refused 17) (written text)) (refused 18)) (refused 16)) ≡ 16 → ⊥
     valid true true true v z = omega arith
     valid true true false v z = omega arith
     valid true false c v z = omega arith
@@ -193,7 +192,7 @@ run-refuses x p r xs ys e o = record {
     valid false b c v z = nope cc
 
 -- replacing by the list alone never answers 16
-verdict-not : (es : List Element) (v : Verdict) → Replaces.numberOf (byVerdict es v) ≡ 16 → ⊥
+verdict-not : (es : List Element) (v : Verdict) → Replaces.replacingNumber (byVerdict es v) ≡ 16 → ⊥
 verdict-not es Accepted z = omega arith
 verdict-not es NoNode z = omega arith
 verdict-not es TooManyNodes z = omega arith
@@ -204,39 +203,39 @@ fault-not : (j : ℕ) → (isTextFault j ≡ true) ⊎ (j ≡ 20) → j ≡ 16 �
 fault-not j (inl a) z = let f : false ≡ true = sym (ap isTextFault z) ∙ a in nope cc
 fault-not j (inr a) z = omega arith
 
-element-not : (room : ℕ) (es : List Element) (k : ℕ) (e : List ℕ) (o : Out NodeRead) → element .run e ≡ o → Replaces.numberOf (byElement room es k e o) ≡ 16 → ⊥
+element-not : (room : ℕ) (es : List Element) (k : ℕ) (e : List ℕ) (o : Out Element) → element .run e ≡ o → Replaces.replacingNumber (byElement room es k e o) ≡ 16 → ⊥
 unfolding listed
 element-not room es k e (done n []) q z = verdict-not _ (verdict room _) z
 element-not room es k e (done n (b ∷ r)) q z = omega arith
 element-not room es k e (fault j r) q z = fault-not j (element-faults e j r q) z
 element-not room es k e cut q z = omega arith
 
-replace-not : (room : ℕ) (es : List Element) (k : ℕ) (e : List ℕ) → Replaces.numberOf (replace room es k e) ≡ 16 → ⊥
+replace-not : (room : ℕ) (es : List Element) (k : ℕ) (e : List ℕ) → Replaces.replacingNumber (replace room es k e) ≡ 16 → ⊥
 unfolding replace
 replace-not room es k e = go (isNumbered k (length es)) (ltb mostBytes (length e))
   where
-    go : (a b : Bool) → Replaces.numberOf (cond a (cond b (Replacing.refused 4 0) (byElement room es k e (element .run e))) (Replacing.refused 19 0)) ≡ 16 → ⊥
+    go : (a b : Bool) → Replaces.replacingNumber (cond a (cond b (Replacing.refused 4 0) (byElement room es k e (element .run e))) (Replacing.refused 19 0)) ≡ 16 → ⊥
     go true true z = omega arith
     go true false z = element-not room es k e (element .run e) refl z
     go false b z = omega arith
 
 pub replace-refuses : (l : ProcessList) (m₀ : Room) → HasPlaces (lookOf l m₀) → (k : ℕ) (e : List ℕ) (r : Answer) (m₁ : Room) → Replaced l m₀ k e r m₁ → ReplaceRefuses l m₀ k e r m₁
-unfolding Replaces.answerOf replaceIn
+unfolding Replaces.replacingAnswer replaceIn
 replace-refuses l m₀ p k e r m₁ h =
     let x : Look = lookOf l m₀ in
-    let a : Replacing.Answer = replace (roomLength m₀) (elementsOf l m₀) k e in
-    let q : r .number ≡ Replaces.numberOf (replaceIn x k e) = ap (λ (y : Answer). y .number) (h .answer) in
+    let a : Replacing.Replacing = replace (roomLength m₀) (elementsOf l m₀) k e in
+    let q : r .number ≡ Replaces.replacingNumber (replaceIn x k e) = ap (λ (y : Answer). y .number) (h .answer) in
     record {
       leaves = h;
       refuses = refuses x p (r .number)
-          (λ v z. replace-not (roomLength m₀) (elementsOf l m₀) k e (ap (λ (b : Bool). Replaces.numberOf (cond b a (Replacing.refused 16 0))) (sym v) ∙ sym q ∙ z))
-          (λ v. q ∙ ap (λ (b : Bool). Replaces.numberOf (cond b a (Replacing.refused 16 0))) v);
+          (λ v z. replace-not (roomLength m₀) (elementsOf l m₀) k e (ap (λ (b : Bool). Replaces.replacingNumber (cond b a (Replacing.refused 16 0))) (sym v) ∙ sym q ∙ z))
+          (λ v. q ∙ ap (λ (b : Bool). Replaces.replacingNumber (cond b a (Replacing.refused 16 0))) v);
     }
 
 -- ---- the file check beside reading
 pub checked-read : (file : List ℕ) (n : ℕ) (c : Checked) (a : Answer) (m₀ m₁ : Room) → n ≡ roomLength m₀ → c ≡ checkedOf (read n file) → ReadsInto (read (roomLength m₀) file) a m₀ m₁
     → CheckedAndRead file (record { checked = c; answer = a }) m₀ m₁
-unfolding Reads.answerOf
+unfolding Reads.readingAnswer
 checked-read file n c a m₀ m₁ e q h =
     let k : c ≡ checkedOf (read (roomLength m₀) file) = q ∙ ap (λ (m : ℕ). checkedOf (read m file)) e in
     record {
@@ -246,7 +245,7 @@ checked-read file n c a m₀ m₁ e q h =
     }
 
 -- ---- a Description beside its number
-none-asked : (k : ℕ) (file : List ℕ) (r : Reading) → (numberOf r ≡ 0 → ⊥) → length (bytesOf (partAsked k file r) file) ≡ 0
+none-asked : (k : ℕ) (file : List ℕ) (r : Reading) → (readingNumber r ≡ 0 → ⊥) → length (bytesOf (partAsked k file r) file) ≡ 0
 none-asked k file (accepted l) z = absurd (z refl)
 none-asked k file (faulty j p) z = refl
 none-asked k file (unfit j p) z = refl

@@ -1,4 +1,5 @@
 -- ASC_CDL in front of what follows it. Assumes nothing.
+use Rattle.process_list.specs.List.{Element}
 use mathlib.Core.Path.{_≡_, refl, ap, _∙_}
 use mathlib.Core.Bool.{Bool, true, false, cond, not}
 use mathlib.Core.List.{List, [], _∷_, _++_}
@@ -12,7 +13,7 @@ use Rattle.xml.specs.Bytes.{bytes, same, isLetter, isDigit, isNameByte}
 use Rattle.xml.specs.Xml.{textOf, Tag}
 use Rattle.xml.specs.Elements.{held}
 use Rattle.clf.specs.Numbers.{anyNumber, notBelowZero, onlyOne}
-use Rattle.clf.specs.Nodes.{NodeRead, nodeOf, holderRules, sopHolder, sopNode, satHolder, satNode, CdlState, noCdl, cdlHolder, cdlTexts, cdlNode, cdlRules, cdlContent, ascCdl}
+use Rattle.clf.specs.Nodes.{elementWith, holderRules, sopHolder, sopNode, satHolder, satNode, CdlState, noCdl, cdlHolder, cdlTexts, cdlNode, cdlRules, cdlContent, ascCdl}
 use Rattle.claims.proofs.Numbers.{Each, Kept}
 use Rattle.valid.specs.Valid.{every}
 use Rattle.written_form.specs.Written.{valueText, sopText, satText, depthText}
@@ -180,7 +181,7 @@ module _ (s1 s2 s3 o1 o2 o3 p1 p2 p3 v : Decimal) (k : Ten s1 s2 s3 o1 o2 o3 p1 
     pub cdl-reads : (clamp : Bool) (t : List ℕ)
         → ascCdl .run (bytes " inBitDepth=\"" ++ (depthText i ++ (bytes "\" outBitDepth=\"" ++ (depthText o ++ (bytes "\"" ++ (bytes " style=\"" ++ (fwdText clamp ++ (bytes "\">\n" ++
         sopText ten (satText ten (bytes "</ASC_CDL>" ++ t))))))))))
-        ≡ done (record { element = record { kind = Cdl clamp; input = i; output = o; numbers = ten } }) t
+        ≡ done (record { kind = Cdl clamp; input = i; output = o; numbers = ten }) t
     unfolding ascCdl
     cdl-reads clamp t =
         let r : List ℕ = 10 ∷ sopText ten (satText ten (bytes "</ASC_CDL>" ++ t)) in
@@ -188,5 +189,5 @@ module _ (s1 s2 s3 o1 o2 o3 p1 p2 p3 v : Decimal) (k : Ten s1 s2 s3 o1 o2 o3 p1 
         ap (λ (x : Out Tag). thenOut x (λ tag u. thenOut ((cdlContent tag) .run u) (λ st. retP (cdlNode (tag .attributes) st))))
         (style-tag cdlRules cdl-rules i o (fwdText clamp) r (style-quoted clamp) (style-right clamp))
         ∙ ap (λ (x : Out CdlState). thenOut x (λ st. retP (cdlNode l st))) (content-reads t)
-        ∙ ap (λ (u : Bool). done (nodeOf l (Cdl u) ten) t) (kind-said clamp)
-        ∙ ap (λ (x : NodeRead). done x t) (node-is i o (record { name = bytes "style"; text = fwdText clamp } ∷ []) (Cdl clamp) ten)
+        ∙ ap (λ (u : Bool). done (elementWith l (Cdl u) ten) t) (kind-said clamp)
+        ∙ ap (λ (x : Element). done x t) (node-is i o (record { name = bytes "style"; text = fwdText clamp } ∷ []) (Cdl clamp) ten)

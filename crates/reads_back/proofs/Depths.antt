@@ -12,7 +12,7 @@ use Rattle.valid.specs.Valid.{every}
 use Rattle.grammar.specs.Parse.{done}
 use Rattle.xml.specs.Bytes.{bytes, same, isLetter, isDigit, isNameByte}
 use Rattle.xml.specs.Xml.{Attribute, isNamed, textOf, Rules, nameFault, startTag}
-use Rattle.clf.specs.Nodes.{depthOf, nodeTexts, nodeMissing, nodeOf}
+use Rattle.clf.specs.Nodes.{depthOf, nodeTexts, nodeMissing, elementWith}
 use Rattle.written_form.specs.Written.{depthText}
 use Rattle.reads_back.proofs.Texts.{isName}
 use Rattle.reads_back.proofs.Tags.{quoted, tagFrom, tag-from, tag-ends, tag-more}
@@ -42,7 +42,7 @@ withDepths input output more = record { name = bytes "inBitDepth"; text = depthT
 
 -- the node of these attributes is the element
 pub node-is : (input output : Depth) (more : List Attribute) (kind : Kind) (ns : List Decimal)
-    → nodeOf (withDepths input output more) kind ns ≡ record { element = record { kind = kind; input = input; output = output; numbers = ns } }
+    → elementWith (withDepths input output more) kind ns ≡ record { kind = kind; input = input; output = output; numbers = ns }
 unfolding textOf same
 node-is input output more kind ns = rw (depth-said input, depth-said output)
 

@@ -14,13 +14,13 @@ use Rattle.grammar.specs.Laws.{nope, loop-again, loop-last}
 use Rattle.grammar.specs.Grammar.{G}
 use Rattle.xml.specs.Bytes.{isSpace, isLetter, isNameByte}
 use Rattle.xml.specs.Xml.{openName, endTag}
-use Rattle.xml.specs.Elements.{Part, gap, child, close, markup, between, Holder, afterPart, heldPart, held}
+use Rattle.xml.specs.Elements.{Part, misc, child, close, markup, between, Holder, afterPart, heldPart, held}
 use Rattle.reads_back.proofs.Texts.{rest-short, skip, isName, openName-reads}
 use Rattle.reads_back.proofs.Tags.{judge-reads, letter-big, end-reads}
 
 module _ {C : Type 0} (end : G (Unit {0})) (fault : List ℕ → ℕ) (body : List ℕ → G C) where
   -- 'LF after each'
-  pub between-line : (t : List ℕ) → (between end fault body) .run (10 ∷ t) ≡ done gap t
+  pub between-line : (t : List ℕ) → (between end fault body) .run (10 ∷ t) ≡ done misc t
   unfolding between isSpace
   between-line t = refl
 

@@ -14,14 +14,13 @@ use Rattle.grammar.specs.Laws.{loop-again, loop-last}
 use Rattle.grammar.specs.Grammar.{added, oneItem, items}
 use Rattle.xml.specs.Bytes.{bytes, isLetter, isDigit, isNameByte}
 use Rattle.xml.specs.Xml.{endTag}
-use Rattle.xml.specs.Elements.{Part, gap, child, close}
-use Rattle.clf.specs.Nodes.{NodeRead}
+use Rattle.xml.specs.Elements.{Part, misc, child, close}
 use Rattle.clf.specs.List.{Child, node, Flags, noFlags, childFault, childBody, listItem, nextFlags}
-use Rattle.clf.specs.Reading.{nodesOf}
+use Rattle.clf.specs.Reading.{nodesAmong}
 use Rattle.written_form.specs.Written.{nodeText, nodesText}
 use Rattle.reads_back.proofs.Texts.{isName}
 use Rattle.reads_back.proofs.Held.{between-line, between-end}
-use Rattle.reads_back.proofs.Nodes.{readAs, node-reads, node-shorter}
+use Rattle.reads_back.proofs.Nodes.{node-reads, node-shorter}
 
 -- an item with its bytes
 abbrev pub Item : Type 0
@@ -56,7 +55,7 @@ module _ (st : Flags) (l : List Item) (s : List ℕ) (p : Part Child) (r : List 
 
 -- ---- the items of the written form
 
-pub line-reads : (st : Flags) (t : List ℕ) → (listItem st) .run (10 ∷ t) ≡ done gap t
+pub line-reads : (st : Flags) (t : List ℕ) → (listItem st) .run (10 ∷ t) ≡ done misc t
 unfolding listItem
 line-reads st t = between-line (endTag (bytes "ProcessList") 0) (childFault st) childBody t
 
@@ -68,31 +67,31 @@ close-reads : (st : Flags) (t : List ℕ) → (listItem st) .run (bytes "</Proce
 unfolding listItem
 close-reads st t = between-end (bytes "ProcessList") 0 (childFault st) childBody t list-name refl
 
-pub line-item : (st : Flags) (l : List Item) (t : List ℕ) → itemsFrom st l (10 ∷ t) ≡ itemsFrom st (l ++ (gap, before (10 ∷ t) t) ∷ []) t
-line-item st l t = item-again st l (10 ∷ t) gap t (line-reads st t) (omega arith) st refl
+pub line-item : (st : Flags) (l : List Item) (t : List ℕ) → itemsFrom st l (10 ∷ t) ≡ itemsFrom st (l ++ (misc, before (10 ∷ t) t) ∷ []) t
+line-item st l t = item-again st l (10 ∷ t) misc t (line-reads st t) (omega arith) st refl
 
 -- the items that nodes are read as, after those of a list
-pub record Read (st : Flags) (l : List Item) (s t : List ℕ) (ns : List NodeRead) : Type 0 where
+pub record Read (st : Flags) (l : List Item) (s t : List ℕ) (ns : List Element) : Type 0 where
   pub parts : List Item
   pub reads : itemsFrom st l s ≡ done (l ++ parts) t
-  pub nodes : nodesOf parts ≡ ns
+  pub nodes : nodesAmong parts ≡ ns
 
-pub nodes-read : (st : Flags) (l : List Item) (es : List Element) (t : List ℕ) → every sound es ≡ true → Read st l (nodesText es (bytes "</ProcessList>" ++ t)) t (map readAs es)
-unfolding nodesText nodesOf
+pub nodes-read : (st : Flags) (l : List Item) (es : List Element) (t : List ℕ) → every sound es ≡ true → Read st l (nodesText es (bytes "</ProcessList>" ++ t)) t es
+unfolding nodesText nodesAmong
 nodes-read st l [] t h =
     let s : List ℕ = bytes "</ProcessList>" ++ t in
     record { parts = (close, before s t) ∷ []; reads = item-last st l s close t (close-reads st t) (omega arith) refl; nodes = refl }
 nodes-read st l (e ∷ es) t h =
     let p = every-cons sound e es h in
     let r : List ℕ = nodesText es (bytes "</ProcessList>" ++ t) in
-    let x : Item = (child (node (readAs e)), before (nodeText e r) (10 ∷ r)) in
-    let y : Item = (gap, before (10 ∷ r) r) in
-    let i : Read st ((l ++ x ∷ []) ++ y ∷ []) r t (map readAs es) = nodes-read st ((l ++ x ∷ []) ++ y ∷ []) es t (p .1) in
+    let x : Item = (child (node e), before (nodeText e r) (10 ∷ r)) in
+    let y : Item = (misc, before (10 ∷ r) r) in
+    let i : Read st ((l ++ x ∷ []) ++ y ∷ []) r t es = nodes-read st ((l ++ x ∷ []) ++ y ∷ []) es t (p .1) in
     record {
       parts = x ∷ y ∷ i .parts;
-      reads = item-again st l (nodeText e r) (child (node (readAs e))) (10 ∷ r) (node-reads st e r (p .0)) (node-shorter e r (p .0)) st refl
+      reads = item-again st l (nodeText e r) (child (node e)) (10 ∷ r) (node-reads st e r (p .0)) (node-shorter e r (p .0)) st refl
           ∙ line-item st (l ++ x ∷ []) r
           ∙ i .reads
           ∙ ap (λ (m : List Item). done m t) (append-assoc (l ++ x ∷ []) (y ∷ []) (i .parts) ∙ append-assoc l (x ∷ []) (y ∷ i .parts));
-      nodes = ap (λ (m : List NodeRead). readAs e ∷ m) (i .nodes);
+      nodes = ap (λ (m : List Element). e ∷ m) (i .nodes);
     }

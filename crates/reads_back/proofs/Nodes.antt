@@ -15,7 +15,7 @@ use Rattle.grammar.specs.Parse.{Out, done, thenOut, retP}
 use Rattle.xml.specs.Bytes.{bytes, same}
 use Rattle.xml.specs.Xml.{endTag}
 use Rattle.xml.specs.Elements.{child}
-use Rattle.clf.specs.Nodes.{NodeRead, nodeName, matrix, lut1d, range, ascCdl}
+use Rattle.clf.specs.Nodes.{nodeName, matrix, lut1d, range, ascCdl}
 use Rattle.clf.specs.List.{node, Flags, childFault, childBody, listItem}
 use Rattle.written_form.specs.Written.{depthText, nameText, styleText, contentText, startText, endText, nodeText}
 use Rattle.reads_back.proofs.Texts.{rest-short, isName}
@@ -25,10 +25,6 @@ use Rattle.reads_back.proofs.Ranges.{range-name, range-reads}
 use Rattle.reads_back.proofs.Cdls.{cdl-name, cdl-reads}
 use Rattle.written_form.proofs.Short.{Parts, sound-parts}
 use Rattle.reads_back.proofs.Sound.{any-kept, Four, four, range-order, TenOf, ten-of, ten-kept}
-
--- the node that is read: the element, without a Description
-abbrev pub readAs : Element → NodeRead
-readAs e = record { element = e }
 
 -- ---- a child of each of the four names
 
@@ -45,21 +41,21 @@ fault-none st (Lut1d entries columns) = refl
 fault-none st (Range clamp) = refl
 fault-none st (Cdl clamp) = refl
 
-matrix-child : (s : List ℕ) (n : NodeRead) (r : List ℕ) → matrix .run s ≡ done n r → (childBody (bytes "Matrix")) .run s ≡ done (node n) r
+matrix-child : (s : List ℕ) (n : Element) (r : List ℕ) → matrix .run s ≡ done n r → (childBody (bytes "Matrix")) .run s ≡ done (node n) r
 unfolding childBody nodeName same
-matrix-child s n r e = ap (λ (o : Out NodeRead). thenOut o (λ n. retP (node n))) e
+matrix-child s n r e = ap (λ (o : Out Element). thenOut o (λ n. retP (node n))) e
 
-lut-child : (s : List ℕ) (n : NodeRead) (r : List ℕ) → lut1d .run s ≡ done n r → (childBody (bytes "LUT1D")) .run s ≡ done (node n) r
+lut-child : (s : List ℕ) (n : Element) (r : List ℕ) → lut1d .run s ≡ done n r → (childBody (bytes "LUT1D")) .run s ≡ done (node n) r
 unfolding childBody nodeName same
-lut-child s n r e = ap (λ (o : Out NodeRead). thenOut o (λ n. retP (node n))) e
+lut-child s n r e = ap (λ (o : Out Element). thenOut o (λ n. retP (node n))) e
 
-range-child : (s : List ℕ) (n : NodeRead) (r : List ℕ) → range .run s ≡ done n r → (childBody (bytes "Range")) .run s ≡ done (node n) r
+range-child : (s : List ℕ) (n : Element) (r : List ℕ) → range .run s ≡ done n r → (childBody (bytes "Range")) .run s ≡ done (node n) r
 unfolding childBody nodeName same
-range-child s n r e = ap (λ (o : Out NodeRead). thenOut o (λ n. retP (node n))) e
+range-child s n r e = ap (λ (o : Out Element). thenOut o (λ n. retP (node n))) e
 
-cdl-child : (s : List ℕ) (n : NodeRead) (r : List ℕ) → ascCdl .run s ≡ done n r → (childBody (bytes "ASC_CDL")) .run s ≡ done (node n) r
+cdl-child : (s : List ℕ) (n : Element) (r : List ℕ) → ascCdl .run s ≡ done n r → (childBody (bytes "ASC_CDL")) .run s ≡ done (node n) r
 unfolding childBody nodeName same
-cdl-child s n r e = ap (λ (o : Out NodeRead). thenOut o (λ n. retP (node n))) e
+cdl-child s n r e = ap (λ (o : Out Element). thenOut o (λ n. retP (node n))) e
 
 -- ---- what stands behind a node's name, up to the LF behind its end tag
 
@@ -72,29 +68,29 @@ module _ (i o : Depth) (ds : List Decimal) (t : List ℕ) where
   abbrev made : Kind → Element
   made k = record { kind = k; input = i; output = o; numbers = ds }
 
-  matrix-body : (wide : Bool) → Parts (Matrix wide) ds → (childBody (bytes "Matrix")) .run (32 ∷ behindName (made (Matrix wide)) t) ≡ done (node (readAs (made (Matrix wide)))) (10 ∷ t)
+  matrix-body : (wide : Bool) → Parts (Matrix wide) ds → (childBody (bytes "Matrix")) .run (32 ∷ behindName (made (Matrix wide)) t) ≡ done (node (made (Matrix wide))) (10 ∷ t)
   unfolding contentText endText numbersOf
-  matrix-body true p = matrix-child (32 ∷ behindName (made (Matrix true)) t) (readAs (made (Matrix true))) (10 ∷ t)
+  matrix-body true p = matrix-child (32 ∷ behindName (made (Matrix true)) t) (made (Matrix true)) (10 ∷ t)
       (matrix-reads i o true ds (10 ∷ t) (any-kept ds (p .each)) (p .count) (sym (p .count)))
-  matrix-body false p = matrix-child (32 ∷ behindName (made (Matrix false)) t) (readAs (made (Matrix false))) (10 ∷ t)
+  matrix-body false p = matrix-child (32 ∷ behindName (made (Matrix false)) t) (made (Matrix false)) (10 ∷ t)
       (matrix-reads i o false ds (10 ∷ t) (any-kept ds (p .each)) (p .count) (sym (p .count)))
 
-  lut-body : (n c : ℕ) → Parts (Lut1d n c) ds → (childBody (bytes "LUT1D")) .run (32 ∷ behindName (made (Lut1d n c)) t) ≡ done (node (readAs (made (Lut1d n c)))) (10 ∷ t)
+  lut-body : (n c : ℕ) → Parts (Lut1d n c) ds → (childBody (bytes "LUT1D")) .run (32 ∷ behindName (made (Lut1d n c)) t) ≡ done (node (made (Lut1d n c))) (10 ∷ t)
   unfolding contentText endText numbersOf shapeRight
-  lut-body n c p = lut-child (32 ∷ behindName (made (Lut1d n c)) t) (readAs (made (Lut1d n c))) (10 ∷ t)
+  lut-body n c p = lut-child (32 ∷ behindName (made (Lut1d n c)) t) (made (Lut1d n c)) (10 ∷ t)
       (lut-reads i o n c ds (10 ∷ t) (p .shape) (any-kept ds (p .each)) (p .count) (sym (p .count)))
 
 module _ (i o : Depth) (t : List ℕ) where
   range-four : (clamp : Bool) (a b c d : Decimal) → Parts (Range clamp) (a ∷ b ∷ c ∷ d ∷ [])
-      → (childBody (bytes "Range")) .run (32 ∷ behindName (made i o (a ∷ b ∷ c ∷ d ∷ []) t (Range clamp)) t) ≡ done (node (readAs (made i o (a ∷ b ∷ c ∷ d ∷ []) t (Range clamp)))) (10 ∷ t)
+      → (childBody (bytes "Range")) .run (32 ∷ behindName (made i o (a ∷ b ∷ c ∷ d ∷ []) t (Range clamp)) t) ≡ done (node (made i o (a ∷ b ∷ c ∷ d ∷ []) t (Range clamp))) (10 ∷ t)
   unfolding contentText endText rulesHold
-  range-four true a b c d p = range-child (32 ∷ behindName (made i o (a ∷ b ∷ c ∷ d ∷ []) t (Range true)) t) (readAs (made i o (a ∷ b ∷ c ∷ d ∷ []) t (Range true))) (10 ∷ t)
+  range-four true a b c d p = range-child (32 ∷ behindName (made i o (a ∷ b ∷ c ∷ d ∷ []) t (Range true)) t) (made i o (a ∷ b ∷ c ∷ d ∷ []) t (Range true)) (10 ∷ t)
       (range-reads i o a b c d true (10 ∷ t) (any-kept (a ∷ b ∷ c ∷ d ∷ []) (p .each)) (range-order a b c d (p .rules)))
-  range-four false a b c d p = range-child (32 ∷ behindName (made i o (a ∷ b ∷ c ∷ d ∷ []) t (Range false)) t) (readAs (made i o (a ∷ b ∷ c ∷ d ∷ []) t (Range false))) (10 ∷ t)
+  range-four false a b c d p = range-child (32 ∷ behindName (made i o (a ∷ b ∷ c ∷ d ∷ []) t (Range false)) t) (made i o (a ∷ b ∷ c ∷ d ∷ []) t (Range false)) (10 ∷ t)
       (range-reads i o a b c d false (10 ∷ t) (any-kept (a ∷ b ∷ c ∷ d ∷ []) (p .each)) (range-order a b c d (p .rules)))
 
   abbrev RangeBack : Bool → List Decimal → Type 0
-  RangeBack clamp ds = Parts (Range clamp) ds → (childBody (bytes "Range")) .run (32 ∷ behindName (made i o ds t (Range clamp)) t) ≡ done (node (readAs (made i o ds t (Range clamp)))) (10 ∷ t)
+  RangeBack clamp ds = Parts (Range clamp) ds → (childBody (bytes "Range")) .run (32 ∷ behindName (made i o ds t (Range clamp)) t) ≡ done (node (made i o ds t (Range clamp))) (10 ∷ t)
 
   range-body : (clamp : Bool) (ds : List Decimal) → RangeBack clamp ds
   unfolding numbersOf
@@ -103,17 +99,17 @@ module _ (i o : Depth) (t : List ℕ) where
       subst (RangeBack clamp) (sym (f .is)) (range-four clamp (f .a) (f .b) (f .c) (f .d)) p
 
   abbrev CdlBack : Bool → List Decimal → Type 0
-  CdlBack clamp ds = Parts (Cdl clamp) ds → (childBody (bytes "ASC_CDL")) .run (32 ∷ behindName (made i o ds t (Cdl clamp)) t) ≡ done (node (readAs (made i o ds t (Cdl clamp)))) (10 ∷ t)
+  CdlBack clamp ds = Parts (Cdl clamp) ds → (childBody (bytes "ASC_CDL")) .run (32 ∷ behindName (made i o ds t (Cdl clamp)) t) ≡ done (node (made i o ds t (Cdl clamp))) (10 ∷ t)
 
   cdl-ten : (clamp : Bool) (s1 s2 s3 o1 o2 o3 p1 p2 p3 v : Decimal) → CdlBack clamp (s1 ∷ s2 ∷ s3 ∷ o1 ∷ o2 ∷ o3 ∷ p1 ∷ p2 ∷ p3 ∷ v ∷ [])
   unfolding contentText endText rulesHold
   cdl-ten true s1 s2 s3 o1 o2 o3 p1 p2 p3 v p =
       let ds : List Decimal = s1 ∷ s2 ∷ s3 ∷ o1 ∷ o2 ∷ o3 ∷ p1 ∷ p2 ∷ p3 ∷ v ∷ [] in
-      cdl-child (32 ∷ behindName (made i o ds t (Cdl true)) t) (readAs (made i o ds t (Cdl true))) (10 ∷ t)
+      cdl-child (32 ∷ behindName (made i o ds t (Cdl true)) t) (made i o ds t (Cdl true)) (10 ∷ t)
       (cdl-reads s1 s2 s3 o1 o2 o3 p1 p2 p3 v (ten-kept s1 s2 s3 o1 o2 o3 p1 p2 p3 v (p .each) (p .rules)) i o true (10 ∷ t))
   cdl-ten false s1 s2 s3 o1 o2 o3 p1 p2 p3 v p =
       let ds : List Decimal = s1 ∷ s2 ∷ s3 ∷ o1 ∷ o2 ∷ o3 ∷ p1 ∷ p2 ∷ p3 ∷ v ∷ [] in
-      cdl-child (32 ∷ behindName (made i o ds t (Cdl false)) t) (readAs (made i o ds t (Cdl false))) (10 ∷ t)
+      cdl-child (32 ∷ behindName (made i o ds t (Cdl false)) t) (made i o ds t (Cdl false)) (10 ∷ t)
       (cdl-reads s1 s2 s3 o1 o2 o3 p1 p2 p3 v (ten-kept s1 s2 s3 o1 o2 o3 p1 p2 p3 v (p .each) (p .rules)) i o false (10 ∷ t))
 
   cdl-body : (clamp : Bool) (ds : List Decimal) → CdlBack clamp ds
@@ -122,17 +118,17 @@ module _ (i o : Depth) (t : List ℕ) where
       let f : TenOf ds = ten-of ds (p .count) in
       subst (CdlBack clamp) (sym (f .is)) (cdl-ten clamp (f .s1) (f .s2) (f .s3) (f .o1) (f .o2) (f .o3) (f .p1) (f .p2) (f .p3) (f .v)) p
 
-  node-body : (k : Kind) (ds : List Decimal) → Parts k ds → (childBody (nameText k)) .run (32 ∷ behindName (made i o ds t k) t) ≡ done (node (readAs (made i o ds t k))) (10 ∷ t)
+  node-body : (k : Kind) (ds : List Decimal) → Parts k ds → (childBody (nameText k)) .run (32 ∷ behindName (made i o ds t k) t) ≡ done (node (made i o ds t k)) (10 ∷ t)
   node-body (Matrix wide) ds p = matrix-body i o ds t wide p
   node-body (Lut1d n c) ds p = lut-body i o ds t n c p
   node-body (Range clamp) ds p = range-body clamp ds p
   node-body (Cdl clamp) ds p = cdl-body clamp ds p
 
 -- A WRITTEN NODE READS BACK, as an item of ProcessList; the LF behind it is left
-pub node-reads : (st : Flags) (e : Element) (t : List ℕ) → sound e ≡ true → (listItem st) .run (nodeText e t) ≡ done (child (node (readAs e))) (10 ∷ t)
+pub node-reads : (st : Flags) (e : Element) (t : List ℕ) → sound e ≡ true → (listItem st) .run (nodeText e t) ≡ done (child (node e)) (10 ∷ t)
 unfolding listItem nodeText startText
 node-reads st e t h =
-    between-child (endTag (bytes "ProcessList") 0) (childFault st) childBody (nameText (e .kind)) 32 (behindName e t) (node (readAs e)) (10 ∷ t)
+    between-child (endTag (bytes "ProcessList") 0) (childFault st) childBody (nameText (e .kind)) 32 (behindName e t) (node e) (10 ∷ t)
     (name-right (e .kind)) space-name (fault-none st (e .kind)) (node-body (e .input) (e .output) t (e .kind) (e .numbers) (sound-parts e h))
 
 -- it takes bytes
@@ -140,4 +136,4 @@ pub node-shorter : (e : Element) (t : List ℕ) → sound e ≡ true → length 
 unfolding nodeText startText
 node-shorter e t h =
     let q = node-body (e .input) (e .output) t (e .kind) (e .numbers) (sound-parts e h) in
-    omega (arith, rest-short (childBody (nameText (e .kind))) (32 ∷ behindName e t) (node (readAs e)) (10 ∷ t) q, length-append (nameText (e .kind)) (32 ∷ behindName e t))
+    omega (arith, rest-short (childBody (nameText (e .kind))) (32 ∷ behindName e t) (node e) (10 ∷ t) q, length-append (nameText (e .kind)) (32 ∷ behindName e t))

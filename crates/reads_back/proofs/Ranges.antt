@@ -1,4 +1,5 @@
 -- Range in front of what follows it. Assumes nothing.
+use Rattle.process_list.specs.List.{Element}
 use mathlib.Core.Path.{_≡_, refl, ap, _∙_}
 use mathlib.Core.Bool.{Bool, true, false, cond, not, _&&_}
 use mathlib.Core.List.{List, [], _∷_, _++_}
@@ -13,7 +14,7 @@ use Rattle.xml.specs.Bytes.{bytes, same, isLetter, isDigit, isNameByte}
 use Rattle.xml.specs.Xml.{textOf, Tag}
 use Rattle.xml.specs.Elements.{held}
 use Rattle.clf.specs.Numbers.{anyNumber, valueElement}
-use Rattle.clf.specs.Nodes.{NodeRead, nodeOf, nodeRules, RangeState, noValues, rangeIndex, oneOf, rangeHolder, rangeTexts, rangeNode, range}
+use Rattle.clf.specs.Nodes.{elementWith, nodeRules, RangeState, noValues, rangeIndex, oneOf, rangeHolder, rangeTexts, rangeNode, range}
 use Rattle.claims.proofs.Numbers.{Each, Kept}
 use Rattle.valid.specs.Valid.{every}
 use Rattle.written_form.specs.Written.{valueText, rangeText, depthText}
@@ -106,7 +107,7 @@ module _ (i o : Depth) where
     pub range-reads : (clamp : Bool) (t : List ℕ) → Each (Kept anyNumber) (a ∷ b ∷ c ∷ d ∷ []) → (less a b && atMost c d) ≡ true
         → range .run (bytes " inBitDepth=\"" ++ (depthText i ++ (bytes "\" outBitDepth=\"" ++ (depthText o ++ (bytes "\"" ++ (bytes " style=\"" ++ (clampText clamp ++ (bytes "\">\n" ++
         rangeText (a ∷ b ∷ c ∷ d ∷ []) (bytes "</Range>" ++ t)))))))))
-        ≡ done (record { element = record { kind = Range clamp; input = i; output = o; numbers = a ∷ b ∷ c ∷ d ∷ [] } }) t
+        ≡ done (record { kind = Range clamp; input = i; output = o; numbers = a ∷ b ∷ c ∷ d ∷ [] }) t
     unfolding range
     range-reads clamp t k e =
         let r : List ℕ = 10 ∷ rangeText (a ∷ b ∷ c ∷ d ∷ []) (bytes "</Range>" ++ t) in
@@ -114,5 +115,5 @@ module _ (i o : Depth) where
         ap (λ (x : Out Tag). thenOut x (λ tag u. thenOut ((held rangeHolder noValues) .run u) (λ st. retP (rangeNode (tag .attributes) st))))
         (style-tag (nodeRules (λ w. 0) rangeTexts) range-rules i o (clampText clamp) r (style-quoted clamp) (style-right clamp))
         ∙ ap (λ (x : Out RangeState). thenOut x (λ st. retP (rangeNode l st))) (content-reads a b c d t k e)
-        ∙ ap (λ (v : Bool). done (nodeOf l (Range v) (a ∷ b ∷ c ∷ d ∷ [])) t) (kind-said clamp)
-        ∙ ap (λ (x : NodeRead). done x t) (node-is i o (record { name = bytes "style"; text = clampText clamp } ∷ []) (Range clamp) (a ∷ b ∷ c ∷ d ∷ []))
+        ∙ ap (λ (v : Bool). done (elementWith l (Range v) (a ∷ b ∷ c ∷ d ∷ [])) t) (kind-said clamp)
+        ∙ ap (λ (x : Element). done x t) (node-is i o (record { name = bytes "style"; text = clampText clamp } ∷ []) (Range clamp) (a ∷ b ∷ c ∷ d ∷ []))

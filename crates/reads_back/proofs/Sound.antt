@@ -7,7 +7,7 @@ use native.Mathlib.Omega.{arith}
 use lib.ListN.{length}
 use Rattle.decimal.specs.declared.Decimal.{Decimal}
 use Rattle.decimal.specs.Decimal.{inRange}
-use Rattle.decimal_write.specs.Written.{normal}
+use Rattle.decimal_write.specs.Written.{isNormal}
 use Rattle.decimal_value.specs.Value.{less, atMost, notNegative, isOne}
 use Rattle.valid.specs.Valid.{every, carried, rangeHolds, slopesHold, powersHold, cdlHolds, sound}
 use Rattle.valid.proofs.Elements.{both-true}
@@ -21,7 +21,7 @@ use Rattle.reads_back.proofs.Cdls.{Ten}
 
 pub is-carried : (d : Decimal) → carried d ≡ true → Carried d
 unfolding carried
-is-carried d h = let p = both-true (inRange d) (normal d) h in record { ranged = p .0; settled = p .1 }
+is-carried d h = let p = both-true (inRange d) (isNormal d) h in record { ranged = p .0; settled = p .1 }
 
 pub any-kept : (ds : List Decimal) → every carried ds ≡ true → Each (Kept anyNumber) ds
 any-kept [] h = tt

@@ -10,13 +10,13 @@ use Rattle.decimal_write.specs.Written.{digits}
 use Rattle.process_list.specs.declared.Depth.{Depth}
 use Rattle.process_list.specs.declared.Kind.{Kind}
 use Rattle.process_list.specs.declared.Kind.the-variants.{Matrix, Lut1d}
-use Rattle.process_list.specs.List.{numbersOf}
+use Rattle.process_list.specs.List.{Element, numbersOf}
 use Rattle.grammar.specs.Parse.{Out, done, thenOut, retP}
 use Rattle.xml.specs.Bytes.{bytes, same, isLetter, isDigit, isNameByte}
 use Rattle.xml.specs.Xml.{Tag}
 use Rattle.xml.specs.Elements.{held}
 use Rattle.clf.specs.Numbers.{anyNumber}
-use Rattle.clf.specs.Nodes.{NodeRead, nodeRules, matrixShape, lutShape, array, Table, ArrayState, noArray, arrayHolder, tableNode, matrix, lutNames, lutTexts, lut1d}
+use Rattle.clf.specs.Nodes.{nodeRules, matrixShape, lutShape, array, Table, ArrayState, noArray, arrayHolder, tableNode, matrix, lutNames, lutTexts, lut1d}
 use Rattle.claims.proofs.Numbers.{Each, Kept}
 use Rattle.valid.specs.Valid.{every, tableRight}
 use Rattle.written_form.specs.Written.{rowsText, arrayText, depthText}
@@ -70,7 +70,7 @@ matrix-rules = record { rest = λ w t. 0; texts = refl; opened = refl; in-free =
 module _ (i o : Depth) where
   pub matrix-reads : (wide : Bool) (ds : List Decimal) (t : List ℕ) → Each (Kept anyNumber) ds → length ds ≡ 3 * cond wide 4 3 → numbersOf (Matrix wide) ≡ length ds
       → matrix .run (bytes " inBitDepth=\"" ++ (depthText i ++ (bytes "\" outBitDepth=\"" ++ (depthText o ++ (bytes "\"" ++ (bytes ">\n" ++ arrayText 3 (cond wide 4 3) ds (bytes "</Matrix>" ++ t)))))))
-      ≡ done (record { element = record { kind = Matrix wide; input = i; output = o; numbers = ds } }) t
+      ≡ done (record { kind = Matrix wide; input = i; output = o; numbers = ds }) t
   unfolding matrix
   matrix-reads wide ds t each c n =
       let r : List ℕ = 10 ∷ arrayText 3 (cond wide 4 3) ds (bytes "</Matrix>" ++ t) in
@@ -78,7 +78,7 @@ module _ (i o : Depth) where
       (plain-tag (nodeRules (λ w. 0) (λ w t. 0)) matrix-rules i o r)
       ∙ ap (λ (x : Out ArrayState). thenOut x (λ st. retP (tableNode (withDepths i o []) st)))
       (content-reads (bytes "Matrix") matrixShape matrix-name 3 (cond wide 4 3) (Matrix wide) ds t (matrix-shape wide) each c n)
-      ∙ ap (λ (x : NodeRead). done x t) (node-is i o [] (Matrix wide) ds)
+      ∙ ap (λ (x : Element). done x t) (node-is i o [] (Matrix wide) ds)
 
 -- ---- LUT1D
 
@@ -94,7 +94,7 @@ module _ (i o : Depth) where
   pub lut-reads : (entries columns : ℕ) (ds : List Decimal) (t : List ℕ) → tableRight entries columns ≡ true → Each (Kept anyNumber) ds → length ds ≡ entries * columns
       → numbersOf (Lut1d entries columns) ≡ length ds
       → lut1d .run (bytes " inBitDepth=\"" ++ (depthText i ++ (bytes "\" outBitDepth=\"" ++ (depthText o ++ (bytes "\"" ++ (bytes ">\n" ++ arrayText entries columns ds (bytes "</LUT1D>" ++ t)))))))
-      ≡ done (record { element = record { kind = Lut1d entries columns; input = i; output = o; numbers = ds } }) t
+      ≡ done (record { kind = Lut1d entries columns; input = i; output = o; numbers = ds }) t
   unfolding lut1d
   lut-reads entries columns ds t right each c n =
       let r : List ℕ = 10 ∷ arrayText entries columns ds (bytes "</LUT1D>" ++ t) in
@@ -102,4 +102,4 @@ module _ (i o : Depth) where
       (plain-tag (nodeRules lutNames lutTexts) lut-rules i o r)
       ∙ ap (λ (x : Out ArrayState). thenOut x (λ st. retP (tableNode (withDepths i o []) st)))
       (content-reads (bytes "LUT1D") lutShape lut-name entries columns (Lut1d entries columns) ds t (lut-shape entries columns right) each c n)
-      ∙ ap (λ (x : NodeRead). done x t) (node-is i o [] (Lut1d entries columns) ds)
+      ∙ ap (λ (x : Element). done x t) (node-is i o [] (Lut1d entries columns) ds)

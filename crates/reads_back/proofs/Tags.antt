@@ -58,12 +58,12 @@ equals-name = refl
 
 module _ (rules : Rules) where
   -- name, `=`, and a text in double quotes
-  pub attribute-reads : (seen : List Attribute) (w v t : List ℕ) → isName w ≡ true → quoted v ≡ true → nameFault rules seen w ≡ 0 → rules .texts w v ≡ 0
-      → (attribute rules seen) .run (w ++ 61 ∷ 34 ∷ (v ++ 34 ∷ t)) ≡ done (record { name = w; text = v }) t
+  pub attribute-reads : (attributes : List Attribute) (w v t : List ℕ) → isName w ≡ true → quoted v ≡ true → nameFault rules attributes w ≡ 0 → rules .texts w v ≡ 0
+      → (attribute rules attributes) .run (w ++ 61 ∷ 34 ∷ (v ++ 34 ∷ t)) ≡ done (record { name = w; text = v }) t
   unfolding attribute isSpace isQuote
-  attribute-reads seen w v t h k f q =
-      let a : judgeOut (nameFault rules seen) (name .run (w ++ 61 ∷ 34 ∷ (v ++ 34 ∷ t))) (w ++ 61 ∷ 34 ∷ (v ++ 34 ∷ t)) ≡ done w (61 ∷ 34 ∷ (v ++ 34 ∷ t)) =
-      judge-reads (nameFault rules seen) (name .run (w ++ 61 ∷ 34 ∷ (v ++ 34 ∷ t))) (w ++ 61 ∷ 34 ∷ (v ++ 34 ∷ t)) w (61 ∷ 34 ∷ (v ++ 34 ∷ t))
+  attribute-reads attributes w v t h k f q =
+      let a : judgeOut (nameFault rules attributes) (name .run (w ++ 61 ∷ 34 ∷ (v ++ 34 ∷ t))) (w ++ 61 ∷ 34 ∷ (v ++ 34 ∷ t)) ≡ done w (61 ∷ 34 ∷ (v ++ 34 ∷ t)) =
+      judge-reads (nameFault rules attributes) (name .run (w ++ 61 ∷ 34 ∷ (v ++ 34 ∷ t))) (w ++ 61 ∷ 34 ∷ (v ++ 34 ∷ t)) w (61 ∷ 34 ∷ (v ++ 34 ∷ t))
       (name-reads w 61 (34 ∷ (v ++ 34 ∷ t)) h equals-name) f in
       let b : judgeOut (λ (x : (Unit {0}) × List ℕ). rules .texts w (x .1)) ((textTo 34) .run (v ++ 34 ∷ t)) (v ++ 34 ∷ t) ≡ done (tt, v) (34 ∷ t) =
       judge-reads (λ (x : (Unit {0}) × List ℕ). rules .texts w (x .1)) ((textTo 34) .run (v ++ 34 ∷ t)) (v ++ 34 ∷ t) (tt, v) (34 ∷ t) (text-reads (λ b. eqb b 34) v 34 t k refl) q in
@@ -76,49 +76,49 @@ module _ (rules : Rules) where
 
   -- a start tag from here on, in a state
   unfoldable pub tagFrom : List Attribute → Parser Tag
-  tagFrom seen = loopP turn (record { spaced = false; seen = seen })
+  tagFrom attributes = loopP turn (record { spaced = false; attributes = attributes })
 
   pub tag-from : (s : List ℕ) → (startTag rules) .run s ≡ tagFrom [] s
   unfolding startTag tagFrom
   tag-from s = refl
 
   -- its end
-  pub tag-ends : (seen : List Attribute) (t : List ℕ) → rules .opened seen ≡ 0 → tagFrom seen (62 ∷ t) ≡ done (record { attributes = seen; empty = false }) t
+  pub tag-ends : (attributes : List Attribute) (t : List ℕ) → rules .opened attributes ≡ 0 → tagFrom attributes (62 ∷ t) ≡ done (record { attributes = attributes; empty = false }) t
   unfolding tagFrom isSpace
-  tag-ends seen t q =
-      loop-last turn (record { spaced = false; seen = seen }) (62 ∷ t) (record { attributes = seen; empty = false }) t (rw q)
+  tag-ends attributes t q =
+      loop-last turn (record { spaced = false; attributes = attributes }) (62 ∷ t) (record { attributes = attributes; empty = false }) t (rw q)
 
   -- a space
-  tag-space : (seen : List Attribute) (t : List ℕ) → turn (record { spaced = false; seen = seen }) (32 ∷ t) ≡ done (again (record { spaced = true; seen = seen })) t
+  tag-space : (attributes : List Attribute) (t : List ℕ) → turn (record { spaced = false; attributes = attributes }) (32 ∷ t) ≡ done (again (record { spaced = true; attributes = attributes })) t
   unfolding isSpace
-  tag-space seen t = refl
+  tag-space attributes t = refl
 
   -- the first byte of a name is a letter
-  letter-turn : (seen : List Attribute) (b : ℕ) (w : List ℕ) → isLetter b ≡ true
-      → turn (record { spaced = true; seen = seen }) (b ∷ w) ≡ thenOut ((attribute rules seen) .run (b ∷ w)) (λ a. retP (again (record { spaced = false; seen = seen ++ a ∷ [] })))
-  letter-turn seen b w h =
+  letter-turn : (attributes : List Attribute) (b : ℕ) (w : List ℕ) → isLetter b ≡ true
+      → turn (record { spaced = true; attributes = attributes }) (b ∷ w) ≡ thenOut ((attribute rules attributes) .run (b ∷ w)) (λ a. retP (again (record { spaced = false; attributes = attributes ++ a ∷ [] })))
+  letter-turn attributes b w h =
       let l : 65 ≤ b = letter-big b h in
       skip (isSpace b) _ _ (b ∷ w) (no-space b (omega arith))
       ∙ skip (eqb b 62) _ _ (b ∷ w) (ne-eqb b 62 (λ e. omega arith))
       ∙ skip (eqb b 47) _ _ (b ∷ w) (ne-eqb b 47 (λ e. omega arith))
 
-  name-turn : (seen : List Attribute) (w t : List ℕ) → isName w ≡ true
-      → turn (record { spaced = true; seen = seen }) (w ++ t) ≡ thenOut ((attribute rules seen) .run (w ++ t)) (λ a. retP (again (record { spaced = false; seen = seen ++ a ∷ [] })))
+  name-turn : (attributes : List Attribute) (w t : List ℕ) → isName w ≡ true
+      → turn (record { spaced = true; attributes = attributes }) (w ++ t) ≡ thenOut ((attribute rules attributes) .run (w ++ t)) (λ a. retP (again (record { spaced = false; attributes = attributes ++ a ∷ [] })))
   unfolding isName
-  name-turn seen [] t h = nope cc
-  name-turn seen (b ∷ w) t h = letter-turn seen b (w ++ t) (both-true (isLetter b) (every isNameByte w) h .0)
+  name-turn attributes [] t h = nope cc
+  name-turn attributes (b ∷ w) t h = letter-turn attributes b (w ++ t) (both-true (isLetter b) (every isNameByte w) h .0)
 
   -- one attribute more
-  pub tag-more : (seen : List Attribute) (w v t : List ℕ) → isName w ≡ true → quoted v ≡ true → nameFault rules seen w ≡ 0 → rules .texts w v ≡ 0
-      → tagFrom seen (32 ∷ (w ++ 61 ∷ 34 ∷ (v ++ 34 ∷ t))) ≡ tagFrom (seen ++ record { name = w; text = v } ∷ []) t
+  pub tag-more : (attributes : List Attribute) (w v t : List ℕ) → isName w ≡ true → quoted v ≡ true → nameFault rules attributes w ≡ 0 → rules .texts w v ≡ 0
+      → tagFrom attributes (32 ∷ (w ++ 61 ∷ 34 ∷ (v ++ 34 ∷ t))) ≡ tagFrom (attributes ++ record { name = w; text = v } ∷ []) t
   unfolding tagFrom
-  tag-more seen w v t h k f q =
+  tag-more attributes w v t h k f q =
       let s : List ℕ = w ++ 61 ∷ 34 ∷ (v ++ 34 ∷ t) in
       let a : Attribute = record { name = w; text = v } in
-      loop-again turn (record { spaced = false; seen = seen }) (32 ∷ s) (record { spaced = true; seen = seen }) s (tag-space seen s) (omega arith)
-      ∙ loop-again turn (record { spaced = true; seen = seen }) s (record { spaced = false; seen = seen ++ a ∷ [] }) t
-      (name-turn seen w (61 ∷ 34 ∷ (v ++ 34 ∷ t)) h
-      ∙ ap (λ (o : Out Attribute). thenOut o (λ x. retP (again (record { spaced = false; seen = seen ++ x ∷ [] })))) (attribute-reads seen w v t h k f q))
+      loop-again turn (record { spaced = false; attributes = attributes }) (32 ∷ s) (record { spaced = true; attributes = attributes }) s (tag-space attributes s) (omega arith)
+      ∙ loop-again turn (record { spaced = true; attributes = attributes }) s (record { spaced = false; attributes = attributes ++ a ∷ [] }) t
+      (name-turn attributes w (61 ∷ 34 ∷ (v ++ 34 ∷ t)) h
+      ∙ ap (λ (o : Out Attribute). thenOut o (λ x. retP (again (record { spaced = false; attributes = attributes ++ x ∷ [] })))) (attribute-reads attributes w v t h k f q))
       (omega (arith, length-append w (61 ∷ 34 ∷ (v ++ 34 ∷ t)), length-append v (34 ∷ t)))
 
 -- ---- end tags

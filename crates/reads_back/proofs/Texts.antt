@@ -10,7 +10,7 @@ use Rattle.valid.specs.Valid.{every}
 use Rattle.valid.proofs.Elements.{both-true}
 use Rattle.valid.proofs.Readings.{every-cons}
 use Rattle.grammar.specs.Parse.{Out, done, fault, Parser, keptOut, spanP, loopP}
-use Rattle.grammar.specs.Laws.{Answer, cuts, faults, dones, follows-refl, before-app, nope, loop-again, loop-last}
+use Rattle.grammar.specs.Laws.{StrongPrefix, cuts, faults, dones, follows-refl, before-app, nope, loop-again, loop-last}
 use Rattle.grammar.specs.Grammar.{G, look}
 use Rattle.xml.specs.Bytes.{isLetter, isNameByte, lessThan, ampersand}
 use Rattle.xml.specs.Xml.{name, openName, closeName, textByte, text}
@@ -20,7 +20,7 @@ use Rattle.xml.specs.Xml.{name, openName, closeName, textByte, text}
 pub rest-short : {A : Type 0} (g : G A) (s : List ℕ) (a : A) (r : List ℕ) → g .run s ≡ done a r → length r ≤ length s
 rest-short {A} g s a r e = go (g .law s)
   where
-    go : Answer (g .run) s → length r ≤ length s
+    go : StrongPrefix (g .run) s → length r ≤ length s
     go (cuts q) = nope cc
     go (faults k c u q h) = absurd (let z : _≡_ {A = ℕ} 0 1 = let y : g .run (s ++ []) ≡ fault k (u ++ []) = h [] in cc (append-nil s) in omega arith)
     go (dones b c u q h) =

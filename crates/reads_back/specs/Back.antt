@@ -9,32 +9,18 @@ use Rattle.process_list.specs.File.{fileList}
 use Rattle.process_list.specs.List.{Element, mostNodes, mostNumbers, nodeOf, allNumbers, firstDiffers}
 use Rattle.room.specs.Room.{beyond, filledWith}
 use Rattle.valid.specs.Valid.{every, sound, isValid, elementsOf}
-use Rattle.clf.specs.Nodes.{NodeRead}
 use Rattle.clf.specs.Reading.{accepted, read}
 use Rattle.clf.specs.Reading as Reading
 use Rattle.look.specs.Look.{Look, roomOf}
 use Rattle.claims.specs.LookRuns.{readInto}
+use Rattle.claims.specs.Rules.{Allowed}
 use Rattle.written_form.specs.Written.{Writing, written, writeOf}
 
 -- ---- lists of elements
 
--- the rules of document 01 on a list, for a room of this length
-pub record Allowed (room : ℕ) (es : List Element) : Type 0 where
-  -- '1 to 32 nodes' (12, 11)
-  pub some : 0 < length es
-  pub few : length es ≤ mostNodes
-  -- 10: no inBitDepth differs from the previous outBitDepth
-  pub chained : firstDiffers (map nodeOf es) ≡ 0
-  -- 13: 'At most 262,144 numbers, fewer if the lent room is smaller'
-  pub holds : length (allNumbers es) ≤ min room mostNumbers
-  -- each node's own rules
-  pub nodes : every sound es ≡ true
-
 -- a file whose reading into a room of this length is accepted, with these elements for its list
-pub record ReadAs (room : ℕ) (file : List ℕ) (es : List Element) : Type 0 where
-  pub nodes : List NodeRead
-  pub accepted : read room file ≡ accepted nodes
-  pub elements : Reading.elementsOf nodes ≡ es
+abbrev pub ReadAs : ℕ → List ℕ → List Element → Type 0
+ReadAs room file es = read room file ≡ accepted es
 
 -- ---- list and room
 
@@ -64,29 +50,29 @@ abbrev pub asRead : Look → Look
 asRead x = record { list = fileList (x .list); room = x .room }
 
 -- reading the file into y is accepted, and leaves the list and room x, by what a file says of them
-pub record Leaves (y : Look) (file : List ℕ) (x : Look) : Type 0 where
-  pub nodes : List NodeRead
+pub record ReadingLeaves (y : Look) (file : List ℕ) (x : Look) : Type 0 where
+  pub nodes : List Element
   pub accepted : read (roomOf y) file ≡ accepted nodes
   pub look : readInto y file ≡ asRead x
 
 -- reading the file into y, a room that may be longer or shorter, is accepted, and leaves the list of x and its numbers in that room
-pub record LeavesIn (y : Look) (file : List ℕ) (x : Look) : Type 0 where
-  pub nodes : List NodeRead
+pub record ReadingLeavesIn (y : Look) (file : List ℕ) (x : Look) : Type 0 where
+  pub nodes : List Element
   pub accepted : read (roomOf y) file ≡ accepted nodes
   pub list : readInto y file .list ≡ fileList (x .list)
   pub room : readInto y file .room ≡ filledWith (allNumbers (held x)) (y .room)
 
 -- 'list and room are [an] accepted reading of [some] file into that room'
 abbrev pub SomeReading : Look → Type 0
-SomeReading x = (file : List ℕ) × Leaves x file x
+SomeReading x = (file : List ℕ) × ReadingLeaves x file x
 
 -- DEMAND 2, its last part. Whatever text writing answers for list and room is accepted, and leaves this very list and room, when it is read into equal room
 abbrev pub WrittenReadsBack : Look → Type 0
-WrittenReadsBack x = (id : List ℕ) (out : ℕ) (text : List ℕ) → writing x id out ≡ written text → (y : Look) → EqualRoom x y → Leaves y text x
+WrittenReadsBack x = (id : List ℕ) (out : ℕ) (text : List ℕ) → writing x id out ≡ written text → (y : Look) → EqualRoom x y → ReadingLeaves y text x
 
 -- the same in every room that holds the numbers: the same list, and its numbers
 abbrev pub WrittenReadsIn : Look → Type 0
-WrittenReadsIn x = (id : List ℕ) (out : ℕ) (text : List ℕ) → writing x id out ≡ written text → (y : Look) → length (allNumbers (held x)) ≤ roomOf y → LeavesIn y text x
+WrittenReadsIn x = (id : List ℕ) (out : ℕ) (text : List ℕ) → writing x id out ≡ written text → (y : Look) → length (allNumbers (held x)) ≤ roomOf y → ReadingLeavesIn y text x
 
 -- REFUSAL 16, both ways: list and room pass exactly if they are the accepted reading of some file into that room
 abbrev pub Refusal16 : Look → Type 0

@@ -19,7 +19,7 @@ use Rattle.running.specs.declared.Ran.{Ran}
 use Rattle.running.specs.Running.{ranOf, pixelsOf}
 use Rattle.written_form.specs.Written.{outputOf}
 use Rattle.writing.specs.declared.Written.{Written}
-use Rattle.writing.specs.Writing.{answerOf}
+use Rattle.writing.specs.Writing.{writingAnswer}
 use Rattle.reads_back.specs.declared.WrittenRead.{WrittenRead}
 use Rattle.reads_back.specs.declared.CheckedRead.{CheckedRead}
 use Rattle.reads_back.specs.declared.Described.{Described}
@@ -42,7 +42,7 @@ pub record ReadIn (x : Look) (r : Answer) (m₀ m₁ : Room) : Type 0 where
 -- list and room x written under an id into an output, and the text read into the room m₀: what both answer and leave, for all inputs; and, where the text was written,
 -- the same list is back with its numbers in every room that holds them, and list and room are the very same in equal room
 pub record WroteAndRead (x : Look) (id : List ℕ) (r : WrittenRead) (out₀ out₁ : List ℕ) (m₀ m₁ : Room) : Type 0 where
-  pub wrote : r .wrote ≡ answerOf (writing x id (length out₀))
+  pub wrote : r .wrote ≡ writingAnswer (writing x id (length out₀))
   pub output : out₁ ≡ outputOf (writing x id (length out₀)) out₀
   pub read : ReadsInto (read (roomLength m₀) (take (r .wrote .length) out₁)) (r .answer) m₀ m₁
   pub holds : r .wrote .number ≡ 0 → length (allNumbers (held x)) ≤ roomLength m₀ → ReadIn x (r .answer) m₀ m₁
@@ -55,7 +55,7 @@ abbrev pub Refuses16 : Look → ℕ → Type 0
 Refuses16 x n = (n ≡ 16) ↔ (SomeReading x → ⊥)
 
 pub record WriteRefuses (x : Look) (id : List ℕ) (r : Written) (out₀ out₁ : List ℕ) : Type 0 where
-  pub answer : r ≡ answerOf (writing x id (length out₀))
+  pub answer : r ≡ writingAnswer (writing x id (length out₀))
   pub output : out₁ ≡ outputOf (writing x id (length out₀)) out₀
   pub refuses : Refuses16 x (r .number)
 

@@ -19,7 +19,6 @@ use Rattle.valid.proofs.Elements.{both-true}
 use Rattle.xml.specs.declared.Scan.{Scan}
 use Rattle.xml.specs.declared.Scan.the-variants as Scans
 use Rattle.xml.specs.Code.{scanOut, Inside}
-use Rattle.clf.specs.Nodes.{NodeRead}
 use Rattle.clf.specs.Reading.{mostBytes, placeIn, isNumbered}
 use Rattle.node_parts.specs.declared.NodeStep.{NodeStep}
 use Rattle.node_parts.specs.Code.{AllNumbers, nodeAfter}
@@ -27,13 +26,13 @@ use Rattle.reading.specs.declared.Judged.the-variants.{Accepted, Refused}
 use Rattle.look.specs.Replacing.{element, byElement, replace}
 use Rattle.look.specs.Replacing as Replacing
 use Rattle.look.specs.Look.{Look, replaceIn}
-use Rattle.replacing.specs.Code.{answerOf, Leaves, lookOf, Replaced, refusedAnswer, callFault, CallFault, ElementAlone, judgedScan, Callable, Fits}
+use Rattle.replacing.specs.Code.{replacingAnswer, AnswersWith, lookOf, Replaced, refusedAnswer, callFault, CallFault, ElementAlone, judgedScan, Callable, Fits}
 
 -- 'Any other refusal changes nothing'
-pub leaves-refused : (l : ProcessList) (m : Room) (a : Replacing.Answer) (n i : ℕ) → a ≡ Replacing.refused n i → Leaves (lookOf l m) a (refusedAnswer n i l) m
-unfolding answerOf
+pub leaves-refused : (l : ProcessList) (m : Room) (a : Replacing.Replacing) (n i : ℕ) → a ≡ Replacing.refused n i → AnswersWith (lookOf l m) a (refusedAnswer n i l) m
+unfolding replacingAnswer
 leaves-refused l m a n i e =
-    subst (λ (b : Replacing.Answer). Leaves (lookOf l m) b (refusedAnswer n i l) m) (sym e) (record { answer = refl; room = refl })
+    subst (λ (b : Replacing.Replacing). AnswersWith (lookOf l m) b (refusedAnswer n i l) m) (sym e) (record { answer = refl; room = refl })
 
 -- ---- 16, 19, 4
 
@@ -82,7 +81,7 @@ module _ (l : ProcessList) (m : Room) where
   elements-length = length-map (Lists.nodesOf l) (Valid.elementOf m)
 
   module _ (k : ℕ) (e : List ℕ) where
-    abbrev said : Bool → Bool → Bool → Replacing.Answer
+    abbrev said : Bool → Bool → Bool → Replacing.Replacing
     said v n g = cond v (cond n (cond g (Replacing.refused 4 0) (byElement room es k e (element .run e))) (Replacing.refused 19 0)) (Replacing.refused 16 0)
 
     abbrev N : Bool
@@ -125,11 +124,11 @@ module _ (l : ProcessList) (m : Room) where
 
     -- ---- the element's own fault
 
-    behind : (v : NodeRead) (r : List ℕ) → 0 < length r → byElement room es k e (done v r) ≡ Replacing.refused 20 (placeIn e r)
+    behind : (v : Element) (r : List ℕ) → 0 < length r → byElement room es k e (done v r) ≡ Replacing.refused 20 (placeIn e r)
     behind v [] h = absurd (omega arith)
     behind v (b ∷ r) h = refl
 
-    judged-ill : (v : NodeRead) (y : Scan) (n i : ℕ) → Inside 1 e 0 y → judgedScan (length e) y ≡ Refused n i → byElement room es k e (scanOut (λ q. v) e y) ≡ Replacing.refused n i
+    judged-ill : (v : Element) (y : Scan) (n i : ℕ) → Inside 1 e 0 y → judgedScan (length e) y ≡ Refused n i → byElement room es k e (scanOut (λ q. v) e y) ≡ Replacing.refused n i
     judged-ill v (Scans.At q) n i b j = by (ltb q (length e)) refl j
       where
         by : (t : Bool) → ltb q (length e) ≡ t → cond t (Refused 20 q) Accepted ≡ Refused n i → byElement room es k e (done v (drop q e)) ≡ Replacing.refused n i
@@ -155,8 +154,8 @@ module _ (l : ProcessList) (m : Room) where
         leaves-refused l m (replaceIn x k e) n i
         (by-element h ∙ ap (byElement room es k e) (sym (a .reads .out)) ∙ judged-ill (a .reads .value) (r .scan) n i (a .reads .inside) j)
 
-    judged-done : (v : NodeRead) (y : Scan) → judgedScan (length e) y ≡ Accepted → AllNumbers y v
-        → (scanOut (λ q. v) e y ≡ done v []) × (length (v .element .numbers) ≡ Lists.numbersOf (v .element .kind)) × (nodeAfter y v ≡ Lists.nodeOf (v .element))
+    judged-done : (v : Element) (y : Scan) → judgedScan (length e) y ≡ Accepted → AllNumbers y v
+        → (scanOut (λ q. v) e y ≡ done v []) × (length (v .numbers) ≡ Lists.numbersOf (v .kind)) × (nodeAfter y v ≡ Lists.nodeOf v)
     judged-done v (Scans.At q) j n = (by (ltb q (length e)) refl j, n, refl)
       where
         none : (r : List ℕ) → length r ≡ 0 → r ≡ []

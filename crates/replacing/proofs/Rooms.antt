@@ -16,7 +16,7 @@ use Rattle.process_list.specs.declared.Node.{Node}
 use Rattle.process_list.specs.declared.ProcessList.{ProcessList}
 use Rattle.process_list.specs.declared.Verdict.{Verdict}
 use Rattle.process_list.specs.declared.Verdict.the-variants.{Accepted, NoNode, TooManyNodes, DepthDiffers, TooManyNumbers}
-use Rattle.process_list.specs.List.{Element, mostNodes, numbersOf, nodeOf, standing, total, placed, allNumbers, blankNode, listOf, nodesOf, nodeAt, replacedAt, placedList, capped, judged, verdict, refusalOf, placeOf}
+use Rattle.process_list.specs.List.{Element, mostNodes, numbersOf, nodeOf, withPosition, total, placed, allNumbers, blankNode, listOf, nodesOf, nodeAt, replacedAt, placedList, capped, judged, verdict, verdictNumber, verdictPlace}
 use Rattle.process_list.proofs.Laws.{capped-exact, total-take, total-take-le}
 use Rattle.process_list.proofs.Lists.{Fine, accepted-fine, accepted-number, heads-length, placed-length, list-nodes, place-at, total-place, replaced-verdict, replaced-list}
 use Rattle.room.specs.Room.{Room, roomLength, laidIn, filledWith, resizedIn}
@@ -27,14 +27,13 @@ use Rattle.valid.proofs.Replacing.{replaced-in}
 use Rattle.xml.specs.declared.Scan.{Scan}
 use Rattle.xml.specs.declared.Scan.the-variants as Scans
 use Rattle.xml.specs.Code.{scanOut}
-use Rattle.clf.specs.Nodes.{NodeRead}
 use Rattle.node_parts.specs.declared.NodeStep.{NodeStep}
 use Rattle.values.specs.Code.{roomAfter}
 use Rattle.node_parts.specs.Code.{NodeReads}
 use Rattle.look.specs.Replacing.{element, byElement, byVerdict, listed}
 use Rattle.look.specs.Replacing as Replacing
 use Rattle.look.specs.Look.{Look, holding, replaceIn}
-use Rattle.replacing.specs.Code.{answerOf, Leaves, lookOf, Replaced, refusedAnswer, madeWay, Stores, Fits}
+use Rattle.replacing.specs.Code.{replacingAnswer, AnswersWith, lookOf, Replaced, refusedAnswer, madeWay, Stores, Fits}
 use Rattle.replacing.proofs.Calls.{leaves-refused, elements-length, by-element}
 
 -- ---- nodes of elements
@@ -65,7 +64,7 @@ part-few es k h =
 
 -- ---- the verdict
 
-verdict-refused : (es : List Element) (v : Verdict) → (refusalOf v ≡ 0 → ⊥) → byVerdict es v ≡ Replacing.refused (refusalOf v) (placeOf v)
+verdict-refused : (es : List Element) (v : Verdict) → (verdictNumber v ≡ 0 → ⊥) → byVerdict es v ≡ Replacing.refused (verdictNumber v) (verdictPlace v)
 verdict-refused es Accepted z = absurd (z refl)
 verdict-refused es NoNode z = refl
 verdict-refused es TooManyNodes z = refl
@@ -73,13 +72,13 @@ verdict-refused es (DepthDiffers k) z = refl
 verdict-refused es TooManyNumbers z = refl
 
 -- the room after an answer without fault
-room-done : (e : List ℕ) (base : ℕ) (xs : List Decimal) (v w : NodeRead) (y : Scan) (r : List ℕ) (m : Room) → scanOut (λ q. v) e y ≡ done w r → roomAfter base y xs m ≡ laidIn base xs m
+room-done : (e : List ℕ) (base : ℕ) (xs : List Decimal) (v w : Element) (y : Scan) (r : List ℕ) (m : Room) → scanOut (λ q. v) e y ≡ done w r → roomAfter base y xs m ≡ laidIn base xs m
 room-done e base xs v w (Scans.At q) r m h = refl
 room-done e base xs v w (Scans.Fault k q) r m h = nope cc
 room-done e base xs v w Scans.Cut r m h = nope cc
 
 -- the value of an answer without fault
-value-is : (e : List ℕ) (v w : NodeRead) (y : Scan) (r : List ℕ) → scanOut (λ q. v) e y ≡ done w r → v ≡ w
+value-is : (e : List ℕ) (v w : Element) (y : Scan) (r : List ℕ) → scanOut (λ q. v) e y ≡ done w r → v ≡ w
 value-is e v w (Scans.At q) r h = cc
 value-is e v w (Scans.Fault k q) r h = nope cc
 value-is e v w Scans.Cut r h = nope cc
@@ -95,7 +94,7 @@ module _ (l : ProcessList) (m₀ : Room) (k : ℕ) (node : Node) (e : List ℕ) 
   es = Valid.elementsOf l m₀
 
   abbrev el : Element
-  el = f .value .element
+  el = f .value
 
   abbrev i : ℕ
   i = k - 1
@@ -130,9 +129,9 @@ module _ (l : ProcessList) (m₀ : Room) (k : ℕ) (node : Node) (e : List ℕ) 
   unfolding listed
   answer-is = by-element l m₀ k e (f .callable) ∙ ap (byElement room es k e) (f .out)
 
-  pub node-refused : (v : Verdict) → v ≡ judged room (nodesOf next) → (refusalOf v ≡ 0 → ⊥) → Replaced l m₀ k e (refusedAnswer (refusalOf v) (placeOf v) l) m₀
+  pub node-refused : (v : Verdict) → v ≡ judged room (nodesOf next) → (verdictNumber v ≡ 0 → ⊥) → Replaced l m₀ k e (refusedAnswer (verdictNumber v) (verdictPlace v) l) m₀
   node-refused v q z =
-      leaves-refused l m₀ (replaceIn x k e) (refusalOf v) (placeOf v)
+      leaves-refused l m₀ (replaceIn x k e) (verdictNumber v) (verdictPlace v)
       (answer-is ∙ ap (byVerdict new) (sym (q ∙ verdict-is)) ∙ verdict-refused new v z)
 
   -- ---- accepted
@@ -148,7 +147,7 @@ module _ (l : ProcessList) (m₀ : Room) (k : ℕ) (node : Node) (e : List ℕ) 
     nodes-are : nodesOf l ≡ placed es
     nodes-are = ap nodesOf (reading .list) ∙ list-nodes (placed es) (rw placed-length few)
 
-    old-node : nodeAt l i ≡ standing (0 + total (take i (map nodeOf es))) (getD (map nodeOf es) i blankNode)
+    old-node : nodeAt l i ≡ withPosition (0 + total (take i (map nodeOf es))) (getD (map nodeOf es) i blankNode)
     unfolding nodeAt placed
     old-node = ap (λ (ns : List Node). getD ns i blankNode) nodes-are ∙ place-at 0 (map nodeOf es) i blankNode (rw heads-length inside)
 
@@ -185,25 +184,25 @@ module _ (l : ProcessList) (m₀ : Room) (k : ℕ) (node : Node) (e : List ℕ) 
         b ∙ ap w (reading .room) ∙ replaced-in es i none inside (reading .sounds) el m₀ (f .all) (omega (arith, fine .holds)) (omega (arith, fine-new .holds))
 
     module _ (m₁ : Room) (h : Stores l i node e m₀ m₁) where
-      numbers-are : h .reads .value .element .numbers ≡ el .numbers
-      numbers-are = ap (λ (v : NodeRead). v .element .numbers) (value-is e (h .reads .value) (f .value) (h .step .scan) [] (h .reads .out ∙ f .out))
+      numbers-are : h .reads .value .numbers ≡ el .numbers
+      numbers-are = ap (λ (v : Element). v .numbers) (value-is e (h .reads .value) (f .value) (h .step .scan) [] (h .reads .out ∙ f .out))
 
       laid-as : m₁ ≡ laidIn (nodeAt l i .at) (el .numbers) (madeWay l i node m₀)
       laid-as =
           h .reads .room
-          ∙ room-done e (nodeAt l i .at) (h .reads .value .element .numbers) (h .reads .value) (f .value) (h .step .scan) [] (madeWay l i node m₀) (h .reads .out ∙ f .out)
+          ∙ room-done e (nodeAt l i .at) (h .reads .value .numbers) (h .reads .value) (f .value) (h .step .scan) [] (madeWay l i node m₀) (h .reads .out ∙ f .out)
           ∙ ap (λ (xs : List Decimal). laidIn (nodeAt l i .at) xs (madeWay l i node m₀)) numbers-are
 
-      held : Leaves x (Replacing.replaced new) (record { number = 0; place = 0; list = placedList next }) m₁
-      unfolding answerOf holding
+      held : AnswersWith x (Replacing.replaced new) (record { number = 0; place = 0; list = placedList next }) m₁
+      unfolding replacingAnswer holding
       held = record { answer = ap (λ (a : ProcessList). record { number = 0; place = 0; list = a }) list-is; room = room-is m₁ laid-as }
 
-  pub node-replaced : (v : Verdict) → v ≡ judged room (nodesOf next) → refusalOf v ≡ 0 → (m₁ : Room) → Stores l i node e m₀ m₁ → (r : ProcessList) → r ≡ placedList next
+  pub node-replaced : (v : Verdict) → v ≡ judged room (nodesOf next) → verdictNumber v ≡ 0 → (m₁ : Room) → Stores l i node e m₀ m₁ → (r : ProcessList) → r ≡ placedList next
       → Replaced l m₀ k e (record { number = 0; place = 0; list = r }) m₁
   node-replaced v q z m₁ h r t =
       let a : verdict room new ≡ Accepted = sym (q ∙ verdict-is) ∙ accepted-number v z in
       let b : replaceIn x k e ≡ Replacing.replaced new = answer-is ∙ ap (byVerdict new) a in
-      rw t (subst (λ (y : Replacing.Answer). Leaves x y (record { number = 0; place = 0; list = placedList next }) m₁) (sym b) (held a m₁ h))
+      rw t (subst (λ (y : Replacing.Replacing). AnswersWith x y (record { number = 0; place = 0; list = placedList next }) m₁) (sym b) (held a m₁ h))
 
 -- ---- as the code goes
 
@@ -215,11 +214,11 @@ stores l i node e m₀ m m₁ old a b u qo qa qb qu qm step r = record { step = 
 
 -- the verdict over the list with its new node: l₁ is that list, n the room's length
 module _ (l : ProcessList) (m₀ : Room) (k : ℕ) (node : Node) (e : List ℕ) (f : Fits l m₀ k node e) (l₁ : ProcessList) (ql : l₁ ≡ replacedAt l (k - 1) node) (n : ℕ) (qn : n ≡ roomLength m₀)
-    (v : Verdict) (qv : v ≡ judged n (nodesOf l₁)) (number : ℕ) (qr : number ≡ refusalOf v) where
+    (v : Verdict) (qv : v ≡ judged n (nodesOf l₁)) (number : ℕ) (qr : number ≡ verdictNumber v) where
   judged-so : v ≡ judged (roomLength m₀) (nodesOf (replacedAt l (k - 1) node))
   judged-so = qv ∙ ap (λ (m : ℕ). judged m (nodesOf l₁)) qn ∙ ap (λ (a : ProcessList). judged (roomLength m₀) (nodesOf a)) ql
 
-  pub code-refused : (number ≡ 0 → ⊥) → (place : ℕ) → place ≡ placeOf v → Replaced l m₀ k e (refusedAnswer number place l) m₀
+  pub code-refused : (number ≡ 0 → ⊥) → (place : ℕ) → place ≡ verdictPlace v → Replaced l m₀ k e (refusedAnswer number place l) m₀
   code-refused z place qp = rw (qr, qp) (node-refused l m₀ k node e f v judged-so (λ y. z (qr ∙ y)))
 
   pub code-replaced : number ≡ 0 → (m₁ : Room) → Stores l (k - 1) node e m₀ m₁ → (r : ProcessList) → r ≡ placedList l₁ → Replaced l m₀ k e (record { number = 0; place = 0; list = r }) m₁

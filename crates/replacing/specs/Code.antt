@@ -1,4 +1,5 @@
 -- What a replacing call answers and leaves, for the code's records.
+use Rattle.process_list.specs.List.{Element}
 use mathlib.Core.Path.{_≡_}
 use mathlib.Core.Bool.{Bool, true, cond}
 use mathlib.Core.List.{List, []}
@@ -13,7 +14,6 @@ use Rattle.room.specs.Room.{Room, resizedIn}
 use Rattle.valid.specs.Valid.{isValid}
 use Rattle.xml.specs.declared.Scan.{Scan}
 use Rattle.xml.specs.declared.Scan.the-variants as Scans
-use Rattle.clf.specs.Nodes.{NodeRead}
 use Rattle.clf.specs.Reading.{mostBytes, isNumbered}
 use Rattle.node_parts.specs.declared.NodeStep.{NodeStep}
 use Rattle.node_parts.specs.Code.{NodeReads}
@@ -27,21 +27,21 @@ use Rattle.look.specs.Look.{Look, replaceIn, lookAfter}
 -- ---- what a call answers
 
 -- the refusal number, 0 for accepted, and its place
-abbrev pub numberOf : Replacing.Answer → ℕ
-numberOf (Replacing.replaced es) = 0
-numberOf (Replacing.refused n p) = n
+abbrev pub replacingNumber : Replacing.Replacing → ℕ
+replacingNumber (Replacing.replaced es) = 0
+replacingNumber (Replacing.refused n p) = n
 
-abbrev pub placeOf : Replacing.Answer → ℕ
-placeOf (Replacing.replaced es) = 0
-placeOf (Replacing.refused n p) = p
+abbrev pub replacingPlace : Replacing.Replacing → ℕ
+replacingPlace (Replacing.replaced es) = 0
+replacingPlace (Replacing.refused n p) = p
 
 -- and the list after the call, for the look x: 'Any other refusal changes nothing'
-unfoldable pub answerOf : Look → Replacing.Answer → Answer
-answerOf x a = record { number = numberOf a; place = placeOf a; list = lookAfter x a .list }
+unfoldable pub replacingAnswer : Look → Replacing.Replacing → Answer
+replacingAnswer x a = record { number = replacingNumber a; place = replacingPlace a; list = lookAfter x a .list }
 
 -- the answer r where the call on the look x answers a, and the whole room after it
-pub record Leaves (x : Look) (a : Replacing.Answer) (r : Answer) (m₁ : Room) : Type 0 where
-  pub answer : r ≡ answerOf x a
+pub record AnswersWith (x : Look) (a : Replacing.Replacing) (r : Answer) (m₁ : Room) : Type 0 where
+  pub answer : r ≡ replacingAnswer x a
   pub room : m₁ ≡ lookAfter x a .room
 
 abbrev pub lookOf : ProcessList → Room → Look
@@ -49,7 +49,7 @@ lookOf l m = record { list = l; room = m }
 
 -- the call on this list and this room, for node k and the element e
 abbrev pub Replaced : ProcessList → Room → ℕ → List ℕ → Answer → Room → Type 0
-Replaced l m₀ k e r m₁ = Leaves (lookOf l m₀) (replaceIn (lookOf l m₀) k e) r m₁
+Replaced l m₀ k e r m₁ = AnswersWith (lookOf l m₀) (replaceIn (lookOf l m₀) k e) r m₁
 
 -- ---- what the small steps of the code do
 
@@ -97,7 +97,7 @@ pub record Callable (l : ProcessList) (m : Room) (k : ℕ) (e : List ℕ) : Type
 -- and whose element has no fault, and this node
 pub record Fits (l : ProcessList) (m : Room) (k : ℕ) (node : Node) (e : List ℕ) : Type 0 where
   pub callable : Callable l m k e
-  pub value : NodeRead
+  pub value : Element
   pub out : element .run e ≡ done value []
-  pub is : node ≡ Lists.nodeOf (value .element)
-  pub all : length (value .element .numbers) ≡ Lists.numbersOf (value .element .kind)
+  pub is : node ≡ Lists.nodeOf value
+  pub all : length (value .numbers) ≡ Lists.numbersOf (value .kind)

@@ -8,7 +8,7 @@ use lib.ListN.{length, getD}
 use Rattle.fields.specs.declared.Field.{Field}
 use Rattle.fields.specs.declared.Parsed.{Parsed}
 use Rattle.fields.specs.declared.Parsed.the-variants as Parses
-use Rattle.fields.specs.Fields.{fieldFrom, numberOf}
+use Rattle.fields.specs.Fields.{fieldFrom, wordNumber}
 use Rattle.tags.specs.Code.{partIn}
 use Rattle.shell_text.specs.declared.Command.{Command}
 use Rattle.shell_text.specs.declared.Decoded.{Decoded}
@@ -28,15 +28,15 @@ module _ (letter : ℕ) (s : List ℕ) (f : Field) (ef : f ≡ fieldFrom s 2) (x
   end-is : f .end ≡ firstEnd s
   end-is = ap (λ (y : Field). y .end) ef
 
-  module _ (w : List ℕ) (ew : w ≡ partIn s (f .start) (f .end)) (ex : x ≡ numberOf w) where
-    number-is : x ≡ numberOf (partIn s (firstStart s) (firstEnd s))
-    number-is = ex ∙ ap numberOf (ew ∙ ap (λ (k : ℕ). partIn s k (f .end)) start-is ∙ ap (λ (k : ℕ). partIn s (firstStart s) k) end-is)
+  module _ (w : List ℕ) (ew : w ≡ partIn s (f .start) (f .end)) (ex : x ≡ wordNumber w) where
+    number-is : x ≡ wordNumber (partIn s (firstStart s) (firstEnd s))
+    number-is = ex ∙ ap wordNumber (ew ∙ ap (λ (k : ℕ). partIn s k (f .end)) start-is ∙ ap (λ (k : ℕ). partIn s (firstStart s) k) end-is)
 
     pub says-numbered : (n : ℕ) (s' : List ℕ) (d : Decoded) (r : Command) → x ≡ Parses.Number n → DecodesLast s (f .end) s' d → r ≡ withBytes letter n d
         → Says (numberedOf letter s) (numberedLeft s) r s'
     unfolding numberedOf numberedLeft numberedBy numberedFrom
     says-numbered n s' d r g h e =
-        let q : numberOf (partIn s (firstStart s) (firstEnd s)) ≡ Parses.Number n = sym number-is ∙ g in
+        let q : wordNumber (partIn s (firstStart s) (firstEnd s)) ≡ Parses.Number n = sym number-is ∙ g in
         record {
           command = e ∙ ap (withBytes letter n) (h .says ∙ ap (lastOf s) end-is) ∙ sym (ap (numberedBy letter s) q);
           left = h .line ∙ ap (lastLeft s) end-is ∙ sym (ap (numberedFrom s) q);
@@ -45,7 +45,7 @@ module _ (letter : ℕ) (s : List ℕ) (f : Field) (ef : f ≡ fieldFrom s 2) (x
     pub says-no-number : (r : Command) → x ≡ Parses.Malformed → r ≡ unknown → Says (numberedOf letter s) (numberedLeft s) r s
     unfolding numberedOf numberedLeft numberedBy numberedFrom
     says-no-number r g e =
-        let q : numberOf (partIn s (firstStart s) (firstEnd s)) ≡ Parses.Malformed = sym number-is ∙ g in
+        let q : wordNumber (partIn s (firstStart s) (firstEnd s)) ≡ Parses.Malformed = sym number-is ∙ g in
         record { command = e ∙ sym (ap (numberedBy letter s) q); left = sym (ap (numberedFrom s) q) }
 
   module _ (ex : x ≡ lastNumber s (f .end)) where

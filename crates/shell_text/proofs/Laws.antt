@@ -20,7 +20,7 @@ use Rattle.text_out.proofs.Laws.{puts-as, puts-then}
 use Rattle.decimal.specs.Decimal.{size}
 use Rattle.decimal_write.specs.Written.{digits, whole}
 use Rattle.fields.specs.declared.Field.{Field}
-use Rattle.fields.specs.Fields.{fieldFrom, numberOf}
+use Rattle.fields.specs.Fields.{fieldFrom, wordNumber}
 use Rattle.tags.specs.Code.{partIn}
 use Rattle.shell_text.specs.declared.Decoded.{Decoded}
 use Rattle.shell_text.specs.declared.Decoded.the-variants as Hexes
@@ -175,9 +175,9 @@ module _ (s : List ℕ) (at : ℕ) (f g : Field) (ef : f ≡ fieldFrom s at) (eg
   unfolding lastNumber
   no-last-number h = rw (not-last h)
 
-  pub last-number : (w : List ℕ) (r : Parsed) → g .end ≤ g .start → w ≡ partIn s (f .start) (f .end) → r ≡ numberOf w → r ≡ lastNumber s at
+  pub last-number : (w : List ℕ) (r : Parsed) → g .end ≤ g .start → w ≡ partIn s (f .start) (f .end) → r ≡ wordNumber w → r ≡ lastNumber s at
   unfolding lastNumber
-  last-number w r h ew er = er ∙ ap numberOf (ew ∙ ap (λ (k : ℕ). partIn s k (f .end)) start-is ∙ ap (λ (k : ℕ). partIn s (fieldFrom s at .start) k) end-is) ∙ (rw (is-last h))
+  last-number w r h ew er = er ∙ ap wordNumber (ew ∙ ap (λ (k : ℕ). partIn s k (f .end)) start-is ∙ ap (λ (k : ℕ). partIn s (fieldFrom s at .start) k) end-is) ∙ (rw (is-last h))
 
 -- ---- a word decoded in place: w₀ at first, w after i bytes
 pub record Passed (w₀ w : List ℕ) (i : ℕ) : Type 0 where

@@ -7,7 +7,7 @@ use lib.Dec.{eqb, leb}
 use lib.ListN.{length, getD}
 use Rattle.fields.specs.declared.Parsed.{Parsed}
 use Rattle.fields.specs.declared.Parsed.the-variants as Parses
-use Rattle.fields.specs.Fields.{fieldFrom, numberOf}
+use Rattle.fields.specs.Fields.{fieldFrom, wordNumber}
 use Rattle.tags.specs.Code.{partIn}
 use Rattle.shell_text.specs.declared.Command.{Command}
 use Rattle.shell_text.specs.declared.Decoded.{Decoded}
@@ -52,10 +52,10 @@ numberedFrom s (Parses.Number n) = lastLeft s (firstEnd s)
 numberedFrom s Parses.Malformed = s
 
 unfoldable pub numberedOf : ℕ → List ℕ → Command
-numberedOf letter s = numberedBy letter s (numberOf (partIn s (firstStart s) (firstEnd s)))
+numberedOf letter s = numberedBy letter s (wordNumber (partIn s (firstStart s) (firstEnd s)))
 
 unfoldable pub numberedLeft : List ℕ → List ℕ
-numberedLeft s = numberedFrom s (numberOf (partIn s (firstStart s) (firstEnd s)))
+numberedLeft s = numberedFrom s (wordNumber (partIn s (firstStart s) (firstEnd s)))
 
 -- `W IDHEX OUTLEN`
 unfoldable pub underBy : ℕ → List ℕ → Parsed → Command

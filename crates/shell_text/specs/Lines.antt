@@ -5,7 +5,7 @@ use Prim.Native.Nat.{ℕ, _+_}
 use lib.Dec.{eqb, ltb}
 use Rattle.fields.specs.declared.Parsed.{Parsed}
 use Rattle.fields.specs.declared.Parsed.the-variants.{Malformed}
-use Rattle.fields.specs.Fields.{fieldFrom, numberOf}
+use Rattle.fields.specs.Fields.{fieldFrom, wordNumber}
 use Rattle.tags.specs.Code.{partIn}
 use Rattle.shell_text.specs.Hex.{isLast}
 
@@ -21,7 +21,7 @@ isTooLong number room length = eqb number 17 && ltb room length
 
 -- the number in the last field from `at` on
 unfoldable pub lastNumber : List ℕ → ℕ → Parsed
-lastNumber s at = cond (isLast s at) (numberOf (partIn s (fieldFrom s at .start) (fieldFrom s at .end))) Malformed
+lastNumber s at = cond (isLast s at) (wordNumber (partIn s (fieldFrom s at .start) (fieldFrom s at .end))) Malformed
 
 -- the place of the first line feed (10) of l, which stands from `at` on, or its end
 unfoldable pub lineEnd : ℕ → List ℕ → ℕ

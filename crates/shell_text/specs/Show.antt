@@ -1,5 +1,5 @@
 -- The pieces of an answer (tests/PROTOCOL.md): `NUM PLACE`; of STATE a node, `;KIND,IN,OUT,STYLE,SHAPE,AT`, and a number, `coefficient:power`. Definitions only.
--- Each text is written in front of what follows it: `nodeText n t` is the text of the node n, then t.
+-- Each text is written in front of what follows it: `shownNode n t` is the text of the node n, then t.
 use mathlib.Core.Bool.{Bool, cond}
 use mathlib.Core.List.{List, _++_}
 use Prim.Native.Nat.{ℕ}
@@ -13,12 +13,12 @@ use Rattle.xml.specs.Bytes.{bytes}
 use Rattle.written_form.specs.Written.{depthText, nameText}
 
 -- `NUM PLACE`
-unfoldable pub answerText : ℕ → ℕ → List ℕ → List ℕ
-answerText number place t = digits number ++ (bytes " " ++ (digits place ++ t))
+unfoldable pub shownAnswer : ℕ → ℕ → List ℕ → List ℕ
+shownAnswer number place t = digits number ++ (bytes " " ++ (digits place ++ t))
 
 -- `,IN,OUT,`
-unfoldable pub depthsText : Depth → Depth → List ℕ → List ℕ
-depthsText input output t = bytes "," ++ (depthText input ++ (bytes "," ++ (depthText output ++ (bytes "," ++ t))))
+unfoldable pub shownDepths : Depth → Depth → List ℕ → List ℕ
+shownDepths input output t = bytes "," ++ (depthText input ++ (bytes "," ++ (depthText output ++ (bytes "," ++ t))))
 
 unfoldable pub oneOf : Bool → List ℕ → List ℕ → List ℕ
 oneOf first this other = cond first this other
@@ -35,8 +35,8 @@ formText (Range clamp) t = oneOf clamp (bytes "Clamp,-") (bytes "noClamp,-") ++ 
 formText (Cdl clamp) t = oneOf clamp (bytes "Fwd,-") (bytes "FwdNoClamp,-") ++ t
 
 -- `;KIND,IN,OUT,STYLE,SHAPE,AT`: 'AT the index of its first number'
-unfoldable pub nodeText : Node → List ℕ → List ℕ
-nodeText n t = bytes ";" ++ (nameText (n .kind) ++ depthsText (n .input) (n .output) (formText (n .kind) (bytes "," ++ (digits (n .at) ++ t))))
+unfoldable pub shownNode : Node → List ℕ → List ℕ
+shownNode n t = bytes ";" ++ (nameText (n .kind) ++ shownDepths (n .input) (n .output) (formText (n .kind) (bytes "," ++ (digits (n .at) ++ t))))
 
 -- `coefficient:power`
 unfoldable pub decimalText : ℤ → ℤ → List ℕ → List ℕ

@@ -13,7 +13,7 @@ use text_out::put_digits;
 
 // The refusal number and its place.
 pub fn put_answer(out: &mut [u8], at: usize, number: u8, place: usize) -> usize
-    ensures { λ r. ⌜ Puts (Show.answerText number place) at (now (out .entry)) (now (out .exit)) r ⌝ }
+    ensures { λ r. ⌜ Puts (Show.shownAnswer number place) at (now (out .entry)) (now (out .exit)) r ⌝ }
 {
     let a = put_digits(out, at, number as usize);
     let b = put(out, a, b" ");
@@ -35,7 +35,7 @@ fn put_depth(out: &mut [u8], at: usize, depth: Depth) -> usize
 
 // Both depths, a comma before and behind each.
 fn put_depths(out: &mut [u8], at: usize, input: Depth, output: Depth) -> usize
-    ensures { λ r. ⌜ Puts (Show.depthsText input output) at (now (out .entry)) (now (out .exit)) r ⌝ }
+    ensures { λ r. ⌜ Puts (Show.shownDepths input output) at (now (out .entry)) (now (out .exit)) r ⌝ }
 {
     let a = put(out, at, b",");
     let b = put_depth(out, a, input);
@@ -92,7 +92,7 @@ fn put_form(out: &mut [u8], at: usize, kind: Kind) -> usize
 
 // A node of a list.
 pub fn put_node(out: &mut [u8], at: usize, node: Node) -> usize
-    ensures { λ r. ⌜ Puts (Show.nodeText node) at (now (out .entry)) (now (out .exit)) r ⌝ }
+    ensures { λ r. ⌜ Puts (Show.shownNode node) at (now (out .entry)) (now (out .exit)) r ⌝ }
 {
     let kind = node.kind;
     let input = node.input;

@@ -1,6 +1,6 @@
 pub mod Words
 pub mod Dims
 pub mod Lists
-pub mod Attributes
+pub mod AttributeLaws
 pub mod Standing
 pub mod Ends

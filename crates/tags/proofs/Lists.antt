@@ -13,7 +13,7 @@ use Rattle.grammar.specs.Laws.{nope}
 use Rattle.xml.specs.Bytes.{same}
 use Rattle.xml.specs.Xml.{Attribute, isNamed, textOf}
 use Rattle.tags.specs.Code.{partIn, attributeAt, firstOnes, attributesOf, noAttributes, withAttribute, firstNamed, spanAt, textPlace, TextStands, IndexOf}
-use Rattle.tags.specs.declared.Seen.{Seen}
+use Rattle.tags.specs.declared.Attributes.{Attributes}
 use Rattle.tags.proofs.Words.{part-nothing}
 
 -- ---- the first ones of a sequence
@@ -101,23 +101,23 @@ first-here w a r h = rw h
 
 -- ---- the search over the indices: none of the first i has the name
 
-abbrev pub NoneOf : List ℕ → Seen → List ℕ → ℕ → Type 0
-NoneOf s seen w i = isNamed w (firstOnes (attributeAt s seen) i) ≡ false
+abbrev pub NoneOf : List ℕ → Attributes → List ℕ → ℕ → Type 0
+NoneOf s attributes w i = isNamed w (firstOnes (attributeAt s attributes) i) ≡ false
 
-pub none-start : (s : List ℕ) (seen : Seen) (w : List ℕ) → NoneOf s seen w 0
+pub none-start : (s : List ℕ) (attributes : Attributes) (w : List ℕ) → NoneOf s attributes w 0
 unfolding isNamed
-none-start s seen w = refl
+none-start s attributes w = refl
 
-pub none-more : (s : List ℕ) (seen : Seen) (w : List ℕ) (i : ℕ) → NoneOf s seen w i → same w ((attributeAt s seen i) .name) ≡ false → NoneOf s seen w (i + 1)
-none-more s seen w i h q =
-    rw add-one (named-skip w (firstOnes (attributeAt s seen) i) (attributeAt s seen i ∷ []) h ∙ named-none w (attributeAt s seen i) q)
+pub none-more : (s : List ℕ) (attributes : Attributes) (w : List ℕ) (i : ℕ) → NoneOf s attributes w i → same w ((attributeAt s attributes i) .name) ≡ false → NoneOf s attributes w (i + 1)
+none-more s attributes w i h q =
+    rw add-one (named-skip w (firstOnes (attributeAt s attributes) i) (attributeAt s attributes i ∷ []) h ∙ named-none w (attributeAt s attributes i) q)
 
 -- it is found at i
-pub index-found : (s : List ℕ) (seen : Seen) (w : List ℕ) (i : ℕ) → NoneOf s seen w i → i < seen .count → i < 16 → same w ((attributeAt s seen i) .name) ≡ true → IndexOf s seen w i
+pub index-found : (s : List ℕ) (attributes : Attributes) (w : List ℕ) (i : ℕ) → NoneOf s attributes w i → i < attributes .count → i < 16 → same w ((attributeAt s attributes i) .name) ≡ true → IndexOf s attributes w i
 unfolding attributesOf
-index-found s seen w i h k k₂ q =
-    let f : ℕ → Attribute = attributeAt s seen in
-    let t = ones-split f i (min (seen .count) 16) (omega arith) in
+index-found s attributes w i h k k₂ q =
+    let f : ℕ → Attribute = attributeAt s attributes in
+    let t = ones-split f i (min (attributes .count) 16) (omega arith) in
     record {
       first = λ z. sym (ap (firstNamed w) (t .1) ∙ first-skip w (firstOnes f i) (f i ∷ t .0) h ∙ omega (arith, length-ones f i, first-here w (f i) (t .0) q));
       named = ap (isNamed w) (t .1) ∙ named-skip w (firstOnes f i) (f i ∷ t .0) h ∙ named-first w (f i) (t .0) q ∙ sym (lt-ltb i 16 k₂);
@@ -126,47 +126,47 @@ index-found s seen w i h k k₂ q =
     }
 
 -- it is not there
-pub index-none : (s : List ℕ) (seen : Seen) (w : List ℕ) (i : ℕ) → NoneOf s seen w i → i ≡ min (seen .count) 16 → IndexOf s seen w 16
+pub index-none : (s : List ℕ) (attributes : Attributes) (w : List ℕ) (i : ℕ) → NoneOf s attributes w i → i ≡ min (attributes .count) 16 → IndexOf s attributes w 16
 unfolding attributesOf
-index-none s seen w i h e =
-    let f : ℕ → Attribute = attributeAt s seen in
-    let n : isNamed w (attributesOf s seen) ≡ false = ap (λ (m : ℕ). isNamed w (firstOnes f m)) (sym e) ∙ h in
-    record { first = λ z. absurd (omega arith); named = n; found = λ z. absurd (omega arith); missing = λ z. text-none w (attributesOf s seen) n }
+index-none s attributes w i h e =
+    let f : ℕ → Attribute = attributeAt s attributes in
+    let n : isNamed w (attributesOf s attributes) ≡ false = ap (λ (m : ℕ). isNamed w (firstOnes f m)) (sym e) ∙ h in
+    record { first = λ z. absurd (omega arith); named = n; found = λ z. absurd (omega arith); missing = λ z. text-none w (attributesOf s attributes) n }
 
 -- where its text stands
-module _ (s : List ℕ) (seen : Seen) (w : List ℕ) (i : ℕ) (v : IndexOf s seen w i) where
-  pub text-found : i < 16 → TextStands s seen w (spanAt seen i)
+module _ (s : List ℕ) (attributes : Attributes) (w : List ℕ) (i : ℕ) (v : IndexOf s attributes w i) where
+  pub text-found : i < 16 → TextStands s attributes w (spanAt attributes i)
   unfolding textPlace
   text-found h = record {
-    span = sym (ap (λ (t : Bool). cond t (spanAt seen (firstNamed w (attributesOf s seen))) (record { start = 0; end = 0 })) (v .named ∙ lt-ltb i 16 h)
-        ∙ ap (spanAt seen) (sym (v .first h)));
+    span = sym (ap (λ (t : Bool). cond t (spanAt attributes (firstNamed w (attributesOf s attributes))) (record { start = 0; end = 0 })) (v .named ∙ lt-ltb i 16 h)
+        ∙ ap (spanAt attributes) (sym (v .first h)));
     text = sym (v .found h);
   }
 
-  pub text-missing : 16 ≤ i → TextStands s seen w (record { start = 0; end = 0 })
+  pub text-missing : 16 ≤ i → TextStands s attributes w (record { start = 0; end = 0 })
   unfolding textPlace
   text-missing h = record {
-    span = sym (ap (λ (t : Bool). cond t (spanAt seen (firstNamed w (attributesOf s seen))) (record { start = 0; end = 0 })) (v .named ∙ le-ltb i 16 h));
+    span = sym (ap (λ (t : Bool). cond t (spanAt attributes (firstNamed w (attributesOf s attributes))) (record { start = 0; end = 0 })) (v .named ∙ le-ltb i 16 h));
     text = part-nothing s ∙ sym (v .missing h);
   }
 
-pub length-attributes : (s : List ℕ) (seen : Seen) → length (attributesOf s seen) ≡ min (seen .count) 16
+pub length-attributes : (s : List ℕ) (attributes : Attributes) → length (attributesOf s attributes) ≡ min (attributes .count) 16
 unfolding attributesOf
-length-attributes s seen = length-ones (attributeAt s seen) (min (seen .count) 16)
+length-attributes s attributes = length-ones (attributeAt s attributes) (min (attributes .count) 16)
 
-pub sixteen : (s : List ℕ) (seen : Seen) → 16 ≤ seen .count → leb 16 (length (attributesOf s seen)) ≡ true
-sixteen s seen h = le-leb 16 (length (attributesOf s seen)) (omega (arith, length-attributes s seen))
+pub sixteen : (s : List ℕ) (attributes : Attributes) → 16 ≤ attributes .count → leb 16 (length (attributesOf s attributes)) ≡ true
+sixteen s attributes h = le-leb 16 (length (attributesOf s attributes)) (omega (arith, length-attributes s attributes))
 
-pub fewer : (s : List ℕ) (seen : Seen) → seen .count < 16 → leb 16 (length (attributesOf s seen)) ≡ false
-fewer s seen h = lt-leb 16 (length (attributesOf s seen)) (omega (arith, length-attributes s seen))
+pub fewer : (s : List ℕ) (attributes : Attributes) → attributes .count < 16 → leb 16 (length (attributesOf s attributes)) ≡ false
+fewer s attributes h = lt-leb 16 (length (attributesOf s attributes)) (omega (arith, length-attributes s attributes))
 
 -- ---- one attribute more
 
-pub record Sized (seen : Seen) : Type 0 where
-  pub starts : length (seen .«name_start») ≡ 16
-  pub ends : length (seen .«name_end») ≡ 16
-  pub texts : length (seen .«text_start») ≡ 16
-  pub behind : length (seen .«text_end») ≡ 16
+pub record Sized (attributes : Attributes) : Type 0 where
+  pub starts : length (attributes .«name_start») ≡ 16
+  pub ends : length (attributes .«name_end») ≡ 16
+  pub texts : length (attributes .«text_start») ≡ 16
+  pub behind : length (attributes .«text_end») ≡ 16
 
 pub sized-none : Sized noAttributes
 sized-none = record { starts = refl; ends = refl; texts = refl; behind = refl }
@@ -176,50 +176,50 @@ unfolding attributesOf
 attributes-none s = refl
 
 -- a list with room for one more
-abbrev grown : Seen → ℕ → ℕ → ℕ → ℕ → Seen
-grown seen a b c d = record {
-  count = seen .count + 1;
-  «name_start» = set (seen .«name_start») (seen .count) a;
-  «name_end» = set (seen .«name_end») (seen .count) b;
-  «text_start» = set (seen .«text_start») (seen .count) c;
-  «text_end» = set (seen .«text_end») (seen .count) d;
+abbrev grown : Attributes → ℕ → ℕ → ℕ → ℕ → Attributes
+grown attributes a b c d = record {
+  count = attributes .count + 1;
+  «name_start» = set (attributes .«name_start») (attributes .count) a;
+  «name_end» = set (attributes .«name_end») (attributes .count) b;
+  «text_start» = set (attributes .«text_start») (attributes .count) c;
+  «text_end» = set (attributes .«text_end») (attributes .count) d;
 }
 
-with-grown : (seen : Seen) (a b c d : ℕ) → seen .count < 16 → withAttribute seen a b c d ≡ grown seen a b c d
+with-grown : (attributes : Attributes) (a b c d : ℕ) → attributes .count < 16 → withAttribute attributes a b c d ≡ grown attributes a b c d
 unfolding withAttribute
-with-grown seen a b c d h = ap (λ (v : Bool). cond v (grown seen a b c d) seen) (lt-ltb (seen .count) 16 h)
+with-grown attributes a b c d h = ap (λ (v : Bool). cond v (grown attributes a b c d) attributes) (lt-ltb (attributes .count) 16 h)
 
-pub sized-more : (seen : Seen) (a b c d : ℕ) → seen .count < 16 → Sized seen → Sized (withAttribute seen a b c d)
-sized-more seen a b c d h z = rw (with-grown seen a b c d h) (record {
+pub sized-more : (attributes : Attributes) (a b c d : ℕ) → attributes .count < 16 → Sized attributes → Sized (withAttribute attributes a b c d)
+sized-more attributes a b c d h z = rw (with-grown attributes a b c d h) (record {
   starts = simp length-set (z .starts);
   ends = simp length-set (z .ends);
   texts = simp length-set (z .texts);
   behind = simp length-set (z .behind);
 })
 
-module _ (s : List ℕ) (seen : Seen) (a b c d : ℕ) (h : seen .count < 16) (z : Sized seen) where
+module _ (s : List ℕ) (attributes : Attributes) (a b c d : ℕ) (h : attributes .count < 16) (z : Sized attributes) where
   -- the attributes before it stay
-  grown-before : (k : ℕ) → k < seen .count → attributeAt s (grown seen a b c d) k ≡ attributeAt s seen k
+  grown-before : (k : ℕ) → k < attributes .count → attributeAt s (grown attributes a b c d) k ≡ attributeAt s attributes k
   grown-before k q =
-      let n : (k ≡ seen .count → ⊥) = omega arith in
+      let n : (k ≡ attributes .count → ⊥) = omega arith in
       simp (getD-set-other, n)
 
-  grown-last : attributeAt s (grown seen a b c d) (seen .count) ≡ record { name = partIn s a b; text = partIn s c d }
+  grown-last : attributeAt s (grown attributes a b c d) (attributes .count) ≡ record { name = partIn s a b; text = partIn s c d }
   grown-last =
-      let k₁ : seen .count < length (seen .«name_start») = omega (arith, z .starts) in
-      let k₂ : seen .count < length (seen .«name_end») = omega (arith, z .ends) in
-      let k₃ : seen .count < length (seen .«text_start») = omega (arith, z .texts) in
-      let k₄ : seen .count < length (seen .«text_end») = omega (arith, z .behind) in
+      let k₁ : attributes .count < length (attributes .«name_start») = omega (arith, z .starts) in
+      let k₂ : attributes .count < length (attributes .«name_end») = omega (arith, z .ends) in
+      let k₃ : attributes .count < length (attributes .«text_start») = omega (arith, z .texts) in
+      let k₄ : attributes .count < length (attributes .«text_end») = omega (arith, z .behind) in
       simp getD-set-same
 
-  pub attributes-more : attributesOf s (withAttribute seen a b c d) ≡ attributesOf s seen ++ (record { name = partIn s a b; text = partIn s c d } ∷ [])
+  pub attributes-more : attributesOf s (withAttribute attributes a b c d) ≡ attributesOf s attributes ++ (record { name = partIn s a b; text = partIn s c d } ∷ [])
   unfolding attributesOf
   attributes-more =
-      let n : ℕ = seen .count in
+      let n : ℕ = attributes .count in
       let e : min (n + 1) 16 ≡ suc n = omega arith in
       let e₂ : n ≡ min n 16 = omega arith in
-      ap (λ (x : Seen). firstOnes (attributeAt s x) (min (x .count) 16)) (with-grown seen a b c d h)
-      ∙ ap (λ (m : ℕ). firstOnes (attributeAt s (grown seen a b c d)) m) e
-      ∙ ap (λ (x : Attribute). firstOnes (attributeAt s (grown seen a b c d)) n ++ (x ∷ [])) grown-last
-      ∙ ap (λ (l : List Attribute). l ++ (record { name = partIn s a b; text = partIn s c d } ∷ [])) (ones-same (attributeAt s (grown seen a b c d)) (attributeAt s seen) n grown-before)
-      ∙ ap (λ (m : ℕ). firstOnes (attributeAt s seen) m ++ (record { name = partIn s a b; text = partIn s c d } ∷ [])) e₂
+      ap (λ (x : Attributes). firstOnes (attributeAt s x) (min (x .count) 16)) (with-grown attributes a b c d h)
+      ∙ ap (λ (m : ℕ). firstOnes (attributeAt s (grown attributes a b c d)) m) e
+      ∙ ap (λ (x : Attribute). firstOnes (attributeAt s (grown attributes a b c d)) n ++ (x ∷ [])) grown-last
+      ∙ ap (λ (l : List Attribute). l ++ (record { name = partIn s a b; text = partIn s c d } ∷ [])) (ones-same (attributeAt s (grown attributes a b c d)) (attributeAt s attributes) n grown-before)
+      ∙ ap (λ (m : ℕ). firstOnes (attributeAt s attributes) m ++ (record { name = partIn s a b; text = partIn s c d } ∷ [])) e₂

@@ -11,8 +11,8 @@ use Rattle.xml.specs.Bytes.{bytes, same, isSpace, isLetter, isDigit, isNameByte
 use Rattle.xml.specs.Xml.{spaces, name, text, plain, isNamed, attribute, startTag, Attribute}
 use Rattle.xml.specs.Code.{part}
 use Rattle.tags.specs.Code.{toQuote, noAttributes, withAttribute, AttributeInside}
-use Rattle.tags.specs.Places.{placeBehind, seenFrom, seenOf}
-use Rattle.tags.specs.declared.Seen.{Seen}
+use Rattle.tags.specs.Places.{placeBehind, attributePlacesFrom, attributePlaces}
+use Rattle.tags.specs.declared.Attributes.{Attributes}
 use Rattle.tags.specs.declared.AttributeRead.the-variants as Reads
 
 module _ (s : List ℕ) (i : ℕ) (h : i < length s) where
@@ -41,16 +41,16 @@ module _ (s : List ℕ) (i : ℕ) (h : i < length s) where
       ∙ omega (arith, ap length (here s i h), length-drop i s)
 
   -- white space before the attributes that are left
-  pub seen-space : isSpace (getD s i 0) ≡ true → (l : List Attribute) (seen : Seen) → seenFrom s i l seen ≡ seenFrom s (i + 1) l seen
-  unfolding seenFrom
-  seen-space q [] seen = refl
-  seen-space q (a ∷ l) seen = rw (space-on q) refl
+  pub attributes-space : isSpace (getD s i 0) ≡ true → (l : List Attribute) (attributes : Attributes) → attributePlacesFrom s i l attributes ≡ attributePlacesFrom s (i + 1) l attributes
+  unfolding attributePlacesFrom
+  attributes-space q [] attributes = refl
+  attributes-space q (a ∷ l) attributes = rw (space-on q) refl
 
   -- the first of the attributes that are left stands here
-  pub seen-attribute : isSpace (getD s i 0) ≡ false → (e a t : ℕ) → AttributeInside s i (Reads.At e a t) → (l : List Attribute) (seen : Seen)
-      → seenFrom s i (record { name = part s i e; text = part s a t } ∷ l) seen ≡ seenFrom s (t + 1) l (withAttribute seen i e a t)
-  unfolding seenFrom
-  seen-attribute q e a t v l seen =
+  pub attributes-attribute : isSpace (getD s i 0) ≡ false → (e a t : ℕ) → AttributeInside s i (Reads.At e a t) → (l : List Attribute) (attributes : Attributes)
+      → attributePlacesFrom s i (record { name = part s i e; text = part s a t } ∷ l) attributes ≡ attributePlacesFrom s (t + 1) l (withAttribute attributes i e a t)
+  unfolding attributePlacesFrom
+  attributes-attribute q e a t v l attributes =
       let n : behindSpaces i ≡ i = space-here q in
       let x : i + length (part s i e) ≡ e = omega (arith, v, part-length s i e (omega (arith, v)) (omega (arith, v))) in
       let y : placeBehind s (toQuote .run (drop e s)) ≡ a = ap (placeBehind s) (v .4) ∙ simp length-drop (omega (arith, v)) in
@@ -58,6 +58,6 @@ module _ (s : List ℕ) (i : ℕ) (h : i < length s) where
       rw (n, x, y, z) refl
 
 -- a tag with two attributes behind its name, at place 2 of the bytes: the first one's name stands from 3 to 4, its text from 8 to 9; the second's from 11 to 13 and from 15 to 15
-shown : seenOf (bytes "<t a = 'x' bc=\"\"/>") 2 ((startTag plain) .run (drop 2 (bytes "<t a = 'x' bc=\"\"/>"))) ≡ withAttribute (withAttribute noAttributes 3 4 8 9) 11 13 15 15
-unfolding seenFrom startTag attribute name spaces text isSpace isLetter isNameByte isQuote same loopP isNamed withAttribute isDigit
+shown : attributePlaces (bytes "<t a = 'x' bc=\"\"/>") 2 ((startTag plain) .run (drop 2 (bytes "<t a = 'x' bc=\"\"/>"))) ≡ withAttribute (withAttribute noAttributes 3 4 8 9) 11 13 15 15
+unfolding attributePlacesFrom startTag attribute name spaces text isSpace isLetter isNameByte isQuote same loopP isNamed withAttribute isDigit
 shown = refl

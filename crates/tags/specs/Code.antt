@@ -15,7 +15,7 @@ use Rattle.xml.specs.Xml.{byte, word, spaces, textTo, Attribute, isNamed, textO
 use Rattle.xml.specs.Code.{part}
 use Rattle.clf.specs.Nodes.{wholeFrom, behindDigits}
 use Rattle.tags.specs.declared.Digits.{Digits}
-use Rattle.tags.specs.declared.Seen.{Seen}
+use Rattle.tags.specs.declared.Attributes.{Attributes}
 use Rattle.tags.specs.declared.Span.{Span}
 use Rattle.tags.specs.declared.TagEnd.{TagEnd}
 use Rattle.tags.specs.declared.TagEnd.the-variants as Ends
@@ -32,10 +32,10 @@ unfoldable pub partIn : List ℕ → ℕ → ℕ → List ℕ
 partIn s a e = cond (leb e (length s)) (part s a e) []
 
 -- the attribute of index i
-abbrev pub attributeAt : List ℕ → Seen → ℕ → Attribute
-attributeAt s seen i = record {
-  name = partIn s (getD (seen .«name_start») i 0) (getD (seen .«name_end») i 0);
-  text = partIn s (getD (seen .«text_start») i 0) (getD (seen .«text_end») i 0);
+abbrev pub attributeAt : List ℕ → Attributes → ℕ → Attribute
+attributeAt s attributes i = record {
+  name = partIn s (getD (attributes .«name_start») i 0) (getD (attributes .«name_end») i 0);
+  text = partIn s (getD (attributes .«text_start») i 0) (getD (attributes .«text_end») i 0);
 }
 
 -- the first n of a sequence
@@ -44,8 +44,8 @@ firstOnes f zero = []
 firstOnes f (suc n) = firstOnes f n ++ f n ∷ []
 
 -- the attributes so far, sixteen at most
-unfoldable pub attributesOf : List ℕ → Seen → List Attribute
-attributesOf s seen = firstOnes (attributeAt s seen) (min (seen .count) 16)
+unfoldable pub attributesOf : List ℕ → Attributes → List Attribute
+attributesOf s attributes = firstOnes (attributeAt s attributes) (min (attributes .count) 16)
 
 -- a depth, and the shape of a table, as the definitions have them
 abbrev pub depthRead : DepthRead → Option Depth
@@ -78,7 +78,7 @@ attributeOut s at (Reads.At e a t) = done (record { name = part s at e; text = p
 attributeOut s at (Reads.Fault k p) = fault k (drop p s)
 attributeOut s at Reads.Cut = cut
 
--- its places are within the bytes, in order, and are those of its name and its text. There is one answer for every `at`: `attributePlaced` (`proofs/Attributes`: `attribute-placed`)
+-- its places are within the bytes, in order, and are those of its name and its text. There is one answer for every `at`: `attributePlaced` (`proofs/AttributeLaws`: `attribute-placed`)
 abbrev pub AttributeInside : List ℕ → ℕ → AttributeRead → Type 0
 AttributeInside s at (Reads.At e a t) = (at < e) × (e < a) × (a ≤ t) × (t < length s) × BeginsText s e a
 AttributeInside s at (Reads.Fault k p) = (at ≤ p) × (p ≤ length s)
@@ -93,11 +93,11 @@ attributePlaced at u (fault k r) = Reads.Fault k (at + (length u - length r))
 attributePlaced at u cut = Reads.Cut
 
 -- a start tag, as the grammar's answer
-abbrev pub endOut : List ℕ → Seen → TagEnd → Out Tag
-endOut s seen (Ends.Open e) = done (record { attributes = attributesOf s seen; empty = false }) (drop e s)
-endOut s seen (Ends.Empty e) = done (record { attributes = attributesOf s seen; empty = true }) (drop e s)
-endOut s seen (Ends.Fault k p) = fault k (drop p s)
-endOut s seen Ends.Cut = cut
+abbrev pub endOut : List ℕ → Attributes → TagEnd → Out Tag
+endOut s attributes (Ends.Open e) = done (record { attributes = attributesOf s attributes; empty = false }) (drop e s)
+endOut s attributes (Ends.Empty e) = done (record { attributes = attributesOf s attributes; empty = true }) (drop e s)
+endOut s attributes (Ends.Fault k p) = fault k (drop p s)
+endOut s attributes Ends.Cut = cut
 
 -- its places are within the bytes, behind `at`
 abbrev pub EndInside : List ℕ → ℕ → TagEnd → Type 0
@@ -108,7 +108,7 @@ EndInside s at Ends.Cut = Unit
 
 -- the tag with its attributes
 abbrev pub tagOut : List ℕ → StartTag → Out Tag
-tagOut s r = endOut s (r .seen) (r .end)
+tagOut s r = endOut s (r .attributes) (r .end)
 
 -- ---- what the steps of the code answer
 
@@ -119,22 +119,22 @@ pub record DigitsOf (t : List ℕ) (r : Digits) : Type 0 where
   pub rest : drop (r .end) t ≡ behindDigits t
 
 -- no attribute yet
-abbrev pub noAttributes : Seen
+abbrev pub noAttributes : Attributes
 noAttributes = record { count = 0; «name_start» = replicate 16 0; «name_end» = replicate 16 0; «text_start» = replicate 16 0; «text_end» = replicate 16 0 }
 
 -- one attribute more; a full list stays as it is
-unfoldable pub withAttribute : Seen → ℕ → ℕ → ℕ → ℕ → Seen
-withAttribute seen a b c d =
-    let n = seen .count in
+unfoldable pub withAttribute : Attributes → ℕ → ℕ → ℕ → ℕ → Attributes
+withAttribute attributes a b c d =
+    let n = attributes .count in
     cond (ltb n 16)
     (record {
       count = n + 1;
-      «name_start» = set (seen .«name_start») n a;
-      «name_end» = set (seen .«name_end») n b;
-      «text_start» = set (seen .«text_start») n c;
-      «text_end» = set (seen .«text_end») n d;
+      «name_start» = set (attributes .«name_start») n a;
+      «name_end» = set (attributes .«name_end») n b;
+      «text_start» = set (attributes .«text_start») n c;
+      «text_end» = set (attributes .«text_end») n d;
     })
-    seen
+    attributes
 
 -- the index of the first attribute of the name w, their number where there is none
 unfoldable pub firstNamed : List ℕ → List Attribute → ℕ
@@ -142,26 +142,26 @@ firstNamed w [] = 0
 firstNamed w (a ∷ l) = cond (same w (a .name)) 0 (suc (firstNamed w l))
 
 -- where the text of the attribute of index i stands
-abbrev pub spanAt : Seen → ℕ → Span
-spanAt seen i = record { start = getD (seen .«text_start») i 0; end = getD (seen .«text_end») i 0 }
+abbrev pub spanAt : Attributes → ℕ → Span
+spanAt attributes i = record { start = getD (attributes .«text_start») i 0; end = getD (attributes .«text_end») i 0 }
 
 -- where the text of the first attribute of the name w stands; 0, 0 where there is none
-unfoldable pub textPlace : List ℕ → Seen → List ℕ → Span
-textPlace s seen w =
-    let l : List Attribute = attributesOf s seen in
-    cond (isNamed w l) (spanAt seen (firstNamed w l)) (record { start = 0; end = 0 })
+unfoldable pub textPlace : List ℕ → Attributes → List ℕ → Span
+textPlace s attributes w =
+    let l : List Attribute = attributesOf s attributes in
+    cond (isNamed w l) (spanAt attributes (firstNamed w l)) (record { start = 0; end = 0 })
 
 -- the answer for it: its place, and that the text stands there
-pub record TextStands (s : List ℕ) (seen : Seen) (w : List ℕ) (r : Span) : Type 0 where
-  pub span : r ≡ textPlace s seen w
-  pub text : partIn s (r .start) (r .end) ≡ textOf w (attributesOf s seen)
+pub record TextStands (s : List ℕ) (attributes : Attributes) (w : List ℕ) (r : Span) : Type 0 where
+  pub span : r ≡ textPlace s attributes w
+  pub text : partIn s (r .start) (r .end) ≡ textOf w (attributesOf s attributes)
 
 -- the index of the first attribute of the name w, 16 where there is none
-pub record IndexOf (s : List ℕ) (seen : Seen) (w : List ℕ) (r : ℕ) : Type 0 where
-  pub first : r < 16 → r ≡ firstNamed w (attributesOf s seen)
-  pub named : isNamed w (attributesOf s seen) ≡ ltb r 16
-  pub found : r < 16 → textOf w (attributesOf s seen) ≡ (attributeAt s seen r) .text
-  pub missing : 16 ≤ r → textOf w (attributesOf s seen) ≡ []
+pub record IndexOf (s : List ℕ) (attributes : Attributes) (w : List ℕ) (r : ℕ) : Type 0 where
+  pub first : r < 16 → r ≡ firstNamed w (attributesOf s attributes)
+  pub named : isNamed w (attributesOf s attributes) ≡ ltb r 16
+  pub found : r < 16 → textOf w (attributesOf s attributes) ≡ (attributeAt s attributes r) .text
+  pub missing : 16 ≤ r → textOf w (attributesOf s attributes) ≡ []
 
 -- ---- an attribute by its parts: `attribute` is its name, then these
 
@@ -171,7 +171,7 @@ behindQuote rules w q = seq (judge (λ x. rules .texts w (x .1)) (textTo q)) (λ
 
 -- the attribute that starts at s, whose name w is followed by r
 abbrev pub named : Rules → List Attribute → List ℕ → List ℕ → List ℕ → Out Attribute
-named rules seen w r s = thenOut (verdict (nameFault rules seen w) w r s) (λ v. (seq toQuote (behindQuote rules v)) .run)
+named rules attributes w r s = thenOut (verdict (nameFault rules attributes w) w r s) (λ v. (seq toQuote (behindQuote rules v)) .run)
 
 -- the answer r, read from `at` on, is o
 pub record AttributeIs (s : List ℕ) (at : ℕ) (r : AttributeRead) (o : Out Attribute) : Type 0 where
@@ -188,7 +188,7 @@ openEnd rules l = judge (λ x. rules .opened l) eat >> ret (record { attributes 
 abbrev pub emptyEnd : Rules → List Attribute → G Tag
 emptyEnd rules l = judge (λ x. rules .emptied l) (word (bytes "/>") 2) >> ret (record { attributes = l; empty = true })
 
--- the end r, read from `at` on behind the attributes of `seen`, is o
-pub record EndIs (s : List ℕ) (seen : Seen) (at : ℕ) (r : TagEnd) (o : Out Tag) : Type 0 where
-  pub out : endOut s seen r ≡ o
+-- the end r, read from `at` on behind the attributes of `attributes`, is o
+pub record EndIs (s : List ℕ) (attributes : Attributes) (at : ℕ) (r : TagEnd) (o : Out Tag) : Type 0 where
+  pub out : endOut s attributes r ≡ o
   pub inside : EndInside s at r

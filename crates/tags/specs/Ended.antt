@@ -13,7 +13,7 @@ use Rattle.xml.specs.declared.Scan.{Scan}
 use Rattle.xml.specs.declared.Scan.the-variants.{At, Fault, Cut}
 use Rattle.tags.specs.Rules.{rulesOf}
 use Rattle.tags.specs.Code.{attributesOf, noAttributes, endOut, EndInside, tagOut}
-use Rattle.tags.specs.Places.{seenFrom, seenOf}
+use Rattle.tags.specs.Places.{attributePlacesFrom, attributePlaces}
 use Rattle.tags.specs.declared.StartTag.{StartTag}
 use Rattle.tags.specs.declared.TagEnd.{TagEnd}
 use Rattle.tags.specs.declared.TagEnd.the-variants as Ends
@@ -31,18 +31,18 @@ abbrev pub TagRead : TagKind → List ℕ → ℕ → StartTag → Type 0
 TagRead kind s at t =
     (tagOut s t ≡ (startTag (rulesOf kind)) .run (drop at s))
     × EndInside s at (t .end)
-    × (t .seen ≡ seenOf s at ((startTag (rulesOf kind)) .run (drop at s)))
+    × (t .attributes ≡ attributePlaces s at ((startTag (rulesOf kind)) .run (drop at s)))
 
 -- the same where the attributes up to a fault, or up to the end of the bytes, are kept
 abbrev pub TagStops : Rules → List ℕ → ℕ → StartTag → Type 0
 TagStops rules s at t =
     (tagOut s t ≡ (startTag rules) .run (drop at s))
     × EndInside s at (t .end)
-    × (t .seen ≡ seenFrom s at (attributesOf s (t .seen)) noAttributes)
+    × (t .attributes ≡ attributePlacesFrom s at (attributesOf s (t .attributes)) noAttributes)
 
 -- a tag of the attributes that were read
 abbrev pub tagWith : List ℕ → StartTag → Bool → Tag
-tagWith s t empty = record { attributes = attributesOf s (t .seen); empty = empty }
+tagWith s t empty = record { attributes = attributesOf s (t .attributes); empty = empty }
 
 abbrev pub isEmptied : TagEnd → Bool
 isEmptied (Ends.Open e) = false
@@ -100,7 +100,7 @@ whole cut = refl
 pub ends-as : (rules : Rules) (s : List ℕ) (at : ℕ) (t : StartTag) → tagOut s t ≡ (startTag rules) .run (drop at s) → EndInside s at (t .end) → EndsAs rules s at (t .end)
 ends-as rules s at t v i = record { out = go (t .end) ∙ ap ended v; inside = i }
   where
-    go : (end : TagEnd) → endedOut s end ≡ ended (endOut s (t .seen) end)
+    go : (end : TagEnd) → endedOut s end ≡ ended (endOut s (t .attributes) end)
     go (Ends.Open e) = refl
     go (Ends.Empty e) = refl
     go (Ends.Fault k p) = refl
@@ -143,8 +143,8 @@ module _ (rules : Rules) (s : List ℕ) (at : ℕ) (r : TagEnd) (v : EndsAs rule
 -- ---- with its attributes
 
 module _ (rules : Rules) (kind : TagKind) (r : rulesOf kind ≡ rules) (s : List ℕ) (at : ℕ) (t : StartTag) (v : TagRead kind s at t) where
-  whole-end : (end : TagEnd) → t .end ≡ end → (endOut s (t .seen) end ≡ (startTag rules) .run (drop at s)) × EndInside s at end
-  whole-end end q = (ap (endOut s (t .seen)) (sym q) ∙ v .0 ∙ ap (λ (l : Rules). (startTag l) .run (drop at s)) r, rw q at (v .1))
+  whole-end : (end : TagEnd) → t .end ≡ end → (endOut s (t .attributes) end ≡ (startTag rules) .run (drop at s)) × EndInside s at end
+  whole-end end q = (ap (endOut s (t .attributes)) (sym q) ∙ v .0 ∙ ap (λ (l : Rules). (startTag l) .run (drop at s)) r, rw q at (v .1))
 
   -- ---- by how it ended
 
@@ -166,7 +166,7 @@ module _ (rules : Rules) (kind : TagKind) (r : rulesOf kind ≡ rules) (s : List
   unfolding tagOf
   tag-reads b q = rw q (go (t .end) (whole-end (t .end) refl))
     where
-      go : (end : TagEnd) → (endOut s (t .seen) end ≡ (startTag rules) .run (drop at s)) × EndInside s at end
+      go : (end : TagEnd) → (endOut s (t .attributes) end ≡ (startTag rules) .run (drop at s)) × EndInside s at end
           → Reads 1 ((startTag rules) .run) (λ e. tagWith s t (isEmptied end)) s at (behindTag end)
       go (Ends.Open e) u = record { out = u .0; inside = (omega (arith, u .1), u .1 .1) }
       go (Ends.Empty e) u = record { out = u .0; inside = (omega (arith, u .1), u .1 .1) }

@@ -32,7 +32,7 @@ pub enum TagKind {
 }
 
 // The attributes of a tag so far: where the name and the text of each stand.
-pub struct Seen {
+pub struct Attributes {
     pub count: usize,
     pub name_start: [usize; 16],
     pub name_end: [usize; 16],
@@ -50,7 +50,7 @@ pub enum TagEnd {
 
 pub struct StartTag {
     pub end: TagEnd,
-    pub seen: Seen,
+    pub attributes: Attributes,
 }
 
 // An attribute: where its name ends, and where its text stands.
@@ -363,10 +363,10 @@ pub fn name_rule(kind: TagKind, name: &[u8]) -> u8
 }
 
 // No attribute yet.
-pub fn no_attributes() -> Seen
+pub fn no_attributes() -> Attributes
     ensures { λ r. ⌜ r ≡ Code.noAttributes ⌝ }
 {
-    Seen {
+    Attributes {
         count: 0,
         name_start: [0; 16],
         name_end: [0; 16],
@@ -377,17 +377,17 @@ pub fn no_attributes() -> Seen
 
 // One attribute more; a full list stays as it is.
 fn with_attribute(
-    seen: Seen,
+    attributes: Attributes,
     name_start: usize,
     name_end: usize,
     text_start: usize,
     text_end: usize,
-) -> Seen
-    ensures { λ r. ⌜ r ≡ Code.withAttribute seen «name_start» «name_end» «text_start» «text_end» ⌝ }
+) -> Attributes
+    ensures { λ r. ⌜ r ≡ Code.withAttribute attributes «name_start» «name_end» «text_start» «text_end» ⌝ }
 {
-    let n = seen.count;
+    let n = attributes.count;
     if n < 16 {
-        let mut next = seen;
+        let mut next = attributes;
         next.name_start[n] = name_start;
         next.name_end[n] = name_end;
         next.text_start[n] = text_start;
@@ -395,7 +395,7 @@ fn with_attribute(
         next.count = n + 1;
         return next;
     }
-    seen
+    attributes
 }
 
 // The bytes from a to e, none where these are no places of s in order.
@@ -412,17 +412,17 @@ pub fn part(s: &[u8], a: usize, e: usize) -> &[u8]
 }
 
 // The index of the first attribute of the name w, 16 where there is none.
-fn index_of(s: &[u8], seen: Seen, w: &[u8]) -> usize
-    ensures { λ r. ⌜ Code.IndexOf (now (s .entry)) seen (now (w .entry)) r ⌝ }
+fn index_of(s: &[u8], attributes: Attributes, w: &[u8]) -> usize
+    ensures { λ r. ⌜ Code.IndexOf (now (s .entry)) attributes (now (w .entry)) r ⌝ }
 {
-    let count = seen.count;
+    let count = attributes.count;
     let mut i = 0;
     while i < 16 {
         if count <= i {
             return 16;
         }
-        let a = seen.name_start[i];
-        let e = seen.name_end[i];
+        let a = attributes.name_start[i];
+        let e = attributes.name_end[i];
         if xml::same_name(w, part(s, a, e)) {
             return i;
         }
@@ -432,34 +432,34 @@ fn index_of(s: &[u8], seen: Seen, w: &[u8]) -> usize
 }
 
 // Whether there is an attribute of the name w.
-pub fn is_named(s: &[u8], seen: Seen, w: &[u8]) -> bool
-    ensures { λ r. ⌜ r ≡ Xml.isNamed (now (w .entry)) (Code.attributesOf (now (s .entry)) seen) ⌝ }
+pub fn is_named(s: &[u8], attributes: Attributes, w: &[u8]) -> bool
+    ensures { λ r. ⌜ r ≡ Xml.isNamed (now (w .entry)) (Code.attributesOf (now (s .entry)) attributes) ⌝ }
 {
-    index_of(s, seen, w) < 16
+    index_of(s, attributes, w) < 16
 }
 
 // Where the text of the first attribute of the name w stands.
-pub fn text_of(s: &[u8], seen: Seen, w: &[u8]) -> Span
-    ensures { λ r. ⌜ Code.TextStands (now (s .entry)) seen (now (w .entry)) r ⌝ }
+pub fn text_of(s: &[u8], attributes: Attributes, w: &[u8]) -> Span
+    ensures { λ r. ⌜ Code.TextStands (now (s .entry)) attributes (now (w .entry)) r ⌝ }
 {
-    let i = index_of(s, seen, w);
+    let i = index_of(s, attributes, w);
     if i < 16 {
         return Span {
-            start: seen.text_start[i],
-            end: seen.text_end[i],
+            start: attributes.text_start[i],
+            end: attributes.text_end[i],
         };
     }
     Span { start: 0, end: 0 }
 }
 
 // What is wrong with the name w behind the attributes so far.
-fn name_fault(s: &[u8], w: &[u8], kind: TagKind, seen: Seen) -> u8
-    ensures { λ r. ⌜ r ≡ Xml.nameFault (rulesOf kind) (Code.attributesOf (now (s .entry)) seen) (now (w .entry)) ⌝ }
+fn name_fault(s: &[u8], w: &[u8], kind: TagKind, attributes: Attributes) -> u8
+    ensures { λ r. ⌜ r ≡ Xml.nameFault (rulesOf kind) (Code.attributesOf (now (s .entry)) attributes) (now (w .entry)) ⌝ }
 {
-    if is_named(s, seen, w) {
+    if is_named(s, attributes, w) {
         return 2;
     }
-    let count = seen.count;
+    let count = attributes.count;
     if 16 <= count {
         return 3;
     }
@@ -525,11 +525,17 @@ fn attribute_text(s: &[u8], at: usize, e: usize, q: usize, kind: TagKind) -> Att
 }
 
 // An attribute whose name stands from `at` to e.
-fn attribute_named(s: &[u8], at: usize, e: usize, kind: TagKind, seen: Seen) -> AttributeRead
+fn attribute_named(
+    s: &[u8],
+    at: usize,
+    e: usize,
+    kind: TagKind,
+    attributes: Attributes,
+) -> AttributeRead
     requires { ⌜ (at < e) × (e ≤ length (now s)) ⌝ }
-    ensures { λ r. ⌜ Code.AttributeIs (now (s .entry)) at r (Code.named (rulesOf kind) (Code.attributesOf (now (s .entry)) seen) (part (now (s .entry)) at e) (drop e (now (s .entry))) (drop at (now (s .entry)))) ⌝ }
+    ensures { λ r. ⌜ Code.AttributeIs (now (s .entry)) at r (Code.named (rulesOf kind) (Code.attributesOf (now (s .entry)) attributes) (part (now (s .entry)) at e) (drop e (now (s .entry))) (drop at (now (s .entry)))) ⌝ }
 {
-    let k = name_fault(s, part(s, at, e), kind, seen);
+    let k = name_fault(s, part(s, at, e), kind, attributes);
     if k != 0 {
         return AttributeRead::Fault(k, at);
     }
@@ -541,91 +547,91 @@ fn attribute_named(s: &[u8], at: usize, e: usize, kind: TagKind, seen: Seen) -> 
     }
 }
 
-// The attribute at `at`, behind those seen.
-pub fn attribute(s: &[u8], at: usize, kind: TagKind, seen: Seen) -> AttributeRead
-    ensures { λ r. ⌜ (Code.attributeOut (now (s .entry)) at r ≡ (Xml.attribute (rulesOf kind) (Code.attributesOf (now (s .entry)) seen)) .run (drop at (now (s .entry)))) × Code.AttributeInside (now (s .entry)) at r ⌝ }
+// The attribute at `at`, behind those attributes.
+pub fn attribute(s: &[u8], at: usize, kind: TagKind, attributes: Attributes) -> AttributeRead
+    ensures { λ r. ⌜ (Code.attributeOut (now (s .entry)) at r ≡ (Xml.attribute (rulesOf kind) (Code.attributesOf (now (s .entry)) attributes)) .run (drop at (now (s .entry)))) × Code.AttributeInside (now (s .entry)) at r ⌝ }
 {
     let r = xml::name(s, at);
     match r {
-        Scan::At(e) => attribute_named(s, at, e, kind, seen),
+        Scan::At(e) => attribute_named(s, at, e, kind, attributes),
         Scan::Fault(k, p) => AttributeRead::Fault(k, p),
         Scan::Cut => AttributeRead::Cut,
     }
 }
 
 // The fault k unless there are attributes of both names.
-fn both_or(s: &[u8], seen: Seen, a: &[u8], b: &[u8], k: u8) -> u8
-    ensures { λ r. ⌜ r ≡ cond (Xml.isNamed (now (a .entry)) (Code.attributesOf (now (s .entry)) seen) && Xml.isNamed (now (b .entry)) (Code.attributesOf (now (s .entry)) seen)) 0 k ⌝ }
+fn both_or(s: &[u8], attributes: Attributes, a: &[u8], b: &[u8], k: u8) -> u8
+    ensures { λ r. ⌜ r ≡ cond (Xml.isNamed (now (a .entry)) (Code.attributesOf (now (s .entry)) attributes) && Xml.isNamed (now (b .entry)) (Code.attributesOf (now (s .entry)) attributes)) 0 k ⌝ }
 {
-    if is_named(s, seen, a) {
-        return unless(is_named(s, seen, b), k);
+    if is_named(s, attributes, a) {
+        return unless(is_named(s, attributes, b), k);
     }
     k
 }
 
-fn node_missing(s: &[u8], seen: Seen) -> u8
-    ensures { λ r. ⌜ r ≡ Nodes.nodeMissing (Code.attributesOf (now (s .entry)) seen) ⌝ }
+fn node_missing(s: &[u8], attributes: Attributes) -> u8
+    ensures { λ r. ⌜ r ≡ Nodes.nodeMissing (Code.attributesOf (now (s .entry)) attributes) ⌝ }
 {
-    both_or(s, seen, b"inBitDepth", b"outBitDepth", 8)
+    both_or(s, attributes, b"inBitDepth", b"outBitDepth", 8)
 }
 
-fn list_missing(s: &[u8], seen: Seen) -> u8
-    ensures { λ r. ⌜ r ≡ List.listMissing (Code.attributesOf (now (s .entry)) seen) ⌝ }
+fn list_missing(s: &[u8], attributes: Attributes) -> u8
+    ensures { λ r. ⌜ r ≡ List.listMissing (Code.attributesOf (now (s .entry)) attributes) ⌝ }
 {
-    both_or(s, seen, b"id", b"compCLFversion", 8)
+    both_or(s, attributes, b"id", b"compCLFversion", 8)
 }
 
-fn dim_missing(s: &[u8], seen: Seen, there: u8) -> u8
-    ensures { λ r. ⌜ r ≡ cond (Xml.isNamed (Bytes.bytes "dim") (Code.attributesOf (now (s .entry)) seen)) there 8 ⌝ }
+fn dim_missing(s: &[u8], attributes: Attributes, there: u8) -> u8
+    ensures { λ r. ⌜ r ≡ cond (Xml.isNamed (Bytes.bytes "dim") (Code.attributesOf (now (s .entry)) attributes)) there 8 ⌝ }
 {
-    if is_named(s, seen, b"dim") {
+    if is_named(s, attributes, b"dim") {
         return there;
     }
     8
 }
 
 // What is missing at `>`.
-fn opened(s: &[u8], kind: TagKind, seen: Seen) -> u8
-    ensures { λ r. ⌜ r ≡ (rulesOf kind) .opened (Code.attributesOf (now (s .entry)) seen) ⌝ }
+fn opened(s: &[u8], kind: TagKind, attributes: Attributes) -> u8
+    ensures { λ r. ⌜ r ≡ (rulesOf kind) .opened (Code.attributesOf (now (s .entry)) attributes) ⌝ }
 {
     match kind {
         TagKind::Plain => 0,
         TagKind::Value => 0,
         TagKind::Holder => 0,
-        TagKind::MatrixArray => dim_missing(s, seen, 0),
-        TagKind::Lut1dArray => dim_missing(s, seen, 0),
-        TagKind::Matrix => node_missing(s, seen),
-        TagKind::Lut1d => node_missing(s, seen),
-        TagKind::Range => node_missing(s, seen),
-        TagKind::Cdl => node_missing(s, seen),
-        TagKind::ProcessList => list_missing(s, seen),
+        TagKind::MatrixArray => dim_missing(s, attributes, 0),
+        TagKind::Lut1dArray => dim_missing(s, attributes, 0),
+        TagKind::Matrix => node_missing(s, attributes),
+        TagKind::Lut1d => node_missing(s, attributes),
+        TagKind::Range => node_missing(s, attributes),
+        TagKind::Cdl => node_missing(s, attributes),
+        TagKind::ProcessList => list_missing(s, attributes),
     }
 }
 
 // What is missing at `/>`.
-fn emptied(s: &[u8], kind: TagKind, seen: Seen) -> u8
-    ensures { λ r. ⌜ r ≡ (rulesOf kind) .emptied (Code.attributesOf (now (s .entry)) seen) ⌝ }
+fn emptied(s: &[u8], kind: TagKind, attributes: Attributes) -> u8
+    ensures { λ r. ⌜ r ≡ (rulesOf kind) .emptied (Code.attributesOf (now (s .entry)) attributes) ⌝ }
 {
     match kind {
         TagKind::Plain => 0,
         TagKind::Value => 22,
         TagKind::Holder => 5,
-        TagKind::MatrixArray => dim_missing(s, seen, 22),
-        TagKind::Lut1dArray => dim_missing(s, seen, 22),
+        TagKind::MatrixArray => dim_missing(s, attributes, 22),
+        TagKind::Lut1dArray => dim_missing(s, attributes, 22),
         TagKind::Matrix => 5,
         TagKind::Lut1d => 5,
         TagKind::Range => 5,
-        TagKind::Cdl => node_missing(s, seen),
-        TagKind::ProcessList => list_missing(s, seen),
+        TagKind::Cdl => node_missing(s, attributes),
+        TagKind::ProcessList => list_missing(s, attributes),
     }
 }
 
 // A tag's `>`.
-fn open_end(s: &[u8], at: usize, kind: TagKind, seen: Seen) -> TagEnd
+fn open_end(s: &[u8], at: usize, kind: TagKind, attributes: Attributes) -> TagEnd
     requires { ⌜ at < length (now s) ⌝ }
-    ensures { λ r. ⌜ Code.EndIs (now (s .entry)) seen at r ((Code.openEnd (rulesOf kind) (Code.attributesOf (now (s .entry)) seen)) .run (drop at (now (s .entry)))) ⌝ }
+    ensures { λ r. ⌜ Code.EndIs (now (s .entry)) attributes at r ((Code.openEnd (rulesOf kind) (Code.attributesOf (now (s .entry)) attributes)) .run (drop at (now (s .entry)))) ⌝ }
 {
-    let k = opened(s, kind, seen);
+    let k = opened(s, kind, attributes);
     if k != 0 {
         return TagEnd::Fault(k, at);
     }
@@ -633,14 +639,14 @@ fn open_end(s: &[u8], at: usize, kind: TagKind, seen: Seen) -> TagEnd
 }
 
 // A tag's `/>`, whose `/` stands at `at`.
-fn empty_end(s: &[u8], at: usize, kind: TagKind, seen: Seen) -> TagEnd
+fn empty_end(s: &[u8], at: usize, kind: TagKind, attributes: Attributes) -> TagEnd
     requires { ⌜ at < length (now s) ⌝ }
-    ensures { λ r. ⌜ Code.EndIs (now (s .entry)) seen at r ((Code.emptyEnd (rulesOf kind) (Code.attributesOf (now (s .entry)) seen)) .run (drop at (now (s .entry)))) ⌝ }
+    ensures { λ r. ⌜ Code.EndIs (now (s .entry)) attributes at r ((Code.emptyEnd (rulesOf kind) (Code.attributesOf (now (s .entry)) attributes)) .run (drop at (now (s .entry)))) ⌝ }
 {
     let r = xml::word(s, at, b"/>", 2);
     match r {
         Scan::At(e) => {
-            let k = emptied(s, kind, seen);
+            let k = emptied(s, kind, attributes);
             if k != 0 {
                 return TagEnd::Fault(k, at);
             }
@@ -655,7 +661,7 @@ fn empty_end(s: &[u8], at: usize, kind: TagKind, seen: Seen) -> TagEnd
 fn tag_parts(s: &[u8], at: usize, kind: TagKind) -> StartTag
     ensures { λ r. ⌜ TagStops (rulesOf kind) (now (s .entry)) at r ⌝ }
 {
-    let mut seen = no_attributes();
+    let mut attributes = no_attributes();
     let mut spaced = false;
     let mut i = at;
     while i < s.len() {
@@ -664,46 +670,46 @@ fn tag_parts(s: &[u8], at: usize, kind: TagKind) -> StartTag
             spaced = true;
             i += 1;
         } else if b == b'>' {
-            let end = open_end(s, i, kind, seen);
-            return StartTag { end, seen };
+            let end = open_end(s, i, kind, attributes);
+            return StartTag { end, attributes };
         } else if b == b'/' {
-            let end = empty_end(s, i, kind, seen);
-            return StartTag { end, seen };
+            let end = empty_end(s, i, kind, attributes);
+            return StartTag { end, attributes };
         } else if spaced {
-            let a = attribute(s, i, kind, seen);
+            let a = attribute(s, i, kind, attributes);
             match a {
                 AttributeRead::At {
                     name_end,
                     text_start,
                     text_end,
                 } => {
-                    seen = with_attribute(seen, i, name_end, text_start, text_end);
+                    attributes = with_attribute(attributes, i, name_end, text_start, text_end);
                     spaced = false;
                     i = text_end + 1;
                 }
                 AttributeRead::Fault(k, p) => {
                     return StartTag {
                         end: TagEnd::Fault(k, p),
-                        seen,
+                        attributes,
                     };
                 }
                 AttributeRead::Cut => {
                     return StartTag {
                         end: TagEnd::Cut,
-                        seen,
+                        attributes,
                     };
                 }
             }
         } else {
             return StartTag {
                 end: TagEnd::Fault(2, i),
-                seen,
+                attributes,
             };
         }
     }
     StartTag {
         end: TagEnd::Cut,
-        seen,
+        attributes,
     }
 }
 
@@ -713,13 +719,19 @@ pub fn start_tag(s: &[u8], at: usize, kind: TagKind) -> StartTag
 {
     let tag = tag_parts(s, at, kind);
     let end = tag.end;
-    let seen = tag.seen;
+    let attributes = tag.attributes;
     let none = no_attributes();
     match end {
-        TagEnd::Open(e) => StartTag { end, seen },
-        TagEnd::Empty(e) => StartTag { end, seen },
-        TagEnd::Fault(k, p) => StartTag { end, seen: none },
-        TagEnd::Cut => StartTag { end, seen: none },
+        TagEnd::Open(e) => StartTag { end, attributes },
+        TagEnd::Empty(e) => StartTag { end, attributes },
+        TagEnd::Fault(k, p) => StartTag {
+            end,
+            attributes: none,
+        },
+        TagEnd::Cut => StartTag {
+            end,
+            attributes: none,
+        },
     }
 }
 

@@ -18,7 +18,7 @@ use Rattle.process_list.specs.declared.Depth.the-variants.{I8}
 use Rattle.process_list.specs.declared.Node.{Node}
 use Rattle.process_list.specs.declared.ProcessList.{ProcessList}
 use Rattle.process_list.specs.declared.Verdict.the-variants.{Accepted}
-use Rattle.process_list.specs.List.{Element, mostNodes, numbersOf, nodeOf, unplaced, standing, total, placeFrom, placed, capped, blankNode, listOf, nodesOf, judged, verdict, sameDepth, allNumbers}
+use Rattle.process_list.specs.List.{Element, mostNodes, numbersOf, nodeOf, unplaced, withPosition, total, placeFrom, placed, capped, blankNode, listOf, nodesOf, judged, verdict, sameDepth, allNumbers}
 use Rattle.process_list.proofs.Laws.{same-depth-refl, capped-exact}
 use Rattle.process_list.proofs.Lists.{same-depth, list-nodes, list-count, list-is, place-judged, total-place, heads-length, placed-length, accepted-fine, Fine}
 use Rattle.room.specs.Room.{Room, roomLength, filled, filledWith, coefficientParts, powerParts}
@@ -87,12 +87,12 @@ part f n x o y s =
     rw e1 (rw (e2, e3) at r)
 
 -- ---- positions without gaps
-pub stands-kind : (a : ℕ) (n : Node) → standing a n .kind ≡ n .kind
-unfolding standing
+pub stands-kind : (a : ℕ) (n : Node) → withPosition a n .kind ≡ n .kind
+unfolding withPosition
 stands-kind a n = refl
 
-pub stands-at : (a : ℕ) (n : Node) → standing a n .at ≡ a
-unfolding standing
+pub stands-at : (a : ℕ) (n : Node) → withPosition a n .at ≡ a
+unfolding withPosition
 stands-at a n = refl
 
 gapless-place : (a : ℕ) (ns : List Node) → gapless a (placeFrom a ns) ≡ true
@@ -133,8 +133,8 @@ module _ (m : Room) where
       rw (c, p) (pairs-back o)
 
   element-back : (x : List Decimal) (e : Element) (y : List Decimal) → length (e .numbers) ≡ numbersOf (e .kind)
-      → elementOf (filledWith (x ++ e .numbers ++ y) m) (standing (length x) (nodeOf e)) ≡ e
-  unfolding elementOf standing nodeOf unplaced
+      → elementOf (filledWith (x ++ e .numbers ++ y) m) (withPosition (length x) (nodeOf e)) ≡ e
+  unfolding elementOf withPosition nodeOf unplaced
   element-back x e y w = rw (← w, numbers-back x (e .numbers) y) refl
 
   -- the elements that stand behind the numbers x
@@ -206,8 +206,8 @@ module _ (m : Room) where
         (record { list = rw n left-right; sounds = rw left-elements s; rest = rw left-total z })
 
 -- ---- what is valid is what a reading leaves
-stands-there : (a : ℕ) (n : Node) → n .at ≡ a → standing a n ≡ n
-unfolding standing
+stands-there : (a : ℕ) (n : Node) → n .at ≡ a → withPosition a n ≡ n
+unfolding withPosition
 stands-there a n e = rw (← e) refl
 
 gapless-placed : (a : ℕ) (ns : List Node) → gapless a ns ≡ true → placeFrom a ns ≡ ns
@@ -219,8 +219,8 @@ gapless-placed a (n ∷ ns) h =
 
 -- a node's element gives its node back, but for the position
 module _ (m : Room) where
-  stands-back : (a : ℕ) (n : Node) → standing a (nodeOf (elementOf m n)) ≡ standing a n
-  unfolding standing nodeOf unplaced elementOf
+  stands-back : (a : ℕ) (n : Node) → withPosition a (nodeOf (elementOf m n)) ≡ withPosition a n
+  unfolding withPosition nodeOf unplaced elementOf
   stands-back a n = refl
 
   kind-back : (n : Node) → nodeOf (elementOf m n) .kind ≡ n .kind

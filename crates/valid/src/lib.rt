@@ -164,7 +164,7 @@ fn is_carried(number: Decimal) -> bool
 // The number at an index.
 fn number_at(coefficients: &[i64], powers: &[i8], k: usize) -> Decimal
     requires { ⌜ k < Room.roomLength (Room.lent (now coefficients) (now powers)) ⌝ }
-    ensures { λ r. ⌜ r ≡ Spec.numberAt (Room.lent (now (coefficients .entry)) (now (powers .entry))) k ⌝ }
+    ensures { λ r. ⌜ r ≡ Spec.decimalAt (Room.lent (now (coefficients .entry)) (now (powers .entry))) k ⌝ }
 {
     let coefficient = coefficients[k];
     let power = powers[k];

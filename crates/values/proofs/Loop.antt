@@ -17,7 +17,7 @@ use Rattle.room.specs.Room.{Room}
 use Rattle.room.proofs.Rooms.{RoomFrom}
 use Rattle.xml.specs.Bytes.{isSpace, same, slash, greaterThan, exclamation, question}
 use Rattle.xml.specs.Xml.{spaces, byte, comment, openName, closeName, endTag}
-use Rattle.xml.specs.Elements.{stranger, onlyEnd}
+use Rattle.xml.specs.Elements.{forbidden, onlyEnd}
 use Rattle.xml.specs.Code.{Reads, noValue}
 use Rattle.xml.specs.CodeLaws.{look-at}
 use Rattle.xml.specs.declared.Scan.{Scan}
@@ -55,7 +55,7 @@ bad-not (done a r) k = tt
 bad-not (fault j r) k = tt
 bad-not cut k = tt
 
-stranger-not : (b : ℕ) (s : List ℕ) → NotDone {A = Unit {0}} ((stranger b) .run s)
+stranger-not : (b : ℕ) (s : List ℕ) → NotDone {A = Unit {0}} ((forbidden b) .run s)
 stranger-not b s = go (eqb b exclamation) (eqb b question)
   where
     go : (x y : Bool) → NotDone {A = Unit {0}} ((cond x (settle 3 comment >> bad 3) (cond y (bad 3) (judge (λ w. 5) openName >> bad 5))) .run s)
@@ -67,9 +67,9 @@ end-not : (w : List ℕ) (v : ℕ) (s : List ℕ) → NotDone ((onlyEnd w (suc v
 unfolding onlyEnd endTag
 end-not w v [] = tt
 end-not w v (a ∷ []) = tt
-end-not w v (a ∷ b ∷ s) = strict-not ((cond (eqb b slash) (endTag w (suc v)) (stranger b)) .run (a ∷ b ∷ s)) (a ∷ b ∷ s) (go (eqb b slash))
+end-not w v (a ∷ b ∷ s) = strict-not ((cond (eqb b slash) (endTag w (suc v)) (forbidden b)) .run (a ∷ b ∷ s)) (a ∷ b ∷ s) (go (eqb b slash))
   where
-    go : (t : Bool) → NotDone ((cond t (endTag w (suc v)) (stranger b)) .run (a ∷ b ∷ s))
+    go : (t : Bool) → NotDone ((cond t (endTag w (suc v)) (forbidden b)) .run (a ∷ b ∷ s))
     go true = settle-not v ((judge (λ n. cond (same n w) 0 2) closeName >> spaces >> byte greaterThan 2 >> ret tt) .run (a ∷ b ∷ s)) (a ∷ b ∷ s)
     go false = stranger-not b (a ∷ b ∷ s)
 

@@ -17,7 +17,7 @@ use Rattle.text_out.proofs.Laws.{counted-in, puts-is}
 use Rattle.written_form.specs.Written.{isIdByte, idRight, listText, Writing, refused, written, fitting, writeOf, outputOf}
 use Rattle.written_form.proofs.Short.{list-short}
 use Rattle.written_form.proofs.Order.{list-first, id-second, output-last}
-use Rattle.writing.specs.Writing.{answerOf, Wrote}
+use Rattle.writing.specs.Writing.{writingAnswer, Wrote}
 use Rattle.writing.specs.declared.Written.{Written}
 
 -- ---- ids
@@ -51,16 +51,16 @@ wrote {f = f} p h =
 -- ---- 'Writing: 16, 18, 17'
 module _ (l : ProcessList) (m : Room) (id out : List ℕ) where
   abbrev pub Ends : Written → List ℕ → Type 0
-  Ends r out' = (r ≡ answerOf (writeOf l m id (length out))) × (out' ≡ outputOf (writeOf l m id (length out)) out)
+  Ends r out' = (r ≡ writingAnswer (writeOf l m id (length out))) × (out' ≡ outputOf (writeOf l m id (length out)) out)
 
-  ends-as : (w : Writing) (r : Written) (out' : List ℕ) → writeOf l m id (length out) ≡ w → r ≡ answerOf w → out' ≡ outputOf w out → Ends r out'
-  ends-as w r out' e p q = (p ∙ ap answerOf (sym e), q ∙ ap (λ (x : Writing). outputOf x out) (sym e))
+  ends-as : (w : Writing) (r : Written) (out' : List ℕ) → writeOf l m id (length out) ≡ w → r ≡ writingAnswer w → out' ≡ outputOf w out → Ends r out'
+  ends-as w r out' e p q = (p ∙ ap writingAnswer (sym e), q ∙ ap (λ (x : Writing). outputOf x out) (sym e))
 
-  pub ends-16 : (r : Written) → isValid l m ≡ false → r ≡ answerOf (refused 16) → Ends r out
+  pub ends-16 : (r : Written) → isValid l m ≡ false → r ≡ writingAnswer (refused 16) → Ends r out
   ends-16 r v e = ends-as (refused 16) r out (list-first l m id (length out) v) e refl
 
   module _ (v : isValid l m ≡ true) where
-    pub ends-18 : (r : Written) → idRight id ≡ false → r ≡ answerOf (refused 18) → Ends r out
+    pub ends-18 : (r : Written) → idRight id ≡ false → r ≡ writingAnswer (refused 18) → Ends r out
     ends-18 r i e = ends-as (refused 18) r out (id-second l m id (length out) v i) e refl
 
     module _ (i : idRight id ≡ true) where
@@ -71,7 +71,7 @@ module _ (l : ProcessList) (m : Room) (id out : List ℕ) where
       exact : counted (length text) ≡ length text
       exact = counted-in (length text) (omega (arith, list-short l m v id i))
 
-      pub ends-17 : (r : Written) (n : ℕ) → n ≡ counted (length text) → length out < n → r ≡ answerOf (refused 17) → Ends r out
+      pub ends-17 : (r : Written) (n : ℕ) → n ≡ counted (length text) → length out < n → r ≡ writingAnswer (refused 17) → Ends r out
       unfolding fitting
       ends-17 r n c h e =
           let k : length out < length text = omega (arith, exact) in

@@ -9,7 +9,7 @@ use lib.Seq.{drop-cons, drop-drop, take-take, take-nil}
 use Rattle.decimal.specs.declared.Decimal.{Decimal}
 use Rattle.decimal_write.specs.Written.{writtenOf}
 use Rattle.room.specs.Room.{Room, roomLength}
-use Rattle.valid.specs.Valid.{pairs, numberAt, numbersAt}
+use Rattle.valid.specs.Valid.{pairs, decimalAt, numbersAt}
 use Rattle.text_out.specs.Output.{Goes, Puts}
 use Rattle.text_out.proofs.Laws.{puts-as, goes-start}
 use Rattle.xml.specs.Bytes.{bytes}
@@ -70,8 +70,8 @@ module _ (m : Room) where
       rw (e, behind at k (count + (n - (k + count)))) (front (at + k) count (n - (k + count)))
 
   -- one number, and those behind it
-  more : (k n : ℕ) → k < roomLength m → numbersAt m k (suc n) ≡ numberAt m k ∷ numbersAt m (suc k) n
-  unfolding numbersAt numberAt pairs roomLength
+  more : (k n : ℕ) → k < roomLength m → numbersAt m k (suc n) ≡ decimalAt m k ∷ numbersAt m (suc k) n
+  unfolding numbersAt decimalAt pairs roomLength
   more k n h = rw (drop-cons (m .coefficients) k (pos 0) (omega arith), drop-cons (m .powers) k (pos 0) (omega arith))
 
   none : (k : ℕ) → numbersAt m k 0 ≡ []
@@ -87,7 +87,7 @@ module _ (m : Room) where
 
   module _ (from count : ℕ) (h : from + count ≤ roomLength m) where
     pub spaced-next : (i : ℕ) → i < count → (t : List ℕ)
-        → spacedText (numbersAt m (from + i) (count - i)) t ≡ bytes " " ++ (writtenOf (numberAt m (from + i)) ++ spacedText (numbersAt m (from + (i + 1)) (count - (i + 1))) t)
+        → spacedText (numbersAt m (from + i) (count - i)) t ≡ bytes " " ++ (writtenOf (decimalAt m (from + i)) ++ spacedText (numbersAt m (from + (i + 1)) (count - (i + 1))) t)
     unfolding spacedText
     spaced-next i j t =
         let e : count - i ≡ suc (count - (i + 1)) = omega arith in
@@ -102,7 +102,7 @@ module _ (m : Room) where
     unfolding rowText
     row-none e t = rw (e, none from)
 
-    pub row-some : 0 < count → (t : List ℕ) → rowText (numbersAt m from count) t ≡ writtenOf (numberAt m from) ++ spacedText (numbersAt m (from + 1) (count - 1)) t
+    pub row-some : 0 < count → (t : List ℕ) → rowText (numbersAt m from count) t ≡ writtenOf (decimalAt m from) ++ spacedText (numbersAt m (from + 1) (count - 1)) t
     unfolding rowText
     row-some j t =
         let e : count ≡ suc (count - 1) = omega arith in

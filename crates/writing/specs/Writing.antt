@@ -5,12 +5,12 @@ use Prim.Native.Nat.{ℕ}
 use lib.ListN.{length}
 use Rattle.room.specs.Room.{laid}
 use Rattle.text_out.specs.Output.{counted}
-use Rattle.written_form.specs.Written.{Writing, numberOf, lengthOf}
+use Rattle.written_form.specs.Written.{Writing, writingNumber, writingLength}
 use Rattle.writing.specs.declared.Written.{Written}
 
 -- the number of a refusal, 0 for accepted, and the length of the text
-abbrev pub answerOf : Writing → Written
-answerOf w = record { number = numberOf w; length = lengthOf w }
+abbrev pub writingAnswer : Writing → Written
+writingAnswer w = record { number = writingNumber w; length = writingLength w }
 
 -- the text x stands in s from its start on, as far as s goes: that is s'; and r is the text's length
 pub record Wrote (x s s' : List ℕ) (r : ℕ) : Type 0 where

@@ -6,7 +6,7 @@ ghost use Rattle.text_out.specs.Output.{counted};
 ghost use Rattle.room.specs.Room.{lent};
 ghost use Rattle.valid.specs.Valid.{isValid, elementsOf};
 ghost use Rattle.written_form.specs.Written as Text;
-ghost use Rattle.writing.specs.Writing.{answerOf, Wrote};
+ghost use Rattle.writing.specs.Writing.{writingAnswer, Wrote};
 
 mod elements;
 mod names;
@@ -21,7 +21,7 @@ pub struct Written {
 }
 
 fn refused(number: u8) -> Written
-    ensures { λ r. ⌜ r ≡ answerOf (Text.refused number) ⌝ }
+    ensures { λ r. ⌜ r ≡ writingAnswer (Text.refused number) ⌝ }
 {
     Written { number, length: 0 }
 }
@@ -95,7 +95,7 @@ pub fn write(
     id: &[u8],
     out: &mut [u8],
 ) -> Written
-    ensures { λ r. ⌜ r ≡ answerOf (Text.writeOf list (lent (now (coefficients .entry)) (now (powers .entry))) (now (id .entry)) (length (now (out .entry)))) ⌝ }
+    ensures { λ r. ⌜ r ≡ writingAnswer (Text.writeOf list (lent (now (coefficients .entry)) (now (powers .entry))) (now (id .entry)) (length (now (out .entry)))) ⌝ }
     ensures { λ r. ⌜ now (out .exit) ≡ Text.outputOf (Text.writeOf list (lent (now (coefficients .entry)) (now (powers .entry))) (now (id .entry)) (length (now (out .entry)))) (now (out .entry)) ⌝ }
 {
     if !valid::valid(list, coefficients, powers) {

@@ -3,7 +3,7 @@ ghost use Prim.Native.Nat.{_+_, _*_, _≤_, _<_};
 ghost use mathlib.Core.List.{_++_};
 ghost use Rattle.decimal_write.specs.Written.{writtenOf};
 ghost use Rattle.room.specs.Room.{lent, roomLength};
-ghost use Rattle.valid.specs.Valid.{numberAt, numbersAt};
+ghost use Rattle.valid.specs.Valid.{decimalAt, numbersAt};
 ghost use Rattle.text_out.specs.Output.{Puts};
 ghost use Rattle.written_form.specs.Written as Text;
 use decimal::Decimal;
@@ -11,7 +11,7 @@ use decimal::Decimal;
 // The number of index k.
 fn put_number(out: &mut [u8], at: usize, coefficients: &[i64], powers: &[i8], k: usize) -> usize
     requires { ⌜ k < roomLength (lent (now coefficients) (now powers)) ⌝ }
-    ensures { λ r. ⌜ Puts (λ t. writtenOf (numberAt (lent (now (coefficients .entry)) (now (powers .entry))) k) ++ t) at (now (out .entry)) (now (out .exit)) r ⌝ }
+    ensures { λ r. ⌜ Puts (λ t. writtenOf (decimalAt (lent (now (coefficients .entry)) (now (powers .entry))) k) ++ t) at (now (out .entry)) (now (out .exit)) r ⌝ }
 {
     let coefficient = coefficients[k];
     let power = powers[k];

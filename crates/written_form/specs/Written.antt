@@ -155,14 +155,14 @@ writeOf l m id out =
     (refused 16)
 
 -- the refusal number, 0 for accepted; its place is 0 ('of 0, 4, 14 and 16 to 19, 0')
-abbrev pub numberOf : Writing → ℕ
-numberOf (refused n) = n
-numberOf (written t) = 0
+abbrev pub writingNumber : Writing → ℕ
+writingNumber (refused n) = n
+writingNumber (written t) = 0
 
 -- how many bytes the text has; none where it is refused
-abbrev pub lengthOf : Writing → ℕ
-lengthOf (refused n) = 0
-lengthOf (written t) = length t
+abbrev pub writingLength : Writing → ℕ
+writingLength (refused n) = 0
+writingLength (written t) = length t
 
 -- the output afterwards: 'Output bytes after the text stay as they were'; 'Any other refusal changes nothing'
 abbrev pub outputOf : Writing → List ℕ → List ℕ

@@ -12,7 +12,7 @@ use Rattle.xml.specs.Xml.{name, entity, comment, textTo, Tag, Rules, pla
 
 -- what is found there: white space or a comment, a child, or the end
 pub data Part (C : Type 0) : Type 0 where
-  gap : Part C
+  misc : Part C
   child : C → Part C
   close : Part C
 
@@ -21,14 +21,14 @@ module _ {C : Type 0} where
   abbrev pub markup : G (Unit {0}) → (List ℕ → ℕ) → (List ℕ → G C) → ℕ → ℕ → G (Part C)
   markup end fault body a b =
       cond (eqb b slash) (end >> ret close)
-      (cond (eqb b exclamation) (comment >> ret gap)
+      (cond (eqb b exclamation) (comment >> ret misc)
       (cond (eqb b question) (bad 3)
       (seq (judge fault openName) (λ w. seq (body w) (λ v. ret (child v))))))
 
   -- 'white space and comments may stand .. between elements'; 'bare text between elements is 5', at that byte; an `&` there is 5, or 3 if it is no `&` form
   abbrev pub betweenByte : G (Unit {0}) → (List ℕ → ℕ) → (List ℕ → G C) → ℕ → G (Part C)
   betweenByte end fault body b =
-      cond (isSpace b) (eat >> ret gap)
+      cond (isSpace b) (eat >> ret misc)
       (cond (eqb b lessThan) (lookTwo (markup end fault body))
       (cond (eqb b ampersand) (settle 5 entity >> bad 5) (bad 5)))
 
@@ -47,7 +47,7 @@ pub record Holder (S : Type 0) : Type 0 where
 
 module _ {S : Type 0} where
   abbrev pub afterPart : S → Part S → Turn S S
-  afterPart st gap = again st
+  afterPart st misc = again st
   afterPart st (child v) = again v
   afterPart st close = last st
 
@@ -62,14 +62,14 @@ module _ {S : Type 0} where
 -- ---- where no element may stand
 
 -- by the byte behind a `<`: 'a comment inside a value element, an Array or a text-only element is 3', and so is `<?`; an element is 5 once its name has ended
-abbrev pub stranger : {A : Type 0} → ℕ → G A
-stranger b =
+abbrev pub forbidden : {A : Type 0} → ℕ → G A
+forbidden b =
     cond (eqb b exclamation) (settle 3 comment >> bad 3)
     (cond (eqb b question) (bad 3) (judge (λ w. 5) openName >> bad 5))
 
 -- at the `<` behind text or numbers: the end tag of this name, before which `missing` lacks, or what may not stand there
 unfoldable pub onlyEnd : List ℕ → ℕ → G (Unit {0})
-onlyEnd w missing = lookTwo (λ a b. cond (eqb b slash) (endTag w missing) (stranger b))
+onlyEnd w missing = lookTwo (λ a b. cond (eqb b slash) (endTag w missing) (forbidden b))
 
 -- ---- text alone
 

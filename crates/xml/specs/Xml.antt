@@ -100,12 +100,12 @@ plain = record { names = λ w. 0; texts = λ w t. 0; opened = λ l. 0; emptied =
 
 -- 'At most 16 attributes on a tag, none twice': a second one of its name is 2, the seventeenth 3, at its first byte once its name has ended
 abbrev pub nameFault : Rules → List Attribute → List ℕ → ℕ
-nameFault rules seen w = cond (isNamed w seen) 2 (cond (leb 16 (length seen)) 3 (rules .names w))
+nameFault rules attributes w = cond (isNamed w attributes) 2 (cond (leb 16 (length attributes)) 3 (rules .names w))
 
 -- an attribute after others: 'white space may surround `=`'
 unfoldable pub attribute : Rules → List Attribute → G Attribute
-attribute rules seen = do
-  w ← judge (nameFault rules seen) name
+attribute rules attributes = do
+  w ← judge (nameFault rules attributes) name
   spaces
   byte equals 2
   spaces
@@ -119,7 +119,7 @@ attribute rules seen = do
 -- where a start tag has got to: whether white space stands before what comes, and the attributes so far
 pub record TagState : Type 0 where
   pub spaced : Bool
-  pub seen : List Attribute
+  pub attributes : List Attribute
 
 -- a start tag: its attributes, and whether it ends in `/>`
 pub record Tag : Type 0 where
@@ -129,16 +129,16 @@ pub record Tag : Type 0 where
 -- the next part of a start tag: white space, its end, or an attribute, which white space parts from what stands before; any other byte is 2 there
 abbrev pub tagByte : Rules → TagState → ℕ → G (Turn TagState Tag)
 tagByte rules st b =
-    cond (isSpace b) (eat >> ret (again (record { spaced = true; seen = st .seen })))
-    (cond (eqb b greaterThan) (judge (λ x. rules .opened (st .seen)) eat >> ret (last (record { attributes = st .seen; empty = false })))
-    (cond (eqb b slash) (judge (λ x. rules .emptied (st .seen)) (word (bytes "/>") 2) >> ret (last (record { attributes = st .seen; empty = true })))
+    cond (isSpace b) (eat >> ret (again (record { spaced = true; attributes = st .attributes })))
+    (cond (eqb b greaterThan) (judge (λ x. rules .opened (st .attributes)) eat >> ret (last (record { attributes = st .attributes; empty = false })))
+    (cond (eqb b slash) (judge (λ x. rules .emptied (st .attributes)) (word (bytes "/>") 2) >> ret (last (record { attributes = st .attributes; empty = true })))
     (cond (st .spaced)
-    (seq (attribute rules (st .seen)) (λ a. ret (again (record { spaced = false; seen = st .seen ++ a ∷ [] }))))
+    (seq (attribute rules (st .attributes)) (λ a. ret (again (record { spaced = false; attributes = st .attributes ++ a ∷ [] }))))
     (bad 2))))
 
 -- a start tag after its name
 unfoldable pub startTag : Rules → G Tag
-startTag rules = loop (λ st. look (tagByte rules st)) (record { spaced = false; seen = [] })
+startTag rules = loop (λ st. look (tagByte rules st)) (record { spaced = false; attributes = [] })
 
 -- `<` and the name behind it
 unfoldable pub openName : G (List ℕ)

@@ -2,7 +2,7 @@ use native.Mathlib.Omega.{arith}
 use Prim.Native.Nat.{_-_}
 use lib.ListN.{length}
 use Rattle.xml.proofs.Answers.{failed}
-use Rattle.around_root.proofs.Turns.{TailInv, tail-start, tail-gap, tail-open, tail-stray, tail-failed, tail-fault, tail-short, tail-end}
+use Rattle.around_root.proofs.Turns.{TailInv, tail-start, tail-misc, tail-open, tail-stray, tail-failed, tail-fault, tail-short, tail-end}
 use borrow.Author.Needs.{needs}
 use Rattle.around_root.proofs.epilogue.Statement.{statement}
 use Rattle.around_root.proofs.epilogue.Tie as tie
@@ -16,53 +16,29 @@ abbrev μ-loop : tie.MeasureT-loop
 loop-holds : tie.Need-loop-holds Inv-loop μ-loop
 loop-holds c = tail-start _ _
 
-lead-at-requires : tie.Need-lead-at-requires Inv-loop μ-loop
-lead-at-requires c κs = search needs
-
-enum-known-l : tie.Need-enum-known-l Inv-loop μ-loop
-enum-known-l c = search needs
-
 loop-less : tie.Need-loop-less Inv-loop μ-loop
-loop-less c = omega (arith, (rw (c .before .l .given .1) at (c .before .before .before .lead-at .ensures)) .inside)
+loop-less c = omega (arith, (rw (c .before .l .given .1) at (c .before .before .before .item-at .ensures)) .inside)
 
 loop-again : tie.Need-loop-again Inv-loop μ-loop
-loop-again c = tail-gap _ _ _ (c .before .before .before .before .before .loop .inv) (omega arith) _ (rw (c .before .l .given .1) at (c .before .before .before .lead-at .ensures))
-
-enum-known-l-2 : tie.Need-enum-known-l-2 Inv-loop μ-loop
-enum-known-l-2 c = search needs
+loop-again c = tail-misc _ _ _ (c .before .before .before .before .before .loop .inv) (omega arith) _ (rw (c .before .l .given .1) at (c .before .before .before .item-at .ensures))
 
 returns : tie.Need-returns Inv-loop μ-loop
-returns c = tail-open _ _ _ (c .before .before .before .before .before .loop .inv) (omega arith) _ (rw (c .before .l2 .given .1) at (c .before .before .before .lead-at .ensures))
-
-enum-told : tie.Need-enum-told Inv-loop μ-loop
-enum-told c = search needs
-
-stray-end-requires : tie.Need-stray-end-requires Inv-loop μ-loop
-stray-end-requires c κs = search needs
-
-enum-known-r : tie.Need-enum-known-r Inv-loop μ-loop
-enum-known-r c = search needs
+returns c = tail-open _ _ _ (c .before .before .before .before .before .loop .inv) (omega arith) _ (rw (c .before .l2 .given .1) at (c .before .before .before .item-at .ensures))
 
 returns-2 : tie.Need-returns-2 Inv-loop μ-loop
-returns-2 c = tail-failed _ _ _ (c .before .before .before .before .before .before .loop .inv) (omega arith) _ (rw (c .before .before .enum-told .given .1) at (c .before .before .before .before .lead-at .ensures)) (failed (c .before .stray-end .result) (c .match2 .keys2)) (c .before .stray-end .ensures)
+returns-2 c = tail-failed _ _ _ (c .before .before .before .before .before .before .loop .inv) (omega arith) _ (rw (c .before .before .enum-told .given .1) at (c .before .before .before .before .item-at .ensures)) (failed (c .before .stray-end .result) (c .match2 .keys2)) (c .before .stray-end .ensures)
 
 loop-less-2 : tie.Need-loop-less-2 Inv-loop μ-loop
 loop-less-2 c = omega (arith, (rw (c .before .r .given .1) at (c .before .before .before .stray-end .ensures)) .inside)
 
 loop-again-2 : tie.Need-loop-again-2 Inv-loop μ-loop
-loop-again-2 c = tail-stray _ _ _ (c .before .before .before .before .before .before .before .before .loop .inv) (omega arith) _ (rw (c .before .before .before .before .enum-told .given .1) at (c .before .before .before .before .before .before .lead-at .ensures)) (rw (c .before .r .given .1) at (c .before .before .before .stray-end .ensures))
-
-enum-known-l-3 : tie.Need-enum-known-l-3 Inv-loop μ-loop
-enum-known-l-3 c = search needs
+loop-again-2 c = tail-stray _ _ _ (c .before .before .before .before .before .before .before .before .loop .inv) (omega arith) _ (rw (c .before .before .before .before .enum-told .given .1) at (c .before .before .before .before .before .before .item-at .ensures)) (rw (c .before .r .given .1) at (c .before .before .before .stray-end .ensures))
 
 returns-3 : tie.Need-returns-3 Inv-loop μ-loop
-returns-3 c = tail-fault _ _ _ (c .before .before .before .before .before .loop .inv) (omega arith) _ _ (rw (c .before .l3 .given .1) at (c .before .before .before .lead-at .ensures))
-
-enum-told-2 : tie.Need-enum-told-2 Inv-loop μ-loop
-enum-told-2 c = search needs
+returns-3 c = tail-fault _ _ _ (c .before .before .before .before .before .loop .inv) (omega arith) _ _ (rw (c .before .l3 .given .1) at (c .before .before .before .item-at .ensures))
 
 returns-4 : tie.Need-returns-4 Inv-loop μ-loop
-returns-4 c = tail-short _ _ _ (c .before .before .before .before .loop .inv) (omega arith) (rw (c .enum-told2 .given .1) at (c .before .before .lead-at .ensures))
+returns-4 c = tail-short _ _ _ (c .before .before .before .before .loop .inv) (omega arith) (rw (c .enum-told2 .given .1) at (c .before .before .item-at .ensures))
 
 returns-5 : tie.Need-returns-5 Inv-loop μ-loop
 returns-5 c = tail-end _ _ _ (c .before .loop .inv) (omega arith)
@@ -74,20 +50,20 @@ epilogue-spec =
     Inv-loop
     μ-loop
     loop-holds
-    lead-at-requires
-    enum-known-l
+    (λ c κs. search needs)
+    (λ c. search needs)
     loop-less
     loop-again
-    enum-known-l-2
+    (λ c. search needs)
     returns
-    enum-told
-    stray-end-requires
-    enum-known-r
+    (λ c. search needs)
+    (λ c κs. search needs)
+    (λ c. search needs)
     returns-2
     loop-less-2
     loop-again-2
-    enum-known-l-3
+    (λ c. search needs)
     returns-3
-    enum-told-2
+    (λ c. search needs)
     returns-4
     returns-5)

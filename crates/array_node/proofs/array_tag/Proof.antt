@@ -4,12 +4,6 @@ use borrow.Author.Needs.{needs}
 use Rattle.array_node.proofs.array_tag.Statement.{statement}
 use Rattle.array_node.proofs.array_tag.Tie as tie
 
-enum-told : tie.Need-enum-told
-enum-told c = search needs
-
-enum-told-2 : tie.Need-enum-told-2
-enum-told-2 c = search needs
-
 returns : tie.Need-returns
 unfolding rulesOf
 returns c = rw (c .enum-told .given .1) refl
@@ -19,4 +13,4 @@ unfolding rulesOf
 returns-2 c = rw (c .enum-told2 .given .1) refl
 
 pub array-tag-spec : {M : Type 1} → statement M
-array-tag-spec = tie.close (tie.spec enum-told enum-told-2 returns returns-2)
+array-tag-spec = tie.close (tie.spec (λ c. search needs) (λ c. search needs) returns returns-2)

@@ -6,27 +6,6 @@ use borrow.Author.Needs.{needs}
 use Rattle.array_node.proofs.table_node.Statement.{statement}
 use Rattle.array_node.proofs.table_node.Tie as tie
 
-node-tag-requires : tie.Need-node-tag-requires
-node-tag-requires c κs = search needs
-
-start-tag-requires : tie.Need-start-tag-requires
-start-tag-requires c κs = search needs
-
-behind-requires : tie.Need-behind-requires
-behind-requires c κs = search needs
-
-enum-known-r : tie.Need-enum-known-r
-enum-known-r c = search needs
-
-failed-requires : tie.Need-failed-requires
-failed-requires c κs = search needs
-
-same-length : tie.Need-same-length
-same-length c = search needs
-
-same-length-2 : tie.Need-same-length-2
-same-length-2 c = search needs
-
 returns : tie.Need-returns
 returns c =
     let f = c .before .before in
@@ -37,21 +16,6 @@ returns c =
     let z = n .before .before in
     table-failed (z .args .table) _ _ _ (t .start-tag .result) _ _ (b .behind .result) _ (failed (b .behind .result) (m .match .keys2))
     (tag-reads _ _ (n .node-tag .ensures) _ _ (t .start-tag .result) (t .start-tag .ensures) _ (b .behind .ensures)) (f .failed .ensures)
-
-array-content-requires : tie.Need-array-content-requires
-array-content-requires c κs = search needs
-
-enum-known-scan : tie.Need-enum-known-scan
-enum-known-scan c = search needs
-
-failed-requires-2 : tie.Need-failed-requires-2
-failed-requires-2 c κs = search needs
-
-same-length-3 : tie.Need-same-length-3
-same-length-3 c = search needs
-
-same-length-4 : tie.Need-same-length-4
-same-length-4 c = search needs
 
 returns-2 : tie.Need-returns-2
 returns-2 c =
@@ -66,15 +30,6 @@ returns-2 c =
     let v = tag-reads _ _ (n .node-tag .ensures) _ _ (t .start-tag .result) (t .start-tag .ensures) _ (sym (r .r .given .1) ∙ b .behind .ensures) in
     let w = failed (a .array-content .result .scan) (m .match2 .keys2) in
     table-content-failed (z .args .table) _ _ _ (t .start-tag .result) _ _ (a .array-content .result) _ v (a .array-content .ensures) _ _ w (f .failed2 .ensures)
-
-finished-requires : tie.Need-finished-requires
-finished-requires c κs = search needs
-
-same-length-5 : tie.Need-same-length-5
-same-length-5 c = search needs
-
-same-length-6 : tie.Need-same-length-6
-same-length-6 c = search needs
 
 returns-3 : tie.Need-returns-3
 returns-3 c =
@@ -92,21 +47,21 @@ pub table-node-spec : {M : Type 1} → statement M
 table-node-spec =
     tie.close
     (tie.spec
-    node-tag-requires
-    start-tag-requires
-    behind-requires
-    enum-known-r
-    failed-requires
-    same-length
-    same-length-2
+    (λ c κs. search needs)
+    (λ c κs. search needs)
+    (λ c κs. search needs)
+    (λ c. search needs)
+    (λ c κs. search needs)
+    (λ c. search needs)
+    (λ c. search needs)
     returns
-    array-content-requires
-    enum-known-scan
-    failed-requires-2
-    same-length-3
-    same-length-4
+    (λ c κs. search needs)
+    (λ c. search needs)
+    (λ c κs. search needs)
+    (λ c. search needs)
+    (λ c. search needs)
     returns-2
-    finished-requires
-    same-length-5
-    same-length-6
+    (λ c κs. search needs)
+    (λ c. search needs)
+    (λ c. search needs)
     returns-3)

@@ -5,7 +5,7 @@ use lib.ListN.{length}
 use Rattle.room.specs.Room.{lent}
 use Rattle.clf.specs.Nodes.{noCdl, cdlHolder}
 use Rattle.node_parts.specs.Held.{HeldAt}
-use Rattle.node_parts.proofs.Held.{held-start, held-gap, held-child, held-moves, held-failed, held-fault, held-cut, held-ended}
+use Rattle.node_parts.proofs.Held.{held-start, held-misc, held-child, held-moves, held-failed, held-fault, held-cut, held-ended}
 use Rattle.markup.proofs.Answers.{failed}
 use Rattle.cdl_node.specs.Code.{CdlStands}
 use Rattle.cdl_node.proofs.Cdls.{cdl-start, content-end}
@@ -19,107 +19,35 @@ Inv-loop s at coefficients₀ powers₀ state₀ i₀ t15 coefficients powers st
 abbrev μ-loop : tie.MeasureT-loop
 μ-loop s at coefficients₀ powers₀ state₀ i₀ t15 coefficients powers state i = length s - i
 
-no-cdl-requires : tie.Need-no-cdl-requires Inv-loop μ-loop
-no-cdl-requires c κs = search needs
-
 loop-holds : tie.Need-loop-holds Inv-loop μ-loop
 loop-holds c = (refl, refl, held-start _ _ _ _ _ (rw (c .no-cdl .ensures) (cdl-start _ _ (c .before .before .pre))))
 
-lead-at-requires : tie.Need-lead-at-requires Inv-loop μ-loop
-lead-at-requires c κs = search needs
-
-enum-known-l : tie.Need-enum-known-l Inv-loop μ-loop
-enum-known-l c = search needs
-
 loop-less : tie.Need-loop-less Inv-loop μ-loop
-loop-less c = omega (arith, (rw (c .before .l .given .1) at (c .before .before .before .lead-at .ensures)) .inside)
+loop-less c = omega (arith, (rw (c .before .l .given .1) at (c .before .before .before .item-at .ensures)) .inside)
 
 loop-again : tie.Need-loop-again Inv-loop μ-loop
-loop-again c = (c .before .before .before .before .before .loop .inv .0, c .before .before .before .before .before .loop .inv .1, held-gap _ _ _ _ _ _ (c .before .before .before .before .before .loop .inv .2) _ (rw (c .before .l .given .1) at (c .before .before .before .lead-at .ensures)))
-
-enum-known-l-2 : tie.Need-enum-known-l-2 Inv-loop μ-loop
-enum-known-l-2 c = search needs
+loop-again c = (c .before .before .before .before .before .loop .inv .0, c .before .before .before .before .before .loop .inv .1, held-misc _ _ _ _ _ _ (c .before .before .before .before .before .loop .inv .2) _ (rw (c .before .l .given .1) at (c .before .before .before .item-at .ensures)))
 
 cdl-child-requires : tie.Need-cdl-child-requires Inv-loop μ-loop
-cdl-child-requires c κs = (rw (c .before .before .before .l2 .given .1) at (c .before .before .before .before .before .lead-at .ensures)) .inside
-
-enum-known-r : tie.Need-enum-known-r Inv-loop μ-loop
-enum-known-r c = search needs
-
-same-length : tie.Need-same-length Inv-loop μ-loop
-same-length c = search needs
-
-same-length-2 : tie.Need-same-length-2 Inv-loop μ-loop
-same-length-2 c = search needs
+cdl-child-requires c κs = (rw (c .before .before .before .l2 .given .1) at (c .before .before .before .before .before .item-at .ensures)) .inside
 
 returns : tie.Need-returns Inv-loop μ-loop
-returns c = held-failed _ _ _ _ _ _ (c .before .before .before .before .before .before .before .before .before .before .before .loop .inv .2) _ (rw (c .before .before .before .before .before .before .before .l2 .given .1) at (c .before .before .before .before .before .before .before .before .before .lead-at .ensures)) _ _ _ (c .before .before .before .cdl-child .ensures) _ (failed (c .before .before .before .cdl-child .result .scan) (c .match2 .keys2))
+returns c = held-failed _ _ _ _ _ _ (c .before .before .before .before .before .before .before .before .before .before .before .loop .inv .2) _ (rw (c .before .before .before .before .before .before .before .l2 .given .1) at (c .before .before .before .before .before .before .before .before .before .item-at .ensures)) _ _ _ (c .before .before .before .cdl-child .ensures) _ (failed (c .before .before .before .cdl-child .result .scan) (c .match2 .keys2))
 
 loop-less-2 : tie.Need-loop-less-2 Inv-loop μ-loop
-loop-less-2 c = omega (arith, held-moves _ _ _ _ _ _ (c .before .before .before .before .before .before .before .before .before .before .before .before .before .loop .inv .2) _ (rw (c .before .before .before .before .before .before .before .before .before .l2 .given .1) at (c .before .before .before .before .before .before .before .before .before .before .before .lead-at .ensures)) _ _ _ (c .before .before .before .before .before .cdl-child .ensures) _ (c .before .r .given .1))
+loop-less-2 c = omega (arith, held-moves _ _ _ _ _ _ (c .before .before .before .before .before .before .before .before .before .before .before .before .before .loop .inv .2) _ (rw (c .before .before .before .before .before .before .before .before .before .l2 .given .1) at (c .before .before .before .before .before .before .before .before .before .before .before .item-at .ensures)) _ _ _ (c .before .before .before .before .before .cdl-child .ensures) _ (c .before .r .given .1))
 
 loop-again-2 : tie.Need-loop-again-2 Inv-loop μ-loop
-loop-again-2 c = (search needs, search needs, held-child _ _ _ _ _ _ (c .before .before .before .before .before .before .before .before .before .before .before .before .before .loop .inv .2) _ (rw (c .before .before .before .before .before .before .before .before .before .l2 .given .1) at (c .before .before .before .before .before .before .before .before .before .before .before .lead-at .ensures)) _ _ _ (c .before .before .before .before .before .cdl-child .ensures) _ (c .before .r .given .1))
-
-enum-told : tie.Need-enum-told Inv-loop μ-loop
-enum-told c = search needs
-
-slice-aggregate-end-tag : tie.Need-slice-aggregate-end-tag Inv-loop μ-loop
-slice-aggregate-end-tag c = search needs
-
-end-tag-requires : tie.Need-end-tag-requires Inv-loop μ-loop
-end-tag-requires c κs = search needs
-
-cdl-with-requires : tie.Need-cdl-with-requires Inv-loop μ-loop
-cdl-with-requires c κs = search needs
-
-same-length-3 : tie.Need-same-length-3 Inv-loop μ-loop
-same-length-3 c = search needs
-
-same-length-4 : tie.Need-same-length-4 Inv-loop μ-loop
-same-length-4 c = search needs
+loop-again-2 c = (search needs, search needs, held-child _ _ _ _ _ _ (c .before .before .before .before .before .before .before .before .before .before .before .before .before .loop .inv .2) _ (rw (c .before .before .before .before .before .before .before .before .before .l2 .given .1) at (c .before .before .before .before .before .before .before .before .before .before .before .item-at .ensures)) _ _ _ (c .before .before .before .before .before .cdl-child .ensures) _ (c .before .r .given .1))
 
 returns-2 : tie.Need-returns-2 Inv-loop μ-loop
-returns-2 c = rw (c .cdl-with .ensures) (content-end _ _ _ _ _ (c .before .before .before .before .before .before .before .loop .inv .2) (rw (c .before .before .before .enum-told .given .1) at (c .before .before .before .before .before .lead-at .ensures)) _ (c .before .end-tag .ensures))
-
-enum-known-l-3 : tie.Need-enum-known-l-3 Inv-loop μ-loop
-enum-known-l-3 c = search needs
-
-cdl-with-requires-2 : tie.Need-cdl-with-requires-2 Inv-loop μ-loop
-cdl-with-requires-2 c κs = search needs
-
-same-length-5 : tie.Need-same-length-5 Inv-loop μ-loop
-same-length-5 c = search needs
-
-same-length-6 : tie.Need-same-length-6 Inv-loop μ-loop
-same-length-6 c = search needs
+returns-2 c = rw (c .cdl-with .ensures) (content-end _ _ _ _ _ (c .before .before .before .before .before .before .before .loop .inv .2) (rw (c .before .before .before .enum-told .given .1) at (c .before .before .before .before .before .item-at .ensures)) _ (c .before .end-tag .ensures))
 
 returns-3 : tie.Need-returns-3 Inv-loop μ-loop
-returns-3 c = rw (c .cdl-with2 .ensures) (held-fault _ _ _ _ _ _ (c .before .before .before .before .before .before .loop .inv .2) _ _ _ _ (rw (c .before .before .l3 .given .1) at (c .before .before .before .before .lead-at .ensures)) tt)
-
-enum-told-2 : tie.Need-enum-told-2 Inv-loop μ-loop
-enum-told-2 c = search needs
-
-cdl-with-requires-3 : tie.Need-cdl-with-requires-3 Inv-loop μ-loop
-cdl-with-requires-3 c κs = search needs
-
-same-length-7 : tie.Need-same-length-7 Inv-loop μ-loop
-same-length-7 c = search needs
-
-same-length-8 : tie.Need-same-length-8 Inv-loop μ-loop
-same-length-8 c = search needs
+returns-3 c = rw (c .cdl-with2 .ensures) (held-fault _ _ _ _ _ _ (c .before .before .before .before .before .before .loop .inv .2) _ _ _ _ (rw (c .before .before .l3 .given .1) at (c .before .before .before .before .item-at .ensures)) tt)
 
 returns-4 : tie.Need-returns-4 Inv-loop μ-loop
-returns-4 c = rw (c .cdl-with3 .ensures) (held-cut _ _ _ _ _ _ (c .before .before .before .before .before .loop .inv .2) _ _ (rw (c .before .enum-told2 .given .1) at (c .before .before .before .lead-at .ensures)) tt)
-
-cdl-with-requires-4 : tie.Need-cdl-with-requires-4 Inv-loop μ-loop
-cdl-with-requires-4 c κs = search needs
-
-same-length-9 : tie.Need-same-length-9 Inv-loop μ-loop
-same-length-9 c = search needs
-
-same-length-10 : tie.Need-same-length-10 Inv-loop μ-loop
-same-length-10 c = search needs
+returns-4 c = rw (c .cdl-with3 .ensures) (held-cut _ _ _ _ _ _ (c .before .before .before .before .before .loop .inv .2) _ _ (rw (c .before .enum-told2 .given .1) at (c .before .before .before .item-at .ensures)) tt)
 
 returns-5 : tie.Need-returns-5 Inv-loop μ-loop
 returns-5 c = rw (c .cdl-with4 .ensures) (held-ended _ _ _ _ _ _ (c .before .before .loop .inv .2) _ _ (omega arith) tt)
@@ -130,38 +58,38 @@ cdl-content-spec =
     (tie.spec
     Inv-loop
     μ-loop
-    no-cdl-requires
+    (λ c κs. search needs)
     loop-holds
-    lead-at-requires
-    enum-known-l
+    (λ c κs. search needs)
+    (λ c. search needs)
     loop-less
     loop-again
-    enum-known-l-2
+    (λ c. search needs)
     cdl-child-requires
-    enum-known-r
-    same-length
-    same-length-2
+    (λ c. search needs)
+    (λ c. search needs)
+    (λ c. search needs)
     returns
     loop-less-2
     loop-again-2
-    enum-told
-    slice-aggregate-end-tag
-    end-tag-requires
-    cdl-with-requires
-    same-length-3
-    same-length-4
+    (λ c. search needs)
+    (λ c. search needs)
+    (λ c κs. search needs)
+    (λ c κs. search needs)
+    (λ c. search needs)
+    (λ c. search needs)
     returns-2
-    enum-known-l-3
-    cdl-with-requires-2
-    same-length-5
-    same-length-6
+    (λ c. search needs)
+    (λ c κs. search needs)
+    (λ c. search needs)
+    (λ c. search needs)
     returns-3
-    enum-told-2
-    cdl-with-requires-3
-    same-length-7
-    same-length-8
+    (λ c. search needs)
+    (λ c κs. search needs)
+    (λ c. search needs)
+    (λ c. search needs)
     returns-4
-    cdl-with-requires-4
-    same-length-9
-    same-length-10
+    (λ c κs. search needs)
+    (λ c. search needs)
+    (λ c. search needs)
     returns-5)

@@ -3,37 +3,13 @@ use borrow.Author.Needs.{needs}
 use Rattle.cdl_node.proofs.cdl_fault.Statement.{statement}
 use Rattle.cdl_node.proofs.cdl_fault.Tie as tie
 
-slice-aggregate-same : tie.Need-slice-aggregate-same
-slice-aggregate-same c = search needs
-
-same-requires : tie.Need-same-requires
-same-requires c κs = search needs
-
-cdl-late-requires : tie.Need-cdl-late-requires
-cdl-late-requires c κs = search needs
-
 returns : tie.Need-returns
 unfolding cdlFaultOf
 returns c = rw (← c .before .before .same .ensures, c .before .if1 .taken) (c .cdl-late .ensures)
 
-slice-aggregate-same-2 : tie.Need-slice-aggregate-same-2
-slice-aggregate-same-2 c = search needs
-
-same-requires-2 : tie.Need-same-requires-2
-same-requires-2 c κs = search needs
-
-cdl-late-requires-2 : tie.Need-cdl-late-requires-2
-cdl-late-requires-2 c κs = search needs
-
 returns-2 : tie.Need-returns-2
 unfolding cdlFaultOf
 returns-2 c = rw (← c .before .before .before .before .before .same .ensures, c .before .before .before .before .if1 .left, ← c .before .before .same2 .ensures, c .before .if2 .taken) (c .cdl-late2 .ensures)
-
-slice-aggregate-same-3 : tie.Need-slice-aggregate-same-3
-slice-aggregate-same-3 c = search needs
-
-same-requires-3 : tie.Need-same-requires-3
-same-requires-3 c κs = search needs
 
 returns-3 : tie.Need-returns-3
 unfolding cdlFaultOf
@@ -51,16 +27,16 @@ pub cdl-fault-spec : {M : Type 1} → statement M
 cdl-fault-spec =
     tie.close
     (tie.spec
-    slice-aggregate-same
-    same-requires
-    cdl-late-requires
+    (λ c. search needs)
+    (λ c κs. search needs)
+    (λ c κs. search needs)
     returns
-    slice-aggregate-same-2
-    same-requires-2
-    cdl-late-requires-2
+    (λ c. search needs)
+    (λ c κs. search needs)
+    (λ c κs. search needs)
     returns-2
-    slice-aggregate-same-3
-    same-requires-3
+    (λ c. search needs)
+    (λ c κs. search needs)
     returns-3
     returns-4
     returns-5)

@@ -4,36 +4,6 @@ use borrow.Author.Needs.{needs}
 use Rattle.cdl_node.proofs.cdl_followed.Statement.{statement}
 use Rattle.cdl_node.proofs.cdl_followed.Tie as tie
 
-enum-known-end : tie.Need-enum-known-end
-enum-known-end c = search needs
-
-cdl-content-requires : tie.Need-cdl-content-requires
-cdl-content-requires c κs = search needs
-
-enum-known-end-2 : tie.Need-enum-known-end-2
-enum-known-end-2 c = search needs
-
-no-cdl-requires : tie.Need-no-cdl-requires
-no-cdl-requires c κs = search needs
-
-enum-known-end-3 : tie.Need-enum-known-end-3
-enum-known-end-3 c = search needs
-
-no-cdl-requires-2 : tie.Need-no-cdl-requires-2
-no-cdl-requires-2 c κs = search needs
-
-enum-told : tie.Need-enum-told
-enum-told c = search needs
-
-no-cdl-requires-3 : tie.Need-no-cdl-requires-3
-no-cdl-requires-3 c κs = search needs
-
-same-length : tie.Need-same-length
-same-length c = search needs
-
-same-length-2 : tie.Need-same-length-2
-same-length-2 c = search needs
-
 returns : tie.Need-returns
 returns c = rw (c .before .before .before .before .before .before .end .given .1) (c .before .before .cdl-content .ensures)
 
@@ -50,16 +20,16 @@ pub cdl-followed-spec : {M : Type 1} → statement M
 cdl-followed-spec =
     tie.close
     (tie.spec
-    enum-known-end
-    cdl-content-requires
-    enum-known-end-2
-    no-cdl-requires
-    enum-known-end-3
-    no-cdl-requires-2
-    enum-told
-    no-cdl-requires-3
-    same-length
-    same-length-2
+    (λ c. search needs)
+    (λ c κs. search needs)
+    (λ c. search needs)
+    (λ c κs. search needs)
+    (λ c. search needs)
+    (λ c κs. search needs)
+    (λ c. search needs)
+    (λ c κs. search needs)
+    (λ c. search needs)
+    (λ c. search needs)
     returns
     returns-2
     returns-3

@@ -6,38 +6,11 @@ use borrow.Author.Needs.{needs}
 use Rattle.cdl_node.proofs.inner_child.Statement.{statement}
 use Rattle.cdl_node.proofs.inner_child.Tie as tie
 
-add-part : tie.Need-add-part
-add-part c = search needs
-
-part-requires : tie.Need-part-requires
-part-requires c κs = search needs
-
-inner-fault-requires : tie.Need-inner-fault-requires
-inner-fault-requires c κs = search needs
-
 returns : tie.Need-returns
 returns c = λ m₀ l v. inner-refused (c .before .before .before .before .args .part) _ _ _ _ (c .before .before .part .ensures) (c .before .before .before .before .pre .0) (c .before .before .before .before .pre .1) _ _ (c .before .inner-fault .ensures) m₀ _ l v _ (c .if1 .taken)
 
-inner-width-requires : tie.Need-inner-width-requires
-inner-width-requires c κs = search needs
-
-inner-rule-requires : tie.Need-inner-rule-requires
-inner-rule-requires c κs = search needs
-
-inner-base-requires : tie.Need-inner-base-requires
-inner-base-requires c κs = search needs
-
 add-base : tie.Need-add-base
 add-base c = omega (arith, c .inner-base .ensures, base-nine (c .before .before .before .before .before .before .before .args .part), c .before .before .before .before .before .before .before .pre .2)
-
-value-element-requires : tie.Need-value-element-requires
-value-element-requires c κs = search needs
-
-same-length : tie.Need-same-length
-same-length c = search needs
-
-same-length-2 : tie.Need-same-length-2
-same-length-2 c = search needs
 
 returns-2 : tie.Need-returns-2
 returns-2 c = λ m₀ l v. inner-goes (c .before .before .before .before .before .before .before .before .before .before .before .before .args .part) _ _ _ _ (c .before .before .before .before .before .before .before .before .before .before .part .ensures) (c .before .before .before .before .before .before .before .before .before .before .before .before .pre .0) (c .before .before .before .before .before .before .before .before .before .before .before .before .pre .1) _ _ (c .before .before .before .before .before .before .before .before .before .inner-fault .ensures) m₀ _ l v (c .before .before .before .before .before .before .before .before .if1 .left) _ _ _ _ _ (c .before .before .before .before .before .before .before .inner-width .ensures) (c .before .before .before .before .before .before .inner-rule .ensures) (ap (λ (n : ℕ). n + c .before .before .before .before .before .before .before .before .before .before .before .before .args .count) (c .before .before .before .before .before .inner-base .ensures)) (c .before .before .value-element .ensures)
@@ -46,15 +19,15 @@ pub inner-child-spec : {M : Type 1} → statement M
 inner-child-spec =
     tie.close
     (tie.spec
-    add-part
-    part-requires
-    inner-fault-requires
+    (λ c. search needs)
+    (λ c κs. search needs)
+    (λ c κs. search needs)
     returns
-    inner-width-requires
-    inner-rule-requires
-    inner-base-requires
+    (λ c κs. search needs)
+    (λ c κs. search needs)
+    (λ c κs. search needs)
     add-base
-    value-element-requires
-    same-length
-    same-length-2
+    (λ c κs. search needs)
+    (λ c. search needs)
+    (λ c. search needs)
     returns-2)

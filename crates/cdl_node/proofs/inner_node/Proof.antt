@@ -8,27 +8,9 @@ use borrow.Author.Needs.{needs}
 use Rattle.cdl_node.proofs.inner_node.Statement.{statement}
 use Rattle.cdl_node.proofs.inner_node.Tie as tie
 
-start-tag-requires : tie.Need-start-tag-requires
-start-tag-requires c κs = search needs
-
-behind-requires : tie.Need-behind-requires
-behind-requires c κs = search needs
-
-enum-known-r : tie.Need-enum-known-r
-enum-known-r c = search needs
-
 returns : tie.Need-returns
 unfolding rulesOf
 returns c = inner-failed (c .before .before .before .before .args .part) _ _ _ _ _ (failed (c .before .behind .result) (c .match .keys2)) (tag-reads _ Holder refl _ _ (c .before .before .start-tag .result) (c .before .before .start-tag .ensures) _ (c .before .behind .ensures))
-
-inner-content-requires : tie.Need-inner-content-requires
-inner-content-requires c κs = search needs
-
-same-length : tie.Need-same-length
-same-length c = search needs
-
-same-length-2 : tie.Need-same-length-2
-same-length-2 c = search needs
 
 returns-2 : tie.Need-returns-2
 unfolding rulesOf
@@ -38,11 +20,11 @@ pub inner-node-spec : {M : Type 1} → statement M
 inner-node-spec =
     tie.close
     (tie.spec
-    start-tag-requires
-    behind-requires
-    enum-known-r
+    (λ c κs. search needs)
+    (λ c κs. search needs)
+    (λ c. search needs)
     returns
-    inner-content-requires
-    same-length
-    same-length-2
+    (λ c κs. search needs)
+    (λ c. search needs)
+    (λ c. search needs)
     returns-2)

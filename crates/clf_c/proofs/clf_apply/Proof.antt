@@ -14,13 +14,7 @@ returns : tie.Need-returns
 returns c = let a = c .before .before .before .args in no-threes (now (a .file)) (lent (now (a .coefficients)) (now (a .powers))) (now (a .pixels)) (c .if1 .taken)
 
 -- src/lib.rt:74:9
-first-not-finite-requires : tie.Need-first-not-finite-requires
-first-not-finite-requires c κs = search needs
-
 -- src/lib.rt:76:9
-same-length : tie.Need-same-length
-same-length c = search needs
-
 -- src/lib.rt:76:9
 returns-2 : tie.Need-returns-2
 returns-2 c =
@@ -32,31 +26,19 @@ read-and-run-requires : tie.Need-read-and-run-requires
 read-and-run-requires c κs = slice-passes (now (c .before .before .before .before .before .before .before .before .before .args .pixels)) (c .before .before .before .before .first-not-finite .result) (c .before .before .before .before .before .before .if1 .left) (c .before .before .before .before .first-not-finite .ensures) (c .before .before .before .if2 .left)
 
 -- src/lib.rt:59:1
-same-length-2 : tie.Need-same-length-2
-same-length-2 c = search needs
-
 -- src/lib.rt:59:1
-same-length-3 : tie.Need-same-length-3
-same-length-3 c = search needs
-
 -- src/lib.rt:59:1
-same-length-4 : tie.Need-same-length-4
-same-length-4 c = search needs
-
 -- src/lib.rt:59:1
-returns-3 : tie.Need-returns-3
-returns-3 c = search needs
-
 pub clf-apply-spec : {M : Type 1} → statement M
 clf-apply-spec =
     tie.close
     (tie.spec
     returns
-    first-not-finite-requires
-    same-length
+    (λ c κs. search needs)
+    (λ c. search needs)
     returns-2
     read-and-run-requires
-    same-length-2
-    same-length-3
-    same-length-4
-    returns-3)
+    (λ c. search needs)
+    (λ c. search needs)
+    (λ c. search needs)
+    (λ c. search needs))

@@ -8,17 +8,8 @@ use Rattle.decimal_read.proofs.behind_sign.Tie as tie
 returns : tie.Need-returns
 returns c = (search (scan, behindSign·laws), search needs)
 
-shared-slice-read-b : tie.Need-shared-slice-read-b
-shared-slice-read-b c = search needs
-
-add-result : tie.Need-add-result
-add-result c = search needs
-
 returns-2 : tie.Need-returns-2
 returns-2 c = (search (scan, behindSign·laws), search needs)
-
-add-result-2 : tie.Need-add-result-2
-add-result-2 c = search needs
 
 returns-3 : tie.Need-returns-3
 returns-3 c = (search (scan, behindSign·laws), search needs)
@@ -29,4 +20,4 @@ returns-4 c = (search (scan, behindSign·laws), search needs)
 pub behind-sign-spec : {M : Type 1} → statement M
 behind-sign-spec =
     tie.close
-    (tie.spec returns shared-slice-read-b add-result returns-2 add-result-2 returns-3 returns-4)
+    (tie.spec returns (λ c. search needs) (λ c. search needs) returns-2 (λ c. search needs) returns-3 returns-4)

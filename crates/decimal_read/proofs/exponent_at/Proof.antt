@@ -7,29 +7,8 @@ use Rattle.decimal_read.proofs.exponent_at.Tie as tie
 returns : tie.Need-returns
 returns c = search exponent-end
 
-shared-slice-read-b : tie.Need-shared-slice-read-b
-shared-slice-read-b c = search needs
-
-is-mark-requires : tie.Need-is-mark-requires
-is-mark-requires c κs = search needs
-
-add-behind-sign : tie.Need-add-behind-sign
-add-behind-sign c = search needs
-
-behind-sign-requires : tie.Need-behind-sign-requires
-behind-sign-requires c κs = search needs
-
-run-at-requires : tie.Need-run-at-requires
-run-at-requires c κs = search needs
-
 returns-2 : tie.Need-returns-2
 returns-2 c = search exponent-more
-
-add-is-minus : tie.Need-add-is-minus
-add-is-minus c = search needs
-
-is-minus-requires : tie.Need-is-minus-requires
-is-minus-requires c κs = search needs
 
 exponent-of-requires : tie.Need-exponent-of-requires
 exponent-of-requires c κs = search short-run
@@ -45,14 +24,14 @@ exponent-at-spec =
     tie.close
     (tie.spec
     returns
-    shared-slice-read-b
-    is-mark-requires
-    add-behind-sign
-    behind-sign-requires
-    run-at-requires
+    (λ c. search needs)
+    (λ c κs. search needs)
+    (λ c. search needs)
+    (λ c κs. search needs)
+    (λ c κs. search needs)
     returns-2
-    add-is-minus
-    is-minus-requires
+    (λ c. search needs)
+    (λ c κs. search needs)
     exponent-of-requires
     returns-3
     returns-4)

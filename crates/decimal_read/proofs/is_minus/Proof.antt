@@ -8,11 +8,8 @@ use Rattle.decimal_read.proofs.is_minus.Tie as tie
 returns : tie.Need-returns
 returns c = search (scan, isMinus·laws)
 
-shared-slice-read-b : tie.Need-shared-slice-read-b
-shared-slice-read-b c = search needs
-
 returns-2 : tie.Need-returns-2
 returns-2 c = search (scan, isMinus·laws)
 
 pub is-minus-spec : {M : Type 1} → statement M
-is-minus-spec = tie.close (tie.spec returns shared-slice-read-b returns-2)
+is-minus-spec = tie.close (tie.spec returns (λ c. search needs) returns-2)

@@ -4,9 +4,6 @@ use borrow.Author.Needs.{needs}
 use Rattle.decimal_read.proofs.lowered.Statement.{statement}
 use Rattle.decimal_read.proofs.lowered.Tie as tie
 
-cast-p : tie.Need-cast-p
-cast-p c = search needs
-
 sub-result : tie.Need-sub-result
 sub-result c = search lowered-fits
 
@@ -14,4 +11,4 @@ returns : tie.Need-returns
 returns c = search lowered-is
 
 pub lowered-spec : {M : Type 1} → statement M
-lowered-spec = tie.close (tie.spec cast-p sub-result returns)
+lowered-spec = tie.close (tie.spec (λ c. search needs) sub-result returns)

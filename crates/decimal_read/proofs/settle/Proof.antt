@@ -10,24 +10,6 @@ returns c = search settled-long
 returns-2 : tie.Need-returns-2
 returns-2 c = search settled-zero
 
-strip-requires : tie.Need-strip-requires
-strip-requires c κs = search needs
-
-add-range : tie.Need-add-range
-add-range c = search needs
-
-add-range-2 : tie.Need-add-range-2
-add-range-2 c = search needs
-
-add-range-3 : tie.Need-add-range-3
-add-range-3 c = search needs
-
-add-range-4 : tie.Need-add-range-4
-add-range-4 c = search needs
-
-range-requires : tie.Need-range-requires
-range-requires c κs = search needs
-
 returns-3 : tie.Need-returns-3
 returns-3 c = search settled-other
 
@@ -37,10 +19,10 @@ settle-spec =
     (tie.spec
     returns
     returns-2
-    strip-requires
-    add-range
-    add-range-2
-    add-range-3
-    add-range-4
-    range-requires
+    (λ c κs. search needs)
+    (λ c. search needs)
+    (λ c. search needs)
+    (λ c. search needs)
+    (λ c. search needs)
+    (λ c κs. search needs)
     returns-3)

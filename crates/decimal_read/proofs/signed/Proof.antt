@@ -4,9 +4,6 @@ use borrow.Author.Needs.{needs}
 use Rattle.decimal_read.proofs.signed.Statement.{statement}
 use Rattle.decimal_read.proofs.signed.Tie as tie
 
-cast-z : tie.Need-cast-z
-cast-z c = search needs
-
 sub-result : tie.Need-sub-result
 sub-result c = search minus-fits
 
@@ -17,4 +14,4 @@ returns-2 : tie.Need-returns-2
 returns-2 c = search signed-up
 
 pub signed-spec : {M : Type 1} → statement M
-signed-spec = tie.close (tie.spec cast-z sub-result returns returns-2)
+signed-spec = tie.close (tie.spec (λ c. search needs) sub-result returns returns-2)

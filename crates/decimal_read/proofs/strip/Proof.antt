@@ -13,12 +13,6 @@ abbrev μ-loop : tie.MeasureT-loop
 loop-holds : tie.Need-loop-holds Inv-loop μ-loop
 loop-holds c = search strip-start
 
-add-z : tie.Need-add-z Inv-loop μ-loop
-add-z c = search needs
-
-loop-less : tie.Need-loop-less Inv-loop μ-loop
-loop-less c = search needs
-
 loop-again : tie.Need-loop-again Inv-loop μ-loop
 loop-again c = search strip-more
 
@@ -26,4 +20,4 @@ returns : tie.Need-returns Inv-loop μ-loop
 returns c = strip-done _ _ _ (c .before .before .pre .0) (c .before .before .pre .1) (c .before .loop .inv) (c .loop-test .left)
 
 pub strip-spec : {M : Type 1} → statement M
-strip-spec = tie.close (tie.spec Inv-loop μ-loop loop-holds add-z loop-less loop-again returns)
+strip-spec = tie.close (tie.spec Inv-loop μ-loop loop-holds (λ c. search needs) (λ c. search needs) loop-again returns)

@@ -6,24 +6,6 @@ use borrow.Author.Needs.{needs}
 use Rattle.describing.proofs.child_text.Statement.{statement}
 use Rattle.describing.proofs.child_text.Tie as tie
 
-part-requires : tie.Need-part-requires
-part-requires c κs = search needs
-
-slice-aggregate-same : tie.Need-slice-aggregate-same
-slice-aggregate-same c = search needs
-
-same-requires : tie.Need-same-requires
-same-requires c κs = search needs
-
-plain-tag-requires : tie.Need-plain-tag-requires
-plain-tag-requires c κs = search needs
-
-enum-known-end : tie.Need-enum-known-end
-enum-known-end c = search needs
-
-no-part-requires : tie.Need-no-part-requires
-no-part-requires c κs = search needs
-
 returns : tie.Need-returns
 returns c =
     let match = c .before .match in
@@ -46,9 +28,6 @@ returns-2 c =
     rw (← part .ensures, open-child _ _ _ (sym (same .ensures) ∙ if1 .taken) _ (plain-tag .ensures) _ (end .given .1))
     (c .text-at .ensures)
 
-no-part-requires-2 : tie.Need-no-part-requires-2
-no-part-requires-2 c κs = search needs
-
 returns-3 : tie.Need-returns-3
 returns-3 c =
     let if1 = c .before .if1 in
@@ -60,14 +39,14 @@ pub child-text-spec : {M : Type 1} → statement M
 child-text-spec =
     tie.close
     (tie.spec
-    part-requires
-    slice-aggregate-same
-    same-requires
-    plain-tag-requires
-    enum-known-end
-    no-part-requires
+    (λ c κs. search needs)
+    (λ c. search needs)
+    (λ c κs. search needs)
+    (λ c κs. search needs)
+    (λ c. search needs)
+    (λ c κs. search needs)
     returns
     text-at-requires
     returns-2
-    no-part-requires-2
+    (λ c κs. search needs)
     returns-3)

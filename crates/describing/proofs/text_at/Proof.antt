@@ -5,12 +5,6 @@ use borrow.Author.Needs.{needs}
 use Rattle.describing.proofs.text_at.Statement.{statement}
 use Rattle.describing.proofs.text_at.Tie as tie
 
-text-to-requires : tie.Need-text-to-requires
-text-to-requires c κs = search needs
-
-enum-known-r : tie.Need-enum-known-r
-enum-known-r c = search needs
-
 returns : tie.Need-returns
 returns c = text-lost _ _ (c .before .before .before .pre) _ (failed (c .before .text-to .result) (c .match .keys2)) (c .before .text-to .ensures)
 
@@ -21,4 +15,4 @@ returns-2 : tie.Need-returns-2
 returns-2 c = text-found _ _ (c .before .before .before .before .before .pre) _ (rw (c .before .r .given .1) at (c .before .before .before .text-to .ensures))
 
 pub text-at-spec : {M : Type 1} → statement M
-text-at-spec = tie.close (tie.spec text-to-requires enum-known-r returns sub-t5 returns-2)
+text-at-spec = tie.close (tie.spec (λ c κs. search needs) (λ c. search needs) returns sub-t5 returns-2)

@@ -5,26 +5,8 @@ use borrow.Author.Needs.{needs}
 use Rattle.describing.proofs.text_part.Statement.{statement}
 use Rattle.describing.proofs.text_part.Tie as tie
 
-open-name-requires : tie.Need-open-name-requires
-open-name-requires c κs = search needs
-
-enum-known-r : tie.Need-enum-known-r
-enum-known-r c = search needs
-
-no-part-requires : tie.Need-no-part-requires
-no-part-requires c κs = search needs
-
 returns : tie.Need-returns
 returns c = none-found _ _ _ (c .no-part .ensures) (no-name _ _ _ (failed (c .before .before .open-name .result) (c .before .match .keys2)) (c .before .before .open-name .ensures))
-
-plain-tag-requires : tie.Need-plain-tag-requires
-plain-tag-requires c κs = search needs
-
-enum-known-end : tie.Need-enum-known-end
-enum-known-end c = search needs
-
-no-part-requires-2 : tie.Need-no-part-requires-2
-no-part-requires-2 c κs = search needs
 
 returns-2 : tie.Need-returns-2
 returns-2 c =
@@ -33,9 +15,6 @@ returns-2 c =
     let r = c .before .before .before .before .r in
     let open-name = c .before .before .before .before .before .before .open-name in
     none-found _ _ _ (c .no-part2 .ensures) (closed-node _ _ _ (rw (r .given .1) at (open-name .ensures)) _ (plain-tag .ensures) (not-open (plain-tag .result) (match2 .keys2)))
-
-first-text-requires : tie.Need-first-text-requires
-first-text-requires c κs = search needs
 
 returns-3 : tie.Need-returns-3
 returns-3 c =
@@ -49,13 +28,13 @@ pub text-part-spec : {M : Type 1} → statement M
 text-part-spec =
     tie.close
     (tie.spec
-    open-name-requires
-    enum-known-r
-    no-part-requires
+    (λ c κs. search needs)
+    (λ c. search needs)
+    (λ c κs. search needs)
     returns
-    plain-tag-requires
-    enum-known-end
-    no-part-requires-2
+    (λ c κs. search needs)
+    (λ c. search needs)
+    (λ c κs. search needs)
     returns-2
-    first-text-requires
+    (λ c κs. search needs)
     returns-3)

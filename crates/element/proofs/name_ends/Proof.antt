@@ -7,20 +7,8 @@ use borrow.Author.Needs.{needs}
 use Rattle.element.proofs.name_ends.Statement.{statement}
 use Rattle.element.proofs.name_ends.Tie as tie
 
-no-name-requires : tie.Need-no-name-requires
-no-name-requires c κs = search needs
-
 returns : tie.Need-returns
 returns c = rw (c .no-name .ensures) (name-cut _ _ (nameEnds (nameOf (c .before .before .before .args .name))) _ _ (omega arith))
-
-shared-slice-read-is-name-byte : tie.Need-shared-slice-read-is-name-byte
-shared-slice-read-is-name-byte c = search needs
-
-is-name-byte-requires : tie.Need-is-name-byte-requires
-is-name-byte-requires c κs = search needs
-
-no-name-requires-2 : tie.Need-no-name-requires-2
-no-name-requires-2 c κs = search needs
 
 returns-2 : tie.Need-returns-2
 returns-2 c = rw (c .no-name2 .ensures) (name-goes-on _ _ (omega arith) _ _ (sym (c .before .before .is-name-byte .ensures) ∙ c .before .if2 .taken))
@@ -32,10 +20,10 @@ pub name-ends-spec : {M : Type 1} → statement M
 name-ends-spec =
     tie.close
     (tie.spec
-    no-name-requires
+    (λ c κs. search needs)
     returns
-    shared-slice-read-is-name-byte
-    is-name-byte-requires
-    no-name-requires-2
+    (λ c. search needs)
+    (λ c κs. search needs)
+    (λ c κs. search needs)
     returns-2
     returns-3)

@@ -4,29 +4,11 @@ use borrow.Author.Needs.{needs}
 use Rattle.element.proofs.open_start.Statement.{statement}
 use Rattle.element.proofs.open_start.Tie as tie
 
-byte-requires : tie.Need-byte-requires
-byte-requires c κs = search needs
-
-enum-known-first : tie.Need-enum-known-first
-enum-known-first c = search needs
-
-no-name-requires : tie.Need-no-name-requires
-no-name-requires c κs = search needs
-
 returns : tie.Need-returns
 returns c = rw (c .no-name .ensures) (open-none _ _ (c .before .before .byte .result) (failed (c .before .before .byte .result) (c .before .match .keys2)) (c .before .before .byte .ensures))
 
-start-name-requires : tie.Need-start-name-requires
-start-name-requires c κs = search needs
-
-enum-known-scan : tie.Need-enum-known-scan
-enum-known-scan c = search needs
-
 returns-2 : tie.Need-returns-2
 returns-2 c = open-failed _ _ (rw (c .before .before .before .first .given .1) at (c .before .before .before .before .before .byte .ensures)) _ _ (failed (c .before .start-name .result .scan) (c .match2 .keys2)) (c .before .start-name .ensures)
-
-name-ends-requires : tie.Need-name-ends-requires
-name-ends-requires c κs = search needs
 
 returns-3 : tie.Need-returns-3
 returns-3 c = open-named _ _ (rw (c .before .before .before .before .before .before .first .given .1) at (c .before .before .before .before .before .before .before .before .byte .ensures)) _ _ _ _ (rw (c .before .before .scan .given .1) at (c .before .before .before .before .start-name .ensures)) (c .name-ends .ensures)
@@ -35,12 +17,12 @@ pub open-start-spec : {M : Type 1} → statement M
 open-start-spec =
     tie.close
     (tie.spec
-    byte-requires
-    enum-known-first
-    no-name-requires
+    (λ c κs. search needs)
+    (λ c. search needs)
+    (λ c κs. search needs)
     returns
-    start-name-requires
-    enum-known-scan
+    (λ c κs. search needs)
+    (λ c. search needs)
     returns-2
-    name-ends-requires
+    (λ c κs. search needs)
     returns-3)

@@ -3,12 +3,6 @@ use borrow.Author.Needs.{needs}
 use Rattle.file_text.proofs.carried_child.Statement.{statement}
 use Rattle.file_text.proofs.carried_child.Tie as tie
 
-node-body-requires : tie.Need-node-body-requires
-node-body-requires c κs = search needs
-
-list-node-requires : tie.Need-list-node-requires
-list-node-requires c κs = search needs
-
 same-length : tie.Need-same-length
 same-length c = (node-room (c .before .before .before .before .node-body .ensures)) .coefficients .size
 
@@ -20,4 +14,4 @@ returns c = record { node = c .before .before .before .before .node-body .result
 
 pub carried-child-spec : {M : Type 1} → statement M
 carried-child-spec =
-    tie.close (tie.spec node-body-requires list-node-requires same-length same-length-2 returns)
+    tie.close (tie.spec (λ c κs. search needs) (λ c κs. search needs) same-length same-length-2 returns)

@@ -3,18 +3,6 @@ use borrow.Author.Needs.{needs}
 use Rattle.file_text.proofs.file_list.Statement.{statement}
 use Rattle.file_text.proofs.file_list.Tie as tie
 
-text-list-requires : tie.Need-text-list-requires
-text-list-requires c κs = search needs
-
-length-requires : tie.Need-length-requires
-length-requires c κs = search needs
-
-limit-requires : tie.Need-limit-requires
-limit-requires c κs = search needs
-
-clear-requires : tie.Need-clear-requires
-clear-requires c κs = search needs
-
 same-length : tie.Need-same-length
 same-length c =
     let clear = c .before .before .clear in
@@ -45,10 +33,10 @@ pub file-list-spec : {M : Type 1} → statement M
 file-list-spec =
     tie.close
     (tie.spec
-    text-list-requires
-    length-requires
-    limit-requires
-    clear-requires
+    (λ c κs. search needs)
+    (λ c κs. search needs)
+    (λ c κs. search needs)
+    (λ c κs. search needs)
     same-length
     same-length-2
     returns)

@@ -1,4 +1,4 @@
-use Rattle.file_text.proofs.Content.{ContentInv, content-start, content-size, child-size, content-gap, content-fault, content-cut, content-end, content-child, content-moves, content-failed, content-past}
+use Rattle.file_text.proofs.Content.{ContentInv, content-start, content-size, child-size, content-misc, content-fault, content-cut, content-end, content-child, content-moves, content-failed, content-past}
 use Rattle.room.specs.Room.{lent}
 use Rattle.xml.proofs.Answers.{failed}
 use lib.ListN.{length}
@@ -14,39 +14,21 @@ Inv-loop s at wanted coefficients₀ powers₀ state₀ i₀ t17 coefficients po
 abbrev μ-loop : tie.MeasureT-loop
 μ-loop s at wanted coefficients₀ powers₀ state₀ i₀ t17 coefficients powers state i = length s - i
 
-no-list-requires : tie.Need-no-list-requires Inv-loop μ-loop
-no-list-requires c κs = search needs
-
 loop-holds : tie.Need-loop-holds Inv-loop μ-loop
 loop-holds c = rw (c .no-list .ensures) (content-start _ _ _ _)
 
-lead-at-requires : tie.Need-lead-at-requires Inv-loop μ-loop
-lead-at-requires c κs = search needs
-
-enum-known-l : tie.Need-enum-known-l Inv-loop μ-loop
-enum-known-l c = search needs
-
 loop-less : tie.Need-loop-less Inv-loop μ-loop
-loop-less c = omega (arith, (rw (c .before .l .given .1) at (c .before .before .before .lead-at .ensures)) .inside)
+loop-less c = omega (arith, (rw (c .before .l .given .1) at (c .before .before .before .item-at .ensures)) .inside)
 
 loop-again : tie.Need-loop-again Inv-loop μ-loop
 loop-again c =
     let l = c .before .l in
-    let lead-at = c .before .before .before .lead-at in
+    let item-at = c .before .before .before .item-at in
     let loop = c .before .before .before .before .before .loop in
-    content-gap _ _ _ _ _ _ _ (loop .inv) (omega arith) _ (rw (l .given .1) at (lead-at .ensures))
-
-enum-known-l-2 : tie.Need-enum-known-l-2 Inv-loop μ-loop
-enum-known-l-2 c = search needs
+    content-misc _ _ _ _ _ _ _ (loop .inv) (omega arith) _ (rw (l .given .1) at (item-at .ensures))
 
 list-child-requires : tie.Need-list-child-requires Inv-loop μ-loop
 list-child-requires c κs = omega arith
-
-enum-known-scan : tie.Need-enum-known-scan Inv-loop μ-loop
-enum-known-scan c = search needs
-
-step-of-requires : tie.Need-step-of-requires Inv-loop μ-loop
-step-of-requires c κs = search needs
 
 same-length : tie.Need-same-length Inv-loop μ-loop
 same-length c =
@@ -65,43 +47,31 @@ returns c =
     let match2 = c .before .match2 in
     let list-child = c .before .before .before .before .before .list-child in
     let l2 = c .before .before .before .before .before .before .before .before .before .l2 in
-    let lead-at = c .before .before .before .before .before .before .before .before .before .before .before .lead-at in
+    let item-at = c .before .before .before .before .before .before .before .before .before .before .before .item-at in
     let test = c .before .before .before .before .before .before .before .before .before .before .before .before .loop-test in
     let loop = c .before .before .before .before .before .before .before .before .before .before .before .before .before .loop in
-    rw (c .step-of .ensures) (content-failed _ _ _ _ _ _ _ (loop .inv) (omega (arith, test .taken)) _ (rw (l2 .given .1) at (lead-at .ensures)) _ _ (failed (list-child .result .scan) (match2 .keys2)) (list-child .ensures))
+    rw (c .step-of .ensures) (content-failed _ _ _ _ _ _ _ (loop .inv) (omega (arith, test .taken)) _ (rw (l2 .given .1) at (item-at .ensures)) _ _ (failed (list-child .result .scan) (match2 .keys2)) (list-child .ensures))
 
 loop-less-2 : tie.Need-loop-less-2 Inv-loop μ-loop
 loop-less-2 c =
     let scan = c .before .scan in
     let list-child = c .before .before .before .before .before .before .list-child in
     let l2 = c .before .before .before .before .before .before .before .before .before .before .l2 in
-    let lead-at = c .before .before .before .before .before .before .before .before .before .before .before .before .lead-at in
+    let item-at = c .before .before .before .before .before .before .before .before .before .before .before .before .item-at in
     let test = c .before .before .before .before .before .before .before .before .before .before .before .before .before .loop-test in
     let loop = c .before .before .before .before .before .before .before .before .before .before .before .before .before .before .loop in
-    omega (arith, content-moves _ _ _ _ _ _ _ (loop .inv) (omega (arith, test .taken)) _ (rw (l2 .given .1) at (lead-at .ensures)) _ _ _ (scan .given .1) (list-child .ensures))
+    omega (arith, content-moves _ _ _ _ _ _ _ (loop .inv) (omega (arith, test .taken)) _ (rw (l2 .given .1) at (item-at .ensures)) _ _ _ (scan .given .1) (list-child .ensures))
 
 loop-again-2 : tie.Need-loop-again-2 Inv-loop μ-loop
 loop-again-2 c =
     let scan = c .before .scan in
     let list-child = c .before .before .before .before .before .before .list-child in
     let l2 = c .before .before .before .before .before .before .before .before .before .before .l2 in
-    let lead-at = c .before .before .before .before .before .before .before .before .before .before .before .before .lead-at in
+    let item-at = c .before .before .before .before .before .before .before .before .before .before .before .before .item-at in
     let test = c .before .before .before .before .before .before .before .before .before .before .before .before .before .loop-test in
     let loop = c .before .before .before .before .before .before .before .before .before .before .before .before .before .before .loop in
-    content-child _ _ _ _ _ _ _ (loop .inv) (omega (arith, test .taken)) _ (rw (l2 .given .1) at (lead-at .ensures)) _ _ _ (scan .given .1)
+    content-child _ _ _ _ _ _ _ (loop .inv) (omega (arith, test .taken)) _ (rw (l2 .given .1) at (item-at .ensures)) _ _ _ (scan .given .1)
     (list-child .ensures)
-
-enum-told : tie.Need-enum-told Inv-loop μ-loop
-enum-told c = search needs
-
-slice-aggregate-end-tag : tie.Need-slice-aggregate-end-tag Inv-loop μ-loop
-slice-aggregate-end-tag c = search needs
-
-end-tag-requires : tie.Need-end-tag-requires Inv-loop μ-loop
-end-tag-requires c κs = search needs
-
-step-of-requires-2 : tie.Need-step-of-requires-2 Inv-loop μ-loop
-step-of-requires-2 c κs = search needs
 
 same-length-3 : tie.Need-same-length-3 Inv-loop μ-loop
 same-length-3 c = (content-size _ _ _ _ _ _ _ (c .before .before .before .before .before .before .before .loop .inv)) .coefficients .size
@@ -113,15 +83,9 @@ returns-2 : tie.Need-returns-2 Inv-loop μ-loop
 returns-2 c =
     let end-tag = c .before .end-tag in
     let enum-told = c .before .before .before .enum-told in
-    let lead-at = c .before .before .before .before .before .lead-at in
+    let item-at = c .before .before .before .before .before .item-at in
     let loop = c .before .before .before .before .before .before .before .loop in
-    rw (c .step-of2 .ensures) (content-end _ _ _ _ _ _ _ (loop .inv) (omega arith) _ (rw (enum-told .given .1) at (lead-at .ensures)) (end-tag .ensures))
-
-enum-known-l-3 : tie.Need-enum-known-l-3 Inv-loop μ-loop
-enum-known-l-3 c = search needs
-
-step-of-requires-3 : tie.Need-step-of-requires-3 Inv-loop μ-loop
-step-of-requires-3 c κs = search needs
+    rw (c .step-of2 .ensures) (content-end _ _ _ _ _ _ _ (loop .inv) (omega arith) _ (rw (enum-told .given .1) at (item-at .ensures)) (end-tag .ensures))
 
 same-length-5 : tie.Need-same-length-5 Inv-loop μ-loop
 same-length-5 c = (content-size _ _ _ _ _ _ _ (c .before .before .before .before .before .before .loop .inv)) .coefficients .size
@@ -132,15 +96,9 @@ same-length-6 c = (content-size _ _ _ _ _ _ _ (c .before .before .before .before
 returns-3 : tie.Need-returns-3 Inv-loop μ-loop
 returns-3 c =
     let l3 = c .before .before .l3 in
-    let lead-at = c .before .before .before .before .lead-at in
+    let item-at = c .before .before .before .before .item-at in
     let loop = c .before .before .before .before .before .before .loop in
-    rw (c .step-of3 .ensures) (content-fault _ _ _ _ _ _ _ (loop .inv) (omega arith) _ _ (rw (l3 .given .1) at (lead-at .ensures)))
-
-enum-told-2 : tie.Need-enum-told-2 Inv-loop μ-loop
-enum-told-2 c = search needs
-
-step-of-requires-4 : tie.Need-step-of-requires-4 Inv-loop μ-loop
-step-of-requires-4 c κs = search needs
+    rw (c .step-of3 .ensures) (content-fault _ _ _ _ _ _ _ (loop .inv) (omega arith) _ _ (rw (l3 .given .1) at (item-at .ensures)))
 
 same-length-7 : tie.Need-same-length-7 Inv-loop μ-loop
 same-length-7 c = (content-size _ _ _ _ _ _ _ (c .before .before .before .before .before .loop .inv)) .coefficients .size
@@ -151,12 +109,9 @@ same-length-8 c = (content-size _ _ _ _ _ _ _ (c .before .before .before .before
 returns-4 : tie.Need-returns-4 Inv-loop μ-loop
 returns-4 c =
     let enum-told2 = c .before .enum-told2 in
-    let lead-at = c .before .before .before .lead-at in
+    let item-at = c .before .before .before .item-at in
     let loop = c .before .before .before .before .before .loop in
-    rw (c .step-of4 .ensures) (content-cut _ _ _ _ _ _ _ (loop .inv) (omega arith) (rw (enum-told2 .given .1) at (lead-at .ensures)))
-
-step-of-requires-5 : tie.Need-step-of-requires-5 Inv-loop μ-loop
-step-of-requires-5 c κs = search needs
+    rw (c .step-of4 .ensures) (content-cut _ _ _ _ _ _ _ (loop .inv) (omega arith) (rw (enum-told2 .given .1) at (item-at .ensures)))
 
 same-length-9 : tie.Need-same-length-9 Inv-loop μ-loop
 same-length-9 c = (content-size _ _ _ _ _ _ _ (c .before .before .loop .inv)) .coefficients .size
@@ -173,39 +128,39 @@ list-content-spec =
     (tie.spec
     Inv-loop
     μ-loop
-    no-list-requires
+    (λ c κs. search needs)
     loop-holds
-    lead-at-requires
-    enum-known-l
+    (λ c κs. search needs)
+    (λ c. search needs)
     loop-less
     loop-again
-    enum-known-l-2
+    (λ c. search needs)
     list-child-requires
-    enum-known-scan
-    step-of-requires
+    (λ c. search needs)
+    (λ c κs. search needs)
     same-length
     same-length-2
     returns
     loop-less-2
     loop-again-2
-    enum-told
-    slice-aggregate-end-tag
-    end-tag-requires
-    step-of-requires-2
+    (λ c. search needs)
+    (λ c. search needs)
+    (λ c κs. search needs)
+    (λ c κs. search needs)
     same-length-3
     same-length-4
     returns-2
-    enum-known-l-3
-    step-of-requires-3
+    (λ c. search needs)
+    (λ c κs. search needs)
     same-length-5
     same-length-6
     returns-3
-    enum-told-2
-    step-of-requires-4
+    (λ c. search needs)
+    (λ c κs. search needs)
     same-length-7
     same-length-8
     returns-4
-    step-of-requires-5
+    (λ c κs. search needs)
     same-length-9
     same-length-10
     returns-5)

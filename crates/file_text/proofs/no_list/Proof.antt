@@ -2,11 +2,8 @@ use borrow.Author.Needs.{needs}
 use Rattle.file_text.proofs.no_list.Statement.{statement}
 use Rattle.file_text.proofs.no_list.Tie as tie
 
-empty-requires : tie.Need-empty-requires
-empty-requires c κs = search needs
-
 returns : tie.Need-returns
 returns c = rw (c .empty .ensures)
 
 pub no-list-spec : {M : Type 1} → statement M
-no-list-spec = tie.close (tie.spec empty-requires returns)
+no-list-spec = tie.close (tie.spec (λ c κs. search needs) returns)

@@ -8,24 +8,6 @@ use borrow.Author.Needs.{needs}
 use Rattle.file_text.proofs.node_child.Statement.{statement}
 use Rattle.file_text.proofs.node_child.Tie as tie
 
-enum-known-name : tie.Need-enum-known-name
-enum-known-name c = search needs
-
-carried-child-requires : tie.Need-carried-child-requires
-carried-child-requires c κs = search needs
-
-enum-told : tie.Need-enum-told
-enum-told c = search needs
-
-step-of-requires : tie.Need-step-of-requires
-step-of-requires c κs = search needs
-
-enum-told-2 : tie.Need-enum-told-2
-enum-told-2 c = search needs
-
-step-of-requires-2 : tie.Need-step-of-requires-2
-step-of-requires-2 c κs = search needs
-
 same-length : tie.Need-same-length
 same-length c = (carried-room (c .before .before .carried-child .ensures)) .coefficients .size
 
@@ -45,12 +27,12 @@ pub node-child-spec : {M : Type 1} → statement M
 node-child-spec =
     tie.close
     (tie.spec
-    enum-known-name
-    carried-child-requires
-    enum-told
-    step-of-requires
-    enum-told-2
-    step-of-requires-2
+    (λ c. search needs)
+    (λ c κs. search needs)
+    (λ c. search needs)
+    (λ c κs. search needs)
+    (λ c. search needs)
+    (λ c κs. search needs)
     same-length
     same-length-2
     returns

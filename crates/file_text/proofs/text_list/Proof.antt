@@ -4,30 +4,12 @@ use borrow.Author.Needs.{needs}
 use Rattle.file_text.proofs.text_list.Statement.{statement}
 use Rattle.file_text.proofs.text_list.Tie as tie
 
-to-root-requires : tie.Need-to-root-requires
-to-root-requires c κs = search needs
-
-enum-known-r : tie.Need-enum-known-r
-enum-known-r c = search needs
-
-no-list-requires : tie.Need-no-list-requires
-no-list-requires c κs = search needs
-
-step-of-requires : tie.Need-step-of-requires
-step-of-requires c κs = search needs
-
 returns : tie.Need-returns
 returns c =
     let no-list = c .before .no-list in
     let match = c .before .before .match in
     let to-root = c .before .before .before .to-root in
     rw (c .step-of .ensures, no-list .ensures) (no-root _ _ _ _ (failed (to-root .result) (match .keys2)) (to-root .ensures))
-
-root-requires : tie.Need-root-requires
-root-requires c κs = search needs
-
-enum-known-scan : tie.Need-enum-known-scan
-enum-known-scan c = search needs
 
 same-length : tie.Need-same-length
 same-length c = (items-size (c .before .before .before .root .ensures)) .coefficients .size
@@ -42,12 +24,6 @@ returns-2 c =
     let to-root = c .before .before .before .before .before .before .before .before .before .to-root in
     root-failed _ _ _ _ (rw (r .given .1) at (to-root .ensures)) _ _ (failed (root .result .scan) (c .match2 .keys2))
     (root .ensures)
-
-epilogue-requires : tie.Need-epilogue-requires
-epilogue-requires c κs = search needs
-
-step-of-requires-2 : tie.Need-step-of-requires-2
-step-of-requires-2 c κs = search needs
 
 same-length-3 : tie.Need-same-length-3
 same-length-3 c = (items-size (c .before .before .before .before .before .before .before .before .root .ensures)) .coefficients .size
@@ -68,18 +44,18 @@ pub text-list-spec : {M : Type 1} → statement M
 text-list-spec =
     tie.close
     (tie.spec
-    to-root-requires
-    enum-known-r
-    no-list-requires
-    step-of-requires
+    (λ c κs. search needs)
+    (λ c. search needs)
+    (λ c κs. search needs)
+    (λ c κs. search needs)
     returns
-    root-requires
-    enum-known-scan
+    (λ c κs. search needs)
+    (λ c. search needs)
     same-length
     same-length-2
     returns-2
-    epilogue-requires
-    step-of-requires-2
+    (λ c κs. search needs)
+    (λ c κs. search needs)
     same-length-3
     same-length-4
     returns-3)

@@ -4,9 +4,6 @@ use borrow.Author.Needs.{needs}
 use Rattle.file_text.proofs.wanted_start.Statement.{statement}
 use Rattle.file_text.proofs.wanted_start.Tie as tie
 
-add-if2 : tie.Need-add-if2
-add-if2 c = search needs
-
 returns : tie.Need-returns
 unfolding wantedStart
 returns c = rw (lt-ltb _ _ (c .before .if1 .taken), eq-eqb _ _ (c .if2 .taken))
@@ -20,4 +17,4 @@ unfolding wantedStart
 returns-3 c = rw (le-ltb _ _ (c .if1 .left))
 
 pub wanted-start-spec : {M : Type 1} → statement M
-wanted-start-spec = tie.close (tie.spec add-if2 returns returns-2 returns-3)
+wanted-start-spec = tie.close (tie.spec (λ c. search needs) returns returns-2 returns-3)

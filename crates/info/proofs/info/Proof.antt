@@ -5,27 +5,6 @@ use borrow.Author.Needs.{needs}
 use Rattle.info.proofs.info.Statement.{statement}
 use Rattle.info.proofs.info.Tie as tie
 
-plain-tag-requires : tie.Need-plain-tag-requires
-plain-tag-requires c κs = search needs
-
-enum-known-end : tie.Need-enum-known-end
-enum-known-end c = search needs
-
-slice-aggregate-content : tie.Need-slice-aggregate-content
-slice-aggregate-content c = search needs
-
-content-requires : tie.Need-content-requires
-content-requires c κs = search needs
-
-enum-known-end-2 : tie.Need-enum-known-end-2
-enum-known-end-2 c = search needs
-
-enum-known-end-3 : tie.Need-enum-known-end-3
-enum-known-end-3 c = search needs
-
-enum-told : tie.Need-enum-told
-enum-told c = search needs
-
 returns : tie.Need-returns
 returns c = info-rest _ _ _ (rest-open (infoContent (infoElement 16) _) _ _ (c .before .before .before .before .before .plain-tag .result) (c .before .before .before .before .before .plain-tag .ensures) _ _ (c .before .before .before .end .given .1) (c .content .ensures))
 
@@ -42,13 +21,13 @@ pub info-spec : {M : Type 1} → statement M
 info-spec =
     tie.close
     (tie.spec
-    plain-tag-requires
-    enum-known-end
-    slice-aggregate-content
-    content-requires
-    enum-known-end-2
-    enum-known-end-3
-    enum-told
+    (λ c κs. search needs)
+    (λ c. search needs)
+    (λ c. search needs)
+    (λ c κs. search needs)
+    (λ c. search needs)
+    (λ c. search needs)
+    (λ c. search needs)
     returns
     returns-2
     returns-3

@@ -4,15 +4,6 @@ use borrow.Author.Needs.{needs}
 use Rattle.info.proofs.piece_at.Statement.{statement}
 use Rattle.info.proofs.piece_at.Tie as tie
 
-shared-slice-read-b : tie.Need-shared-slice-read-b
-shared-slice-read-b c = search needs
-
-add-next : tie.Need-add-next
-add-next c = search needs
-
-entity-requires : tie.Need-entity-requires
-entity-requires c κs = search needs
-
 returns : tie.Need-returns
 returns c = piece-and _ _ (omega arith) _ (c .before .if1 .taken) (c .entity .ensures)
 
@@ -22,14 +13,8 @@ returns-2 c = piece-text _ _ (omega arith) (c .before .if1 .left) (c .if2 .taken
 returns-3 : tie.Need-returns-3
 returns-3 c = piece-cut _ _ (omega arith) (c .before .if2 .left) (c .if3 .taken)
 
-shared-slice-read-c : tie.Need-shared-slice-read-c
-shared-slice-read-c c = search needs
-
 returns-4 : tie.Need-returns-4
 returns-4 c = piece-end (c .before .before .before .before .before .before .before .args .s .now) (c .before .before .before .before .before .before .before .args .at) (omega arith) (c .before .before .before .if2 .left) (omega arith) (c .if4 .taken)
-
-comment-requires : tie.Need-comment-requires
-comment-requires c κs = search needs
 
 returns-5 : tie.Need-returns-5
 returns-5 c = piece-comment _ _ (omega arith) (c .before .before .before .before .before .if2 .left) (omega arith) (c .before .before .if4 .left) _ (c .before .if5 .taken) (c .comment .ensures)
@@ -44,15 +29,15 @@ pub piece-at-spec : {M : Type 1} → statement M
 piece-at-spec =
     tie.close
     (tie.spec
-    shared-slice-read-b
-    add-next
-    entity-requires
+    (λ c. search needs)
+    (λ c. search needs)
+    (λ c κs. search needs)
     returns
     returns-2
     returns-3
-    shared-slice-read-c
+    (λ c. search needs)
     returns-4
-    comment-requires
+    (λ c κs. search needs)
     returns-5
     returns-6
     returns-7)

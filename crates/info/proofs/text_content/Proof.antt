@@ -4,21 +4,12 @@ use borrow.Author.Needs.{needs}
 use Rattle.info.proofs.text_content.Statement.{statement}
 use Rattle.info.proofs.text_content.Tie as tie
 
-text-to-requires : tie.Need-text-to-requires
-text-to-requires c κs = search needs
-
-enum-known-r : tie.Need-enum-known-r
-enum-known-r c = search needs
-
 returns : tie.Need-returns
 returns c = content-failed _ _ _ _ (failed (c .before .text-to .result) (c .match .keys2)) (c .before .text-to .ensures)
-
-only-end-requires : tie.Need-only-end-requires
-only-end-requires c κs = search needs
 
 returns-2 : tie.Need-returns-2
 returns-2 c = content-closed _ _ _ _ _ (rw (c .before .before .r .given .1) at (c .before .before .before .before .text-to .ensures)) (c .only-end .ensures)
 
 pub text-content-spec : {M : Type 1} → statement M
 text-content-spec =
-    tie.close (tie.spec text-to-requires enum-known-r returns only-end-requires returns-2)
+    tie.close (tie.spec (λ c κs. search needs) (λ c. search needs) returns (λ c κs. search needs) returns-2)

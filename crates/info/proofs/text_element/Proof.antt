@@ -5,24 +5,6 @@ use borrow.Author.Needs.{needs}
 use Rattle.info.proofs.text_element.Statement.{statement}
 use Rattle.info.proofs.text_element.Tie as tie
 
-plain-tag-requires : tie.Need-plain-tag-requires
-plain-tag-requires c κs = search needs
-
-enum-known-end : tie.Need-enum-known-end
-enum-known-end c = search needs
-
-text-content-requires : tie.Need-text-content-requires
-text-content-requires c κs = search needs
-
-enum-known-end-2 : tie.Need-enum-known-end-2
-enum-known-end-2 c = search needs
-
-enum-known-end-3 : tie.Need-enum-known-end-3
-enum-known-end-3 c = search needs
-
-enum-told : tie.Need-enum-told
-enum-told c = search needs
-
 returns : tie.Need-returns
 returns c = text-rest _ _ _ _ (rest-open (textContent _) _ _ (c .before .before .before .before .plain-tag .result) (c .before .before .before .before .plain-tag .ensures) _ _ (c .before .before .end .given .1) (c .text-content .ensures))
 
@@ -39,12 +21,12 @@ pub text-element-spec : {M : Type 1} → statement M
 text-element-spec =
     tie.close
     (tie.spec
-    plain-tag-requires
-    enum-known-end
-    text-content-requires
-    enum-known-end-2
-    enum-known-end-3
-    enum-told
+    (λ c κs. search needs)
+    (λ c. search needs)
+    (λ c κs. search needs)
+    (λ c. search needs)
+    (λ c. search needs)
+    (λ c. search needs)
     returns
     returns-2
     returns-3

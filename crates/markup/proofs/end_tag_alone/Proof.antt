@@ -7,12 +7,6 @@ use borrow.Author.Needs.{needs}
 use Rattle.markup.proofs.end_tag_alone.Statement.{statement}
 use Rattle.markup.proofs.end_tag_alone.Tie as tie
 
-close-name-requires : tie.Need-close-name-requires
-close-name-requires c κs = search needs
-
-enum-known-r : tie.Need-enum-known-r
-enum-known-r c = search needs
-
 returns : tie.Need-returns
 returns c = end-failed _ _ _ _ (failed (c .before .close-name .result) (c .match .keys2)) (c .before .close-name .ensures)
 
@@ -28,12 +22,6 @@ part-same-start c = omega (arith, (rw (c .before .r .given .1) at (c .before .be
 part-same-end : tie.Need-part-same-end
 part-same-end c = omega (arith, (rw (c .before .r .given .1) at (c .before .before .before .close-name .ensures)) .inside)
 
-same-requires : tie.Need-same-requires
-same-requires c κs = search needs
-
-spaces-byte-requires : tie.Need-spaces-byte-requires
-spaces-byte-requires c κs = search needs
-
 returns-2 : tie.Need-returns-2
 returns-2 c = end-same _ _ _ _ (rw (c .before .before .before .before .before .r .given .1) at (c .before .before .before .before .before .before .before .close-name .ensures)) _ (sym (c .before .before .same .ensures) ∙ c .before .if1 .taken) (c .spaces-byte .ensures)
 
@@ -44,14 +32,14 @@ pub end-tag-alone-spec : {M : Type 1} → statement M
 end-tag-alone-spec =
     tie.close
     (tie.spec
-    close-name-requires
-    enum-known-r
+    (λ c κs. search needs)
+    (λ c. search needs)
     returns
     add-a
     sub-same
     part-same-start
     part-same-end
-    same-requires
-    spaces-byte-requires
+    (λ c κs. search needs)
+    (λ c κs. search needs)
     returns-2
     returns-3)

@@ -7,20 +7,11 @@ use Rattle.markup.proofs.settled.Tie as tie
 returns : tie.Need-returns
 returns c = settled-none _ _ _ (c .if1 .taken)
 
-enum-known-r : tie.Need-enum-known-r
-enum-known-r c = search needs
-
-enum-known-r-2 : tie.Need-enum-known-r-2
-enum-known-r-2 c = search needs
-
 returns-2 : tie.Need-returns-2
 returns-2 c = rw (c .before .before .r2 .given .1) (settled-apart _ _ _ _ (c .before .before .before .before .if1 .left) (c .if2 .taken))
 
 returns-3 : tie.Need-returns-3
 returns-3 c = rw (c .before .before .before .r2 .given .1) (settled-lower _ _ _ _ (c .before .before .before .before .before .if1 .left) (c .before .if2 .left) (c .if3 .taken))
-
-enum-told : tie.Need-enum-told
-enum-told c = search needs
 
 returns-4 : tie.Need-returns-4
 returns-4 c = rw (c .before .r .given .1) (settled-at _ _ _ (c .before .before .before .if1 .left))
@@ -36,11 +27,11 @@ settled-spec =
     tie.close
     (tie.spec
     returns
-    enum-known-r
-    enum-known-r-2
+    (λ c. search needs)
+    (λ c. search needs)
     returns-2
     returns-3
-    enum-told
+    (λ c. search needs)
     returns-4
     returns-5
     returns-6)

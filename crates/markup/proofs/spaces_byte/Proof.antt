@@ -5,21 +5,12 @@ use borrow.Author.Needs.{needs}
 use Rattle.markup.proofs.spaces_byte.Statement.{statement}
 use Rattle.markup.proofs.spaces_byte.Tie as tie
 
-spaces-requires : tie.Need-spaces-requires
-spaces-requires c κs = search needs
-
-enum-known-r : tie.Need-enum-known-r
-enum-known-r c = search needs
-
 returns : tie.Need-returns
 returns c = spaces-failed _ _ _ _ (failed (c .before .spaces .result) (c .match .keys2)) (c .before .spaces .ensures)
-
-byte-requires : tie.Need-byte-requires
-byte-requires c κs = search needs
 
 returns-2 : tie.Need-returns-2
 returns-2 c = spaces-then _ _ _ _ _ (rw (c .before .before .r .given .1) at (c .before .before .before .before .spaces .ensures)) (c .byte .ensures)
 
 pub spaces-byte-spec : {M : Type 1} → statement M
 spaces-byte-spec =
-    tie.close (tie.spec spaces-requires enum-known-r returns byte-requires returns-2)
+    tie.close (tie.spec (λ c κs. search needs) (λ c. search needs) returns (λ c κs. search needs) returns-2)

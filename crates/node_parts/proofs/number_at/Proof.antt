@@ -6,9 +6,6 @@ use borrow.Author.Needs.{needs, sfits-of}
 use Rattle.node_parts.proofs.number_at.Statement.{statement}
 use Rattle.node_parts.proofs.number_at.Tie as tie
 
-length-requires : tie.Need-length-requires
-length-requires c κs = search needs
-
 mul-t6 : tie.Need-mul-t6
 unfolding roomLength
 mul-t6 c = search needs
@@ -31,7 +28,7 @@ pub number-at-spec : {M : Type 1} → statement M
 number-at-spec =
     tie.close
     (tie.spec
-    length-requires
+    (λ c κs. search needs)
     mul-t6
     shared-slice-copy-out-t8
     shared-slice-copy-out-t10

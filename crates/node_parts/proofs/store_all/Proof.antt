@@ -13,20 +13,8 @@ Inv-loop small small-powers coefficients₀ powers₀ base n j₀ coefficients p
 abbrev μ-loop : tie.MeasureT-loop
 μ-loop small small-powers coefficients₀ powers₀ base n j₀ coefficients powers j = n - j
 
-length-requires : tie.Need-length-requires Inv-loop μ-loop
-length-requires c κs = search needs
-
 loop-holds : tie.Need-loop-holds Inv-loop μ-loop
 loop-holds c = store-start _ _ _ _ (c .length .ensures)
-
-number-at-requires : tie.Need-number-at-requires Inv-loop μ-loop
-number-at-requires c κs = search needs
-
-store-requires : tie.Need-store-requires Inv-loop μ-loop
-store-requires c κs = search needs
-
-add-j : tie.Need-add-j Inv-loop μ-loop
-add-j c = search needs
 
 loop-less : tie.Need-loop-less Inv-loop μ-loop
 loop-less c = omega arith
@@ -49,11 +37,11 @@ store-all-spec =
     (tie.spec
     Inv-loop
     μ-loop
-    length-requires
+    (λ c κs. search needs)
     loop-holds
-    number-at-requires
-    store-requires
-    add-j
+    (λ c κs. search needs)
+    (λ c κs. search needs)
+    (λ c. search needs)
     loop-less
     loop-again
     same-length

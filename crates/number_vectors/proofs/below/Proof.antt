@@ -13,8 +13,5 @@ cast-result c = turned-cast _ (c .fits .z) (c .pre)
 add-result : tie.Need-add-result
 add-result c = search turned-sum
 
-returns : tie.Need-returns
-returns c = search needs
-
 pub below-spec : {M : Type 1} → statement M
-below-spec = tie.close (tie.spec sub-m cast-result add-result returns)
+below-spec = tie.close (tie.spec sub-m cast-result add-result (λ c. search needs))

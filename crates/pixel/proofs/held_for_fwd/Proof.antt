@@ -4,9 +4,6 @@ use borrow.Author.Needs.{needs}
 use Rattle.pixel.proofs.held_for_fwd.Statement.{statement}
 use Rattle.pixel.proofs.held_for_fwd.Tie as tie
 
-hold-unit-requires : tie.Need-hold-unit-requires
-hold-unit-requires c κs = search needs
-
 returns : tie.Need-returns
 unfolding heldForFwd
 returns c = simp (c .before .if1 .taken) (cc)
@@ -16,4 +13,4 @@ unfolding heldForFwd
 returns-2 c = simp (c .if1 .left)
 
 pub held-for-fwd-spec : {M : Type 1} → statement M
-held-for-fwd-spec = tie.close (tie.spec hold-unit-requires returns returns-2)
+held-for-fwd-spec = tie.close (tie.spec (λ c κs. search needs) returns returns-2)

@@ -4,9 +4,6 @@ use borrow.Author.Needs.{needs}
 use Rattle.pixel.proofs.hold_unit.Statement.{statement}
 use Rattle.pixel.proofs.hold_unit.Tie as tie
 
-from-zero-requires : tie.Need-from-zero-requires
-from-zero-requires c κs = search needs
-
 returns : tie.Need-returns
 returns c = rw (← unit-hold, ← (c .before .from-zero .ensures)) (simp (c .if1 .taken))
 
@@ -14,4 +11,4 @@ returns-2 : tie.Need-returns-2
 returns-2 c = rw (← unit-hold, ← (c .before .from-zero .ensures)) (simp (c .if1 .left))
 
 pub hold-unit-spec : {M : Type 1} → statement M
-hold-unit-spec = tie.close (tie.spec from-zero-requires returns returns-2)
+hold-unit-spec = tie.close (tie.spec (λ c κs. search needs) returns returns-2)

@@ -11,9 +11,6 @@ use Rattle.pixel.proofs.range_line.Tie as tie
 abbrev code : Float → CodeValue
 code x = record { 0 = x }
 
-quick-hold-requires : tie.Need-quick-hold-requires
-quick-hold-requires c κs = search needs
-
 returns : tie.Need-returns
 unfolding rangeLine
 returns c =
@@ -29,4 +26,4 @@ returns-2 c =
     (simp (c .if1 .left), line-bound (a .s) (a .shift) (a .min-out) (a .max-out) (a .clamp) (a .x) _ (simp (c .if1 .left)))
 
 pub range-line-spec : {M : Type 1} → statement M
-range-line-spec = tie.close (tie.spec quick-hold-requires returns returns-2)
+range-line-spec = tie.close (tie.spec (λ c κs. search needs) returns returns-2)

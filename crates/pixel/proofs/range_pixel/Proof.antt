@@ -8,21 +8,6 @@ use borrow.Author.Needs.{needs}
 use Rattle.pixel.proofs.range_pixel.Statement.{statement}
 use Rattle.pixel.proofs.range_pixel.Tie as tie
 
-range-scale-requires : tie.Need-range-scale-requires
-range-scale-requires c κs = search needs
-
-range-shift-requires : tie.Need-range-shift-requires
-range-shift-requires c κs = search needs
-
-range-line-requires : tie.Need-range-line-requires
-range-line-requires c κs = search needs
-
-range-line-requires-2 : tie.Need-range-line-requires-2
-range-line-requires-2 c κs = search needs
-
-range-line-requires-3 : tie.Need-range-line-requires-3
-range-line-requires-3 c κs = search needs
-
 returns : tie.Need-returns
 unfolding rangePixel rangeComponent
 returns c =
@@ -35,9 +20,9 @@ pub range-pixel-spec : {M : Type 1} → statement M
 range-pixel-spec =
     tie.close
     (tie.spec
-    range-scale-requires
-    range-shift-requires
-    range-line-requires
-    range-line-requires-2
-    range-line-requires-3
+    (λ c κs. search needs)
+    (λ c κs. search needs)
+    (λ c κs. search needs)
+    (λ c κs. search needs)
+    (λ c κs. search needs)
     returns)

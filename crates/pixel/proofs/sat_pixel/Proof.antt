@@ -8,15 +8,9 @@ returns : tie.Need-returns
 unfolding satPixel
 returns c = simp (c .if1 .taken)
 
-luma-requires : tie.Need-luma-requires
-luma-requires c κs = search needs
-
-saturated-by-requires : tie.Need-saturated-by-requires
-saturated-by-requires c κs = search needs
-
 returns-2 : tie.Need-returns-2
 unfolding satPixel
 returns-2 c = simp (c .before .before .if1 .left) (cc)
 
 pub sat-pixel-spec : {M : Type 1} → statement M
-sat-pixel-spec = tie.close (tie.spec returns luma-requires saturated-by-requires returns-2)
+sat-pixel-spec = tie.close (tie.spec returns (λ c κs. search needs) (λ c κs. search needs) returns-2)

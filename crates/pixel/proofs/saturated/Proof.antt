@@ -4,12 +4,9 @@ use borrow.Author.Needs.{needs}
 use Rattle.pixel.proofs.saturated.Statement.{statement}
 use Rattle.pixel.proofs.saturated.Tie as tie
 
-held-for-fwd-requires : tie.Need-held-for-fwd-requires
-held-for-fwd-requires c κs = search needs
-
 returns : tie.Need-returns
 unfolding saturated
 returns c = cc
 
 pub saturated-spec : {M : Type 1} → statement M
-saturated-spec = tie.close (tie.spec held-for-fwd-requires returns)
+saturated-spec = tie.close (tie.spec (λ c κs. search needs) returns)

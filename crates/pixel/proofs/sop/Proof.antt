@@ -4,12 +4,9 @@ use borrow.Author.Needs.{needs}
 use Rattle.pixel.proofs.sop.Statement.{statement}
 use Rattle.pixel.proofs.sop.Tie as tie
 
-held-for-fwd-requires : tie.Need-held-for-fwd-requires
-held-for-fwd-requires c κs = search needs
-
 returns : tie.Need-returns
 unfolding sop
 returns c = cc
 
 pub sop-spec : {M : Type 1} → statement M
-sop-spec = tie.close (tie.spec held-for-fwd-requires returns)
+sop-spec = tie.close (tie.spec (λ c κs. search needs) returns)

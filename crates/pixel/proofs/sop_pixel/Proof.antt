@@ -4,18 +4,9 @@ use borrow.Author.Needs.{needs}
 use Rattle.pixel.proofs.sop_pixel.Statement.{statement}
 use Rattle.pixel.proofs.sop_pixel.Tie as tie
 
-sop-requires : tie.Need-sop-requires
-sop-requires c κs = search needs
-
-sop-requires-2 : tie.Need-sop-requires-2
-sop-requires-2 c κs = search needs
-
-sop-requires-3 : tie.Need-sop-requires-3
-sop-requires-3 c κs = search needs
-
 returns : tie.Need-returns
 unfolding sopPixel
 returns c = cc
 
 pub sop-pixel-spec : {M : Type 1} → statement M
-sop-pixel-spec = tie.close (tie.spec sop-requires sop-requires-2 sop-requires-3 returns)
+sop-pixel-spec = tie.close (tie.spec (λ c κs. search needs) (λ c κs. search needs) (λ c κs. search needs) returns)

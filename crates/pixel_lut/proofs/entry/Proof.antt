@@ -23,12 +23,9 @@ add-number-from : tie.Need-add-number-from
 unfolding roomLength
 add-number-from c = omega (arith, inside c, c .pre .0)
 
-number-from-requires : tie.Need-number-from-requires
-number-from-requires c κs = search needs
-
 returns : tie.Need-returns
 unfolding entryAt
 returns c = c .number-from .ensures
 
 pub entry-spec : {M : Type 1} → statement M
-entry-spec = tie.close (tie.spec mul-number-from add-number-from number-from-requires returns)
+entry-spec = tie.close (tie.spec mul-number-from add-number-from (λ c κs. search needs) returns)

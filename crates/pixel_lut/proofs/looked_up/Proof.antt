@@ -13,12 +13,6 @@ use Rattle.pixel_lut.proofs.looked_up.Tie as tie
 at-most : (c : tie.After-floor-to) → c .floor-to .result ≤ c .before .before .args .n - 1
 at-most c = rw (c .floor-to .ensures) (floor-le (c .before .before .args .n - 1) (c .before .position .result))
 
-position-requires : tie.Need-position-requires
-position-requires c κs = search needs
-
-sub-floor-to : tie.Need-sub-floor-to
-sub-floor-to c = search needs
-
 floor-to-requires : tie.Need-floor-to-requires
 floor-to-requires c κs =
     let s = c .before in
@@ -31,9 +25,6 @@ int-to-float-f c = le→leb (c .before .floor-to .result) (2 ^ 53) (omega (arith
 
 entry-requires : tie.Need-entry-requires
 entry-requires c κs = let s = c .before .before .before in (s .pre .1 .1 .0, (s .pre .1 .1 .1, omega (arith, at-most (c .before))))
-
-sub-if1 : tie.Need-sub-if1
-sub-if1 c = search needs
 
 returns : tie.Need-returns
 unfolding lookedUp index
@@ -55,9 +46,6 @@ entry-requires-2 c κs =
     let s = c .before .before .before .before .before .before in
     (s .pre .1 .1 .0, (s .pre .1 .1 .1, omega (arith, at-most (c .before .before .before .before), c .before .if1 .left)))
 
-interpolated-requires : tie.Need-interpolated-requires
-interpolated-requires c κs = search needs
-
 returns-3 : tie.Need-returns-3
 unfolding lookedUp stepped index remainder
 returns-3 c =
@@ -68,15 +56,15 @@ pub looked-up-spec : {M : Type 1} → statement M
 looked-up-spec =
     tie.close
     (tie.spec
-    position-requires
-    sub-floor-to
+    (λ c κs. search needs)
+    (λ c. search needs)
     floor-to-requires
     int-to-float-f
     entry-requires
-    sub-if1
+    (λ c. search needs)
     returns
     returns-2
     add-entry
     entry-requires-2
-    interpolated-requires
+    (λ c κs. search needs)
     returns-3)

@@ -10,15 +10,6 @@ use Rattle.pixel_lut.proofs.looked_up_all.Tie as tie
 room : (c : tie.Start) → Held (roomLength (lent (now (c .args .coefficients)) (now (c .args .powers)))) (c .args .at) (c .args .n) (c .args .columns)
 room c = held (roomLength (lent (now (c .args .coefficients)) (now (c .args .powers)))) (c .args .at) (c .args .n) (c .args .columns) (c .pre)
 
-column-of-requires : tie.Need-column-of-requires
-column-of-requires c κs = search needs
-
-column-of-requires-2 : tie.Need-column-of-requires-2
-column-of-requires-2 c κs = search needs
-
-column-of-requires-3 : tie.Need-column-of-requires-3
-column-of-requires-3 c κs = search needs
-
 looked-up-requires : tie.Need-looked-up-requires
 looked-up-requires c κs = let h = room (c .before .before .before) in (h .some, (h .most, (h .inside, rw (c .before .before .column-of .ensures) (h .red))))
 
@@ -38,9 +29,9 @@ pub looked-up-all-spec : {M : Type 1} → statement M
 looked-up-all-spec =
     tie.close
     (tie.spec
-    column-of-requires
-    column-of-requires-2
-    column-of-requires-3
+    (λ c κs. search needs)
+    (λ c κs. search needs)
+    (λ c κs. search needs)
     looked-up-requires
     looked-up-requires-2
     looked-up-requires-3

@@ -4,15 +4,6 @@ use borrow.Author.Needs.{needs}
 use Rattle.pixel_lut.proofs.lut1d_pixel.Statement.{statement}
 use Rattle.pixel_lut.proofs.lut1d_pixel.Tie as tie
 
-length-requires : tie.Need-length-requires
-length-requires c κs = search needs
-
-table-in-requires : tie.Need-table-in-requires
-table-in-requires c κs = search needs
-
-to-fractions-requires : tie.Need-to-fractions-requires
-to-fractions-requires c κs = search needs
-
 looked-up-all-requires : tie.Need-looked-up-all-requires
 looked-up-all-requires c κs =
     rw (← (c .before .before .before .length .ensures)) (rw (← (c .before .before .table-in .ensures)) (c .before .if1 .taken))
@@ -33,9 +24,9 @@ pub lut1d-pixel-spec : {M : Type 1} → statement M
 lut1d-pixel-spec =
     tie.close
     (tie.spec
-    length-requires
-    table-in-requires
-    to-fractions-requires
+    (λ c κs. search needs)
+    (λ c κs. search needs)
+    (λ c κs. search needs)
     looked-up-all-requires
     returns
     returns-2)

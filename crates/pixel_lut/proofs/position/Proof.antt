@@ -8,12 +8,6 @@ use borrow.Author.Needs.{needs}
 use Rattle.pixel_lut.proofs.position.Statement.{statement}
 use Rattle.pixel_lut.proofs.position.Tie as tie
 
-hold-unit-requires : tie.Need-hold-unit-requires
-hold-unit-requires c κs = search needs
-
-sub-result : tie.Need-sub-result
-sub-result c = search needs
-
 int-to-float-result : tie.Need-int-to-float-result
 unfolding inFloat
 int-to-float-result c = le→leb (c .before .before .args .n - 1) (2 ^ 53) (omega arith)
@@ -23,4 +17,4 @@ unfolding position
 returns c = cc
 
 pub position-spec : {M : Type 1} → statement M
-position-spec = tie.close (tie.spec hold-unit-requires sub-result int-to-float-result returns)
+position-spec = tie.close (tie.spec (λ c κs. search needs) (λ c. search needs) int-to-float-result returns)

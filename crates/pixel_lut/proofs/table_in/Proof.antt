@@ -34,9 +34,6 @@ returns c = let a = c .before .args in few (a .room) (a .at) (a .n) (a .columns)
 returns-2 : tie.Need-returns-2
 returns-2 c = let a = c .before .before .args in many (a .room) (a .at) (a .n) (a .columns) (omega arith) (omega arith)
 
-fits-requires : tie.Need-fits-requires
-fits-requires c κs = search needs
-
 returns-3 : tie.Need-returns-3
 returns-3 c =
     let a = c .before .before .before .before .args in
@@ -46,9 +43,6 @@ returns-3 c =
 
 mul-fits : tie.Need-mul-fits
 mul-fits c = omega arith
-
-fits-requires-2 : tie.Need-fits-requires-2
-fits-requires-2 c κs = search needs
 
 returns-4 : tie.Need-returns-4
 returns-4 c =
@@ -64,9 +58,9 @@ table-in-spec =
     (tie.spec
     returns
     returns-2
-    fits-requires
+    (λ c κs. search needs)
     returns-3
     mul-fits
-    fits-requires-2
+    (λ c κs. search needs)
     returns-4
     returns-5)

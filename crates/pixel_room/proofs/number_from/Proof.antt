@@ -9,9 +9,6 @@ use borrow.Author.Needs.{needs}
 use Rattle.pixel_room.proofs.number_from.Statement.{statement}
 use Rattle.pixel_room.proofs.number_from.Tie as tie
 
-length-requires : tie.Need-length-requires
-length-requires c κs = search needs
-
 returns : tie.Need-returns
 returns c = let a = c .before .before .args in sym (number-past (lent (now (a .coefficients)) (now (a .powers))) (a .at + a .k) (omega (arith, c .before .length .ensures)))
 
@@ -34,7 +31,7 @@ pub number-from-spec : {M : Type 1} → statement M
 number-from-spec =
     tie.close
     (tie.spec
-    length-requires
+    (λ c κs. search needs)
     returns
     sub-if2
     returns-2

@@ -30,9 +30,6 @@ shared-slice-copy-out-t8 : tie.Need-shared-slice-copy-out-t8
 unfolding roomLength
 shared-slice-copy-out-t8 c = search needs
 
-value-requires : tie.Need-value-requires
-value-requires c κs = search needs
-
 returns : tie.Need-returns
 returns c =
     let s = c .before .before .before in
@@ -44,4 +41,4 @@ returns c =
 pub number-inside-spec : {M : Type 1} → statement M
 number-inside-spec =
     tie.close
-    (tie.spec mul-t4 shared-slice-copy-out-t6 shared-slice-copy-out-t8 value-requires returns)
+    (tie.spec mul-t4 shared-slice-copy-out-t6 shared-slice-copy-out-t8 (λ c κs. search needs) returns)

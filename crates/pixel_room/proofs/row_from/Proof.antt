@@ -26,27 +26,6 @@ counted m at k wide =
     let three : at + k + 3 ≡ at + (k + 3) = omega arith in
     rw (one, two, three)
 
-number-from-requires : tie.Need-number-from-requires
-number-from-requires c κs = search needs
-
-add-number-from : tie.Need-add-number-from
-add-number-from c = search needs
-
-number-from-requires-2 : tie.Need-number-from-requires-2
-number-from-requires-2 c κs = search needs
-
-add-number-from-2 : tie.Need-add-number-from-2
-add-number-from-2 c = search needs
-
-number-from-requires-3 : tie.Need-number-from-requires-3
-number-from-requires-3 c κs = search needs
-
-add-number-from-3 : tie.Need-add-number-from-3
-add-number-from-3 c = search needs
-
-number-from-requires-4 : tie.Need-number-from-requires-4
-number-from-requires-4 c κs = search needs
-
 returns : tie.Need-returns
 returns c = simp (counted, c .before .if1 .taken) (cc)
 
@@ -57,12 +36,12 @@ pub row-from-spec : {M : Type 1} → statement M
 row-from-spec =
     tie.close
     (tie.spec
-    number-from-requires
-    add-number-from
-    number-from-requires-2
-    add-number-from-2
-    number-from-requires-3
-    add-number-from-3
-    number-from-requires-4
+    (λ c κs. search needs)
+    (λ c. search needs)
+    (λ c κs. search needs)
+    (λ c. search needs)
+    (λ c κs. search needs)
+    (λ c. search needs)
+    (λ c κs. search needs)
     returns
     returns-2)

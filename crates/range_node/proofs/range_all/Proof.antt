@@ -5,26 +5,14 @@ use borrow.Author.Needs.{needs}
 use Rattle.range_node.proofs.range_all.Statement.{statement}
 use Rattle.range_node.proofs.range_all.Tie as tie
 
-array-read-if1 : tie.Need-array-read-if1
-array-read-if1 c = search needs
-
 returns : tie.Need-returns
 returns c = rw (not-true (getD (c .before .args .t1) 0 false) (c .if1 .taken))
-
-array-read-if2 : tie.Need-array-read-if2
-array-read-if2 c = search needs
 
 returns-2 : tie.Need-returns-2
 returns-2 c = rw (not-false (getD (c .before .before .args .t1) 0 false) (c .before .if1 .left), not-true (getD (c .before .before .args .t1) 1 false) (c .if2 .taken))
 
-array-read-if3 : tie.Need-array-read-if3
-array-read-if3 c = search needs
-
 returns-3 : tie.Need-returns-3
 returns-3 c = rw (not-false (getD (c .before .before .before .args .t1) 0 false) (c .before .before .if1 .left), not-false (getD (c .before .before .before .args .t1) 1 false) (c .before .if2 .left), not-true (getD (c .before .before .before .args .t1) 2 false) (c .if3 .taken))
-
-array-read-result : tie.Need-array-read-result
-array-read-result c = search needs
 
 returns-4 : tie.Need-returns-4
 returns-4 c = rw (not-false (getD (c .before .before .before .args .t1) 0 false) (c .before .before .if1 .left), not-false (getD (c .before .before .before .args .t1) 1 false) (c .before .if2 .left), not-false (getD (c .before .before .before .args .t1) 2 false) (c .if3 .left))
@@ -33,11 +21,11 @@ pub range-all-spec : {M : Type 1} → statement M
 range-all-spec =
     tie.close
     (tie.spec
-    array-read-if1
+    (λ c. search needs)
     returns
-    array-read-if2
+    (λ c. search needs)
     returns-2
-    array-read-if3
+    (λ c. search needs)
     returns-3
-    array-read-result
+    (λ c. search needs)
     returns-4)

@@ -4,15 +4,6 @@ use borrow.Author.Needs.{needs}
 use Rattle.range_node.proofs.range_fault.Statement.{statement}
 use Rattle.range_node.proofs.range_fault.Tie as tie
 
-slice-aggregate-same : tie.Need-slice-aggregate-same
-slice-aggregate-same c = search needs
-
-same-requires : tie.Need-same-requires
-same-requires c κs = search needs
-
-range-any-requires : tie.Need-range-any-requires
-range-any-requires c κs = search needs
-
 returns : tie.Need-returns
 unfolding faultOf
 returns c = rw (← c .before .before .before .same .ensures, c .before .before .if1 .taken, ← c .before .range-any .ensures, c .if2 .taken)
@@ -21,15 +12,9 @@ returns-2 : tie.Need-returns-2
 unfolding faultOf
 returns-2 c = rw (← c .before .before .before .same .ensures, c .before .before .if1 .taken, ← c .before .range-any .ensures, c .if2 .left)
 
-range-index-requires : tie.Need-range-index-requires
-range-index-requires c κs = search needs
-
 returns-3 : tie.Need-returns-3
 unfolding faultOf
 returns-3 c = rw (← c .before .before .before .same .ensures, c .before .before .if1 .left, ← c .before .range-index .ensures, le-ltb _ _ (c .if3 .taken))
-
-array-read-if4 : tie.Need-array-read-if4
-array-read-if4 c = search needs
 
 returns-4 : tie.Need-returns-4
 unfolding faultOf
@@ -43,13 +28,13 @@ pub range-fault-spec : {M : Type 1} → statement M
 range-fault-spec =
     tie.close
     (tie.spec
-    slice-aggregate-same
-    same-requires
-    range-any-requires
+    (λ c. search needs)
+    (λ c κs. search needs)
+    (λ c κs. search needs)
     returns
     returns-2
-    range-index-requires
+    (λ c κs. search needs)
     returns-3
-    array-read-if4
+    (λ c. search needs)
     returns-4
     returns-5)

@@ -3,12 +3,6 @@ use borrow.Author.Needs.{needs}
 use Rattle.range_node.proofs.range_missing.Statement.{statement}
 use Rattle.range_node.proofs.range_missing.Tie as tie
 
-range-all-requires : tie.Need-range-all-requires
-range-all-requires c κs = search needs
-
-in-order-requires : tie.Need-in-order-requires
-in-order-requires c κs = search needs
-
 returns : tie.Need-returns
 unfolding missingOf
 returns c = rw (← c .before .before .before .range-all .ensures, c .before .before .if1 .taken, ← c .before .in-order .ensures, c .if2 .taken)
@@ -23,4 +17,4 @@ returns-3 c = rw (← c .before .range-all .ensures, c .if1 .left)
 
 pub range-missing-spec : {M : Type 1} → statement M
 range-missing-spec =
-    tie.close (tie.spec range-all-requires in-order-requires returns returns-2 returns-3)
+    tie.close (tie.spec (λ c κs. search needs) (λ c κs. search needs) returns returns-2 returns-3)

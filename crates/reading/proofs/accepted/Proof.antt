@@ -2,9 +2,6 @@ use borrow.Author.Needs.{needs}
 use Rattle.reading.proofs.accepted.Statement.{statement}
 use Rattle.reading.proofs.accepted.Tie as tie
 
-placed-requires : tie.Need-placed-requires
-placed-requires c κs = search needs
-
 returns : tie.Need-returns
 returns c = rw (c .placed .ensures)
 
@@ -12,5 +9,5 @@ pub accepted-spec : {M : Type 1} → statement M
 accepted-spec =
     tie.close
     (tie.spec
-    placed-requires
+    (λ c κs. search needs)
     returns)

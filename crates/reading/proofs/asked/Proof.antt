@@ -4,17 +4,11 @@ use borrow.Author.Needs.{needs}
 use Rattle.reading.proofs.asked.Statement.{statement}
 use Rattle.reading.proofs.asked.Tie as tie
 
-enum-told : tie.Need-enum-told
-enum-told c = search needs
-
 returns : tie.Need-returns
 returns c = rw (c .before .enum-told .given .1, c .if1 .taken)
 
 returns-2 : tie.Need-returns-2
 returns-2 c = rw (c .before .before .enum-told .given .1, lt-ltb 0 (c .before .before .before .before .args .k) (omega (arith, c .before .if1 .left)), lt-leb _ _ (c .if2 .taken))
-
-enum-known-j : tie.Need-enum-known-j
-enum-known-j c = search needs
 
 returns-3 : tie.Need-returns-3
 returns-3 c = rw (c .before .before .enum-told .given .1, lt-ltb 0 (c .before .before .before .before .args .k) (omega (arith, c .before .if1 .left)), le-leb _ _ (c .if2 .left))
@@ -26,9 +20,9 @@ pub asked-spec : {M : Type 1} → statement M
 asked-spec =
     tie.close
     (tie.spec
-    enum-told
+    (λ c. search needs)
     returns
     returns-2
-    enum-known-j
+    (λ c. search needs)
     returns-3
     returns-4)

@@ -4,14 +4,8 @@ use borrow.Author.Needs.{needs}
 use Rattle.reading.proofs.by_verdict.Statement.{statement}
 use Rattle.reading.proofs.by_verdict.Tie as tie
 
-refusal-requires : tie.Need-refusal-requires
-refusal-requires c κs = search needs
-
 returns : tie.Need-returns
 returns c = verdict-fine (c .before .before .args .v) (sym (c .before .refusal .ensures) ∙ c .if1 .taken)
-
-place-requires : tie.Need-place-requires
-place-requires c κs = search needs
 
 returns-2 : tie.Need-returns-2
 returns-2 c =
@@ -20,4 +14,4 @@ returns-2 c =
     rw (refusal .ensures, c .place .ensures) (verdict-refused (c .before .before .before .args .v) (λ z. if1 .left (refusal .ensures ∙ z)))
 
 pub by-verdict-spec : {M : Type 1} → statement M
-by-verdict-spec = tie.close (tie.spec refusal-requires returns place-requires returns-2)
+by-verdict-spec = tie.close (tie.spec (λ c κs. search needs) returns (λ c κs. search needs) returns-2)

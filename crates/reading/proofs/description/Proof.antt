@@ -6,21 +6,6 @@ use borrow.Author.Needs.{needs}
 use Rattle.reading.proofs.description.Statement.{statement}
 use Rattle.reading.proofs.description.Tie as tie
 
-description-part-requires : tie.Need-description-part-requires
-description-part-requires c κs = search needs
-
-add-e : tie.Need-add-e
-add-e c = search needs
-
-sub-result : tie.Need-sub-result
-sub-result c = search needs
-
-part-result-start : tie.Need-part-result-start
-part-result-start c = search needs
-
-part-result-end : tie.Need-part-result-end
-part-result-end c = search needs
-
 returns : tie.Need-returns
 returns c =
     let description-part = c .before .before .description-part in
@@ -29,4 +14,4 @@ returns c =
 pub description-spec : {M : Type 1} → statement M
 description-spec =
     tie.close
-    (tie.spec description-part-requires add-e sub-result part-result-start part-result-end returns)
+    (tie.spec (λ c κs. search needs) (λ c. search needs) (λ c. search needs) (λ c. search needs) (λ c. search needs) returns)

@@ -4,36 +4,12 @@ use borrow.Author.Needs.{needs}
 use Rattle.reading.proofs.description_part.Statement.{statement}
 use Rattle.reading.proofs.description_part.Tie as tie
 
-too-long-requires : tie.Need-too-long-requires
-too-long-requires c κs = search needs
-
-no-part-requires : tie.Need-no-part-requires
-no-part-requires c κs = search needs
-
 returns : tie.Need-returns
 returns c =
     let if1 = c .before .if1 in
     let too-long = c .before .before .too-long in
     let given = c .before .before .before .before .args in
     part-large _ _ _ (c .no-part .ensures) (over-limit (given .file .now) _ (too-long .ensures) (if1 .taken))
-
-text-alone-requires : tie.Need-text-alone-requires
-text-alone-requires c κs = search needs
-
-ask-requires : tie.Need-ask-requires
-ask-requires c κs = search needs
-
-enum-known-j : tie.Need-enum-known-j
-enum-known-j c = search needs
-
-no-part-requires-2 : tie.Need-no-part-requires-2
-no-part-requires-2 c κs = search needs
-
-enum-told : tie.Need-enum-told
-enum-told c = search needs
-
-text-part-requires : tie.Need-text-part-requires
-text-part-requires c κs = search needs
 
 returns-2 : tie.Need-returns-2
 returns-2 c =
@@ -61,14 +37,14 @@ pub description-part-spec : {M : Type 1} → statement M
 description-part-spec =
     tie.close
     (tie.spec
-    too-long-requires
-    no-part-requires
+    (λ c κs. search needs)
+    (λ c κs. search needs)
     returns
-    text-alone-requires
-    ask-requires
-    enum-known-j
-    no-part-requires-2
-    enum-told
-    text-part-requires
+    (λ c κs. search needs)
+    (λ c κs. search needs)
+    (λ c. search needs)
+    (λ c κs. search needs)
+    (λ c. search needs)
+    (λ c κs. search needs)
     returns-2
     returns-3)

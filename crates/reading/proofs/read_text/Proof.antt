@@ -4,30 +4,6 @@ use borrow.Author.Needs.{needs}
 use Rattle.reading.proofs.read_text.Statement.{statement}
 use Rattle.reading.proofs.read_text.Tie as tie
 
-length-requires : tie.Need-length-requires
-length-requires c κs = search needs
-
-file-list-requires : tie.Need-file-list-requires
-file-list-requires c κs = search needs
-
-judge-text-requires : tie.Need-judge-text-requires
-judge-text-requires c κs = search needs
-
-enum-known-j : tie.Need-enum-known-j
-enum-known-j c = search needs
-
-clear-requires : tie.Need-clear-requires
-clear-requires c κs = search needs
-
-refused-requires : tie.Need-refused-requires
-refused-requires c κs = search needs
-
-enum-told : tie.Need-enum-told
-enum-told c = search needs
-
-accepted-requires : tie.Need-accepted-requires
-accepted-requires c κs = search needs
-
 same-length : tie.Need-same-length
 same-length c =
     let clear = c .before .before .before .clear in
@@ -87,14 +63,14 @@ pub read-text-spec : {M : Type 1} → statement M
 read-text-spec =
     tie.close
     (tie.spec
-    length-requires
-    file-list-requires
-    judge-text-requires
-    enum-known-j
-    clear-requires
-    refused-requires
-    enum-told
-    accepted-requires
+    (λ c κs. search needs)
+    (λ c κs. search needs)
+    (λ c κs. search needs)
+    (λ c. search needs)
+    (λ c κs. search needs)
+    (λ c κs. search needs)
+    (λ c. search needs)
+    (λ c κs. search needs)
     same-length
     same-length-2
     returns

@@ -2,12 +2,6 @@ use borrow.Author.Needs.{needs}
 use Rattle.reading.proofs.to_checked.Statement.{statement}
 use Rattle.reading.proofs.to_checked.Tie as tie
 
-enum-told : tie.Need-enum-told
-enum-told c = search needs
-
-enum-known-j : tie.Need-enum-known-j
-enum-known-j c = search needs
-
 returns : tie.Need-returns
 returns c = rw (c .enum-told .given .1)
 
@@ -18,7 +12,7 @@ pub to-checked-spec : {M : Type 1} → statement M
 to-checked-spec =
     tie.close
     (tie.spec
-    enum-told
-    enum-known-j
+    (λ c. search needs)
+    (λ c. search needs)
     returns
     returns-2)

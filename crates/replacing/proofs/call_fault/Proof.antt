@@ -6,12 +6,6 @@ use borrow.Author.Needs.{needs}
 use Rattle.replacing.proofs.call_fault.Statement.{statement}
 use Rattle.replacing.proofs.call_fault.Tie as tie
 
-held-requires : tie.Need-held-requires
-held-requires c κs = search needs
-
-valid-requires : tie.Need-valid-requires
-valid-requires c κs = search needs
-
 returns : tie.Need-returns
 returns c = record { number = fault-invalid _ _ _ _ (sym (c .before .valid .ensures) ∙ not-true _ (c .if1 .taken)); array = c .before .before .held .ensures .array }
 
@@ -30,4 +24,4 @@ returns-5 c = record { number = fault-well _ _ _ _ (sym (c .before .before .befo
 pub call-fault-spec : {M : Type 1} → statement M
 call-fault-spec =
     tie.close
-    (tie.spec held-requires valid-requires returns returns-2 returns-3 returns-4 returns-5)
+    (tie.spec (λ c κs. search needs) (λ c κs. search needs) returns returns-2 returns-3 returns-4 returns-5)

@@ -3,15 +3,6 @@ use borrow.Author.Needs.{needs}
 use Rattle.replacing.proofs.judge_element.Statement.{statement}
 use Rattle.replacing.proofs.judge_element.Tie as tie
 
-enum-known-scan : tie.Need-enum-known-scan
-enum-known-scan c = search needs
-
-enum-told : tie.Need-enum-told
-enum-told c = search needs
-
-enum-known-scan-2 : tie.Need-enum-known-scan-2
-enum-known-scan-2 c = search needs
-
 returns : tie.Need-returns
 returns c = rw (c .before .before .scan2 .given .1, lt-ltb _ _ (c .if1 .taken))
 
@@ -27,4 +18,4 @@ returns-4 c = rw (c .before .before .scan2 .given .1, le-ltb _ _ (c .if1 .left))
 pub judge-element-spec : {M : Type 1} → statement M
 judge-element-spec =
     tie.close
-    (tie.spec enum-known-scan enum-told enum-known-scan-2 returns returns-2 returns-3 returns-4)
+    (tie.spec (λ c. search needs) (λ c. search needs) (λ c. search needs) returns returns-2 returns-3 returns-4)

@@ -4,24 +4,6 @@ use borrow.Author.Needs.{needs}
 use Rattle.running.proofs.prepared.Statement.{statement}
 use Rattle.running.proofs.prepared.Tie as tie
 
-enum-known-kind : tie.Need-enum-known-kind
-enum-known-kind c = search needs
-
-enum-known-kind-2 : tie.Need-enum-known-kind-2
-enum-known-kind-2 c = search needs
-
-enum-known-kind-3 : tie.Need-enum-known-kind-3
-enum-known-kind-3 c = search needs
-
-prepare-range-requires : tie.Need-prepare-range-requires
-prepare-range-requires c κs = search needs
-
-enum-known-kind-4 : tie.Need-enum-known-kind-4
-enum-known-kind-4 c = search needs
-
-prepare-cdl-requires : tie.Need-prepare-cdl-requires
-prepare-cdl-requires c κs = search needs
-
 returns : tie.Need-returns
 unfolding preparedAs
 returns c = simp (c .before .kind .given .1)
@@ -42,12 +24,12 @@ pub prepared-spec : {M : Type 1} → statement M
 prepared-spec =
     tie.close
     (tie.spec
-    enum-known-kind
-    enum-known-kind-2
-    enum-known-kind-3
-    prepare-range-requires
-    enum-known-kind-4
-    prepare-cdl-requires
+    (λ c. search needs)
+    (λ c. search needs)
+    (λ c. search needs)
+    (λ c κs. search needs)
+    (λ c. search needs)
+    (λ c κs. search needs)
     returns
     returns-2
     returns-3

@@ -28,12 +28,6 @@ others m (Lut1d at entries columns) h = refl
 others m (Range minIn maxIn minOut maxOut clamp) h = refl
 others m (Cdl sr sg sb or og ob pr pg pb sat clamp) h = refl
 
-enum-known-step : tie.Need-enum-known-step
-enum-known-step c = search needs
-
-rows-from-requires : tie.Need-rows-from-requires
-rows-from-requires c κs = search needs
-
 returns : tie.Need-returns
 unfolding rowsAs
 returns c = simp (c .before .before .step .given .1) (c .rows-from .ensures)
@@ -42,4 +36,4 @@ returns-2 : tie.Need-returns-2
 returns-2 c = let a = c .before .args in others (lent (now (a .coefficients)) (now (a .powers))) (a .step) (c .match .keys2)
 
 pub rows-spec : {M : Type 1} → statement M
-rows-spec = tie.close (tie.spec enum-known-step rows-from-requires returns returns-2)
+rows-spec = tie.close (tie.spec (λ c. search needs) (λ c κs. search needs) returns returns-2)

@@ -62,9 +62,6 @@ module _ (l : ProcessList) (m : Room) (xs : List Float) where
       all : (ys : List Float) → length xs ≤ k → ys ≡ runNodes m (nodesOf l) xs → Answers (ran 0 0) ys
       all ys i f = accepted ys (ran-accepted l m v xs (none-left xs h) (not-found xs k e i)) f
 
-valid-requires : tie.Need-valid-requires
-valid-requires c κs = search needs
-
 returns : tie.Need-returns
 returns c =
     let v = c .before in
@@ -78,12 +75,6 @@ returns-2 c =
     let a = v .before .before .args in
     no-threes (a .list) (lent (now (a .coefficients)) (now (a .powers))) (now (a .pixels)) (sym (v .valid .ensures) ∙ not-false _ (q .if1 .left)) (c .if2 .taken)
 
-first-not-finite-requires : tie.Need-first-not-finite-requires
-first-not-finite-requires c κs = search needs
-
-same-length : tie.Need-same-length
-same-length c = search needs
-
 returns-3 : tie.Need-returns-3
 returns-3 c =
     let f = c .before in
@@ -93,12 +84,6 @@ returns-3 c =
     let a = v .before .before .args in
     let m = lent (now (a .coefficients)) (now (a .powers)) in
     first (a .list) m (now (a .pixels)) (sym (v .valid .ensures) ∙ not-false _ (q .if1 .left)) (t .if2 .left) (f .first-not-finite .result) (f .first-not-finite .ensures) (c .if3 .taken)
-
-run-all-requires : tie.Need-run-all-requires
-run-all-requires c κs = search needs
-
-same-length-2 : tie.Need-same-length-2
-same-length-2 c = search needs
 
 returns-4 : tie.Need-returns-4
 returns-4 c =
@@ -117,12 +102,12 @@ pub run-spec : {M : Type 1} → statement M
 run-spec =
     tie.close
     (tie.spec
-    valid-requires
+    (λ c κs. search needs)
     returns
     returns-2
-    first-not-finite-requires
-    same-length
+    (λ c κs. search needs)
+    (λ c. search needs)
     returns-3
-    run-all-requires
-    same-length-2
+    (λ c κs. search needs)
+    (λ c. search needs)
     returns-4)

@@ -39,26 +39,8 @@ Inv-loop coefficients powers pixels₀ list count k₀ pixels k =
 abbrev μ-loop : tie.MeasureT-loop
 μ-loop coefficients powers pixels₀ list count k₀ pixels k = count - k
 
-held-requires : tie.Need-held-requires Inv-loop μ-loop
-held-requires c κs = search needs
-
 loop-holds : tie.Need-loop-holds Inv-loop μ-loop
 loop-holds c = (omega arith, refl, refl)
-
-mul-node : tie.Need-mul-node Inv-loop μ-loop
-mul-node c = search needs
-
-element-copy-out-node : tie.Need-element-copy-out-node Inv-loop μ-loop
-element-copy-out-node c = search needs
-
-run-one-requires : tie.Need-run-one-requires Inv-loop μ-loop
-run-one-requires c κs = search needs
-
-add-k : tie.Need-add-k Inv-loop μ-loop
-add-k c = search needs
-
-loop-less : tie.Need-loop-less Inv-loop μ-loop
-loop-less c = search needs
 
 loop-again : tie.Need-loop-again Inv-loop μ-loop
 unfolding blankNode unplaced
@@ -88,13 +70,13 @@ run-all-spec =
     (tie.spec
     Inv-loop
     μ-loop
-    held-requires
+    (λ c κs. search needs)
     loop-holds
-    mul-node
-    element-copy-out-node
-    run-one-requires
-    add-k
-    loop-less
+    (λ c. search needs)
+    (λ c. search needs)
+    (λ c κs. search needs)
+    (λ c. search needs)
+    (λ c. search needs)
     loop-again
     same-length
     returns)

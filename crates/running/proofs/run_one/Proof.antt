@@ -24,24 +24,6 @@ as-node : (m : Room) (n : Node) (xs : List Float) {ys : List Float} {p : Prepare
 unfolding runNode preparedOf rowsOf
 as-node m n xs ep er ei eo h = cc
 
-prepared-requires : tie.Need-prepared-requires
-prepared-requires c κs = search needs
-
-rows-requires : tie.Need-rows-requires
-rows-requires c κs = search needs
-
-scale-requires : tie.Need-scale-requires
-scale-requires c κs = search needs
-
-scale-requires-2 : tie.Need-scale-requires-2
-scale-requires-2 c κs = search needs
-
-run-node-requires : tie.Need-run-node-requires
-run-node-requires c κs = search needs
-
-same-length : tie.Need-same-length
-same-length c = search needs
-
 returns : tie.Need-returns
 returns c =
     let n = c .before .before in
@@ -56,10 +38,10 @@ pub run-one-spec : {M : Type 1} → statement M
 run-one-spec =
     tie.close
     (tie.spec
-    prepared-requires
-    rows-requires
-    scale-requires
-    scale-requires-2
-    run-node-requires
-    same-length
+    (λ c κs. search needs)
+    (λ c κs. search needs)
+    (λ c κs. search needs)
+    (λ c κs. search needs)
+    (λ c κs. search needs)
+    (λ c. search needs)
     returns)

@@ -2,56 +2,38 @@ use native.Mathlib.Omega.{arith}
 use mathlib.Core.Path.{sym}
 use Rattle.tags.specs.Rules.{rulesOf}
 use Rattle.tags.specs.Code.{attributesOf}
-use Rattle.tags.proofs.Attributes.{named-bad, named-quote, named-fault, named-cut}
+use Rattle.tags.proofs.AttributeLaws.{named-bad, named-quote, named-fault, named-cut}
 use borrow.Author.Needs.{needs}
 use Rattle.tags.proofs.attribute_named.Statement.{statement}
 use Rattle.tags.proofs.attribute_named.Tie as tie
 
-part-requires : tie.Need-part-requires
-part-requires c κs = search needs
-
-name-fault-requires : tie.Need-name-fault-requires
-name-fault-requires c κs = search needs
-
 returns : tie.Need-returns
-returns c = named-bad (rulesOf (c .before .before .before .before .args .kind)) (attributesOf (c .before .before .before .before .args .s .now) (c .before .before .before .before .args .seen)) (c .before .before .before .before .args .s .now) (c .before .before .before .before .args .at) (c .before .before .before .before .args .e) (c .before .before .before .before .pre) _ (rw (c .before .before .part .ensures) at (c .before .name-fault .ensures)) (c .if1 .taken)
-
-to-quote-requires : tie.Need-to-quote-requires
-to-quote-requires c κs = search needs
-
-enum-known-r : tie.Need-enum-known-r
-enum-known-r c = search needs
+returns c = named-bad (rulesOf (c .before .before .before .before .args .kind)) (attributesOf (c .before .before .before .before .args .s .now) (c .before .before .before .before .args .attributes)) (c .before .before .before .before .args .s .now) (c .before .before .before .before .args .at) (c .before .before .before .before .args .e) (c .before .before .before .before .pre) _ (rw (c .before .before .part .ensures) at (c .before .name-fault .ensures)) (c .if1 .taken)
 
 attribute-text-requires : tie.Need-attribute-text-requires
 attribute-text-requires c κs = (c .before .before .before .before .before .before .before .before .pre .0, omega (arith, (rw (c .before .r .given .1) at (c .before .before .before .to-quote .ensures)) .inside), (rw (c .before .r .given .1) at (c .before .before .before .to-quote .ensures)) .inside .1, sym ((rw (c .before .r .given .1) at (c .before .before .before .to-quote .ensures)) .out))
 
-enum-known-r-2 : tie.Need-enum-known-r-2
-enum-known-r-2 c = search needs
-
-enum-told : tie.Need-enum-told
-enum-told c = search needs
-
 returns-2 : tie.Need-returns-2
-returns-2 c = named-quote (rulesOf (c .before .before .before .before .before .before .before .before .before .args .kind)) (attributesOf (c .before .before .before .before .before .before .before .before .before .args .s .now) (c .before .before .before .before .before .before .before .before .before .args .seen)) (c .before .before .before .before .before .before .before .before .before .args .s .now) (c .before .before .before .before .before .before .before .before .before .args .at) (c .before .before .before .before .before .before .before .before .before .args .e) (c .before .before .before .before .before .before .before .before .before .pre) _ (rw (c .before .before .before .before .before .before .before .part .ensures) at (c .before .before .before .before .before .before .name-fault .ensures)) (c .before .before .before .before .before .if1 .left) _ _ (rw (c .before .before .r .given .1) at (c .before .before .before .before .to-quote .ensures)) (c .attribute-text .ensures)
+returns-2 c = named-quote (rulesOf (c .before .before .before .before .before .before .before .before .before .args .kind)) (attributesOf (c .before .before .before .before .before .before .before .before .before .args .s .now) (c .before .before .before .before .before .before .before .before .before .args .attributes)) (c .before .before .before .before .before .before .before .before .before .args .s .now) (c .before .before .before .before .before .before .before .before .before .args .at) (c .before .before .before .before .before .before .before .before .before .args .e) (c .before .before .before .before .before .before .before .before .before .pre) _ (rw (c .before .before .before .before .before .before .before .part .ensures) at (c .before .before .before .before .before .before .name-fault .ensures)) (c .before .before .before .before .before .if1 .left) _ _ (rw (c .before .before .r .given .1) at (c .before .before .before .before .to-quote .ensures)) (c .attribute-text .ensures)
 
 returns-3 : tie.Need-returns-3
-returns-3 c = named-fault (rulesOf (c .before .before .before .before .before .before .before .before .args .kind)) (attributesOf (c .before .before .before .before .before .before .before .before .args .s .now) (c .before .before .before .before .before .before .before .before .args .seen)) (c .before .before .before .before .before .before .before .before .args .s .now) (c .before .before .before .before .before .before .before .before .args .at) (c .before .before .before .before .before .before .before .before .args .e) (c .before .before .before .before .before .before .before .before .pre) _ (rw (c .before .before .before .before .before .before .part .ensures) at (c .before .before .before .before .before .name-fault .ensures)) (c .before .before .before .before .if1 .left) _ _ (rw (c .before .r2 .given .1) at (c .before .before .before .to-quote .ensures))
+returns-3 c = named-fault (rulesOf (c .before .before .before .before .before .before .before .before .args .kind)) (attributesOf (c .before .before .before .before .before .before .before .before .args .s .now) (c .before .before .before .before .before .before .before .before .args .attributes)) (c .before .before .before .before .before .before .before .before .args .s .now) (c .before .before .before .before .before .before .before .before .args .at) (c .before .before .before .before .before .before .before .before .args .e) (c .before .before .before .before .before .before .before .before .pre) _ (rw (c .before .before .before .before .before .before .part .ensures) at (c .before .before .before .before .before .name-fault .ensures)) (c .before .before .before .before .if1 .left) _ _ (rw (c .before .r2 .given .1) at (c .before .before .before .to-quote .ensures))
 
 returns-4 : tie.Need-returns-4
-returns-4 c = named-cut (rulesOf (c .before .before .before .before .before .before .before .args .kind)) (attributesOf (c .before .before .before .before .before .before .before .args .s .now) (c .before .before .before .before .before .before .before .args .seen)) (c .before .before .before .before .before .before .before .args .s .now) (c .before .before .before .before .before .before .before .args .at) (c .before .before .before .before .before .before .before .args .e) (c .before .before .before .before .before .before .before .pre) _ (rw (c .before .before .before .before .before .part .ensures) at (c .before .before .before .before .name-fault .ensures)) (c .before .before .before .if1 .left) (rw (c .enum-told .given .1) at (c .before .before .to-quote .ensures))
+returns-4 c = named-cut (rulesOf (c .before .before .before .before .before .before .before .args .kind)) (attributesOf (c .before .before .before .before .before .before .before .args .s .now) (c .before .before .before .before .before .before .before .args .attributes)) (c .before .before .before .before .before .before .before .args .s .now) (c .before .before .before .before .before .before .before .args .at) (c .before .before .before .before .before .before .before .args .e) (c .before .before .before .before .before .before .before .pre) _ (rw (c .before .before .before .before .before .part .ensures) at (c .before .before .before .before .name-fault .ensures)) (c .before .before .before .if1 .left) (rw (c .enum-told .given .1) at (c .before .before .to-quote .ensures))
 
 pub attribute-named-spec : {M : Type 1} → statement M
 attribute-named-spec =
     tie.close
     (tie.spec
-    part-requires
-    name-fault-requires
+    (λ c κs. search needs)
+    (λ c κs. search needs)
     returns
-    to-quote-requires
-    enum-known-r
+    (λ c κs. search needs)
+    (λ c. search needs)
     attribute-text-requires
-    enum-known-r-2
-    enum-told
+    (λ c. search needs)
+    (λ c. search needs)
     returns-2
     returns-3
     returns-4)

@@ -1,6 +1,6 @@
 use native.Mathlib.Omega.{arith}
 use Rattle.tags.specs.Rules.{rulesOf}
-use Rattle.tags.proofs.Attributes.{text-bad, text-cut, text-done, text-fault, text-ended}
+use Rattle.tags.proofs.AttributeLaws.{text-bad, text-cut, text-done, text-fault, text-ended}
 use borrow.Author.Needs.{needs}
 use Rattle.tags.proofs.attribute_text.Statement.{statement}
 use Rattle.tags.proofs.attribute_text.Tie as tie
@@ -11,32 +11,11 @@ sub-text-to c = omega (arith, c .before .pre)
 shared-slice-read-text-to : tie.Need-shared-slice-read-text-to
 shared-slice-read-text-to c = omega (arith, c .before .before .pre)
 
-text-to-requires : tie.Need-text-to-requires
-text-to-requires c κs = search needs
-
-enum-known-r : tie.Need-enum-known-r
-enum-known-r c = search needs
-
-part-requires : tie.Need-part-requires
-part-requires c κs = search needs
-
-part-requires-2 : tie.Need-part-requires-2
-part-requires-2 c κs = search needs
-
-text-fault-requires : tie.Need-text-fault-requires
-text-fault-requires c κs = search needs
-
 returns : tie.Need-returns
 returns c = text-bad (rulesOf (c .before .before .before .before .before .before .before .before .before .before .args .kind)) (c .before .before .before .before .before .before .before .before .before .before .args .s .now) (c .before .before .before .before .before .before .before .before .before .before .args .at) (c .before .before .before .before .before .before .before .before .before .before .args .e) (c .before .before .before .before .before .before .before .before .before .before .args .q) (c .before .before .before .before .before .before .before .before .before .before .pre) _ (rw (c .before .before .before .before .before .r .given .1) at (c .before .before .before .before .before .before .before .text-to .ensures)) _ (rw (c .before .before .before .part .ensures, c .before .before .part2 .ensures) at (c .before .text-fault .ensures)) (c .if1 .taken)
 
 returns-2 : tie.Need-returns-2
 returns-2 c = text-cut (rulesOf (c .before .before .before .before .before .before .before .before .before .before .before .args .kind)) (c .before .before .before .before .before .before .before .before .before .before .before .args .s .now) (c .before .before .before .before .before .before .before .before .before .before .before .args .at) (c .before .before .before .before .before .before .before .before .before .before .before .args .e) (c .before .before .before .before .before .before .before .before .before .before .before .args .q) (c .before .before .before .before .before .before .before .before .before .before .before .pre) _ (rw (c .before .before .before .before .before .before .r .given .1) at (c .before .before .before .before .before .before .before .before .text-to .ensures)) _ (rw (c .before .before .before .before .part .ensures, c .before .before .before .part2 .ensures) at (c .before .before .text-fault .ensures)) (c .before .if1 .left) (c .if2 .taken)
-
-enum-known-r-2 : tie.Need-enum-known-r-2
-enum-known-r-2 c = search needs
-
-enum-told : tie.Need-enum-told
-enum-told c = search needs
 
 returns-3 : tie.Need-returns-3
 returns-3 c = text-done (rulesOf (c .before .before .before .before .before .before .before .before .before .before .before .args .kind)) (c .before .before .before .before .before .before .before .before .before .before .before .args .s .now) (c .before .before .before .before .before .before .before .before .before .before .before .args .at) (c .before .before .before .before .before .before .before .before .before .before .before .args .e) (c .before .before .before .before .before .before .before .before .before .before .before .args .q) (c .before .before .before .before .before .before .before .before .before .before .before .pre) _ (rw (c .before .before .before .before .before .before .r .given .1) at (c .before .before .before .before .before .before .before .before .text-to .ensures)) _ (rw (c .before .before .before .before .part .ensures, c .before .before .before .part2 .ensures) at (c .before .before .text-fault .ensures)) (c .before .if1 .left) (c .if2 .left)
@@ -53,15 +32,15 @@ attribute-text-spec =
     (tie.spec
     sub-text-to
     shared-slice-read-text-to
-    text-to-requires
-    enum-known-r
-    part-requires
-    part-requires-2
-    text-fault-requires
+    (λ c κs. search needs)
+    (λ c. search needs)
+    (λ c κs. search needs)
+    (λ c κs. search needs)
+    (λ c κs. search needs)
     returns
     returns-2
-    enum-known-r-2
-    enum-told
+    (λ c. search needs)
+    (λ c. search needs)
     returns-3
     returns-4
     returns-5)

@@ -6,9 +6,6 @@ use Rattle.tags.proofs.begins_with_zero.Tie as tie
 returns : tie.Need-returns
 returns c = zero-none (c .before .args .text .now) (c .if1 .taken)
 
-shared-slice-read-result : tie.Need-shared-slice-read-result
-shared-slice-read-result c = search needs
-
 returns-2 : tie.Need-returns-2
 returns-2 c = zero-some (c .before .before .args .text .now) (c .before .if1 .left)
 
@@ -17,5 +14,5 @@ begins-with-zero-spec =
     tie.close
     (tie.spec
     returns
-    shared-slice-read-result
+    (λ c. search needs)
     returns-2)

@@ -2,15 +2,6 @@ use borrow.Author.Needs.{needs}
 use Rattle.tags.proofs.both_or.Statement.{statement}
 use Rattle.tags.proofs.both_or.Tie as tie
 
-is-named-requires : tie.Need-is-named-requires
-is-named-requires c κs = search needs
-
-is-named-requires-2 : tie.Need-is-named-requires-2
-is-named-requires-2 c κs = search needs
-
-unless-requires : tie.Need-unless-requires
-unless-requires c κs = search needs
-
 returns : tie.Need-returns
 returns c = rw (← c .before .before .before .is-named .ensures, c .before .before .if1 .taken, c .unless .ensures, c .before .is-named2 .ensures)
 
@@ -21,8 +12,8 @@ pub both-or-spec : {M : Type 1} → statement M
 both-or-spec =
     tie.close
     (tie.spec
-    is-named-requires
-    is-named-requires-2
-    unless-requires
+    (λ c κs. search needs)
+    (λ c κs. search needs)
+    (λ c κs. search needs)
     returns
     returns-2)

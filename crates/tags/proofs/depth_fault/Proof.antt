@@ -2,15 +2,6 @@ use borrow.Author.Needs.{needs}
 use Rattle.tags.proofs.depth_fault.Statement.{statement}
 use Rattle.tags.proofs.depth_fault.Tie as tie
 
-depth-of-requires : tie.Need-depth-of-requires
-depth-of-requires c κs = search needs
-
-enum-known-d : tie.Need-enum-known-d
-enum-known-d c = search needs
-
-enum-told : tie.Need-enum-told
-enum-told c = search needs
-
 returns : tie.Need-returns
 returns c = rw (← c .before .before .before .depth-of .ensures, c .before .d .given .1)
 
@@ -21,8 +12,8 @@ pub depth-fault-spec : {M : Type 1} → statement M
 depth-fault-spec =
     tie.close
     (tie.spec
-    depth-of-requires
-    enum-known-d
-    enum-told
+    (λ c κs. search needs)
+    (λ c. search needs)
+    (λ c. search needs)
     returns
     returns-2)

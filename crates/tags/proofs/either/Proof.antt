@@ -2,14 +2,8 @@ use borrow.Author.Needs.{needs}
 use Rattle.tags.proofs.either.Statement.{statement}
 use Rattle.tags.proofs.either.Tie as tie
 
-same-requires : tie.Need-same-requires
-same-requires c κs = search needs
-
 returns : tie.Need-returns
 returns c = rw (← c .before .same .ensures, c .if1 .taken)
-
-same-requires-2 : tie.Need-same-requires-2
-same-requires-2 c κs = search needs
 
 returns-2 : tie.Need-returns-2
 returns-2 c = rw (← c .before .before .same .ensures, c .before .if1 .left, c .same2 .ensures)
@@ -18,7 +12,7 @@ pub either-spec : {M : Type 1} → statement M
 either-spec =
     tie.close
     (tie.spec
-    same-requires
+    (λ c κs. search needs)
     returns
-    same-requires-2
+    (λ c κs. search needs)
     returns-2)

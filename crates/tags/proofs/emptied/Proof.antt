@@ -3,48 +3,6 @@ use borrow.Author.Needs.{needs}
 use Rattle.tags.proofs.emptied.Statement.{statement}
 use Rattle.tags.proofs.emptied.Tie as tie
 
-enum-told : tie.Need-enum-told
-enum-told c = search needs
-
-enum-told-2 : tie.Need-enum-told-2
-enum-told-2 c = search needs
-
-enum-told-3 : tie.Need-enum-told-3
-enum-told-3 c = search needs
-
-enum-told-4 : tie.Need-enum-told-4
-enum-told-4 c = search needs
-
-dim-missing-requires : tie.Need-dim-missing-requires
-dim-missing-requires c κs = search needs
-
-enum-told-5 : tie.Need-enum-told-5
-enum-told-5 c = search needs
-
-dim-missing-requires-2 : tie.Need-dim-missing-requires-2
-dim-missing-requires-2 c κs = search needs
-
-enum-told-6 : tie.Need-enum-told-6
-enum-told-6 c = search needs
-
-enum-told-7 : tie.Need-enum-told-7
-enum-told-7 c = search needs
-
-enum-told-8 : tie.Need-enum-told-8
-enum-told-8 c = search needs
-
-enum-told-9 : tie.Need-enum-told-9
-enum-told-9 c = search needs
-
-node-missing-requires : tie.Need-node-missing-requires
-node-missing-requires c κs = search needs
-
-enum-told-10 : tie.Need-enum-told-10
-enum-told-10 c = search needs
-
-list-missing-requires : tie.Need-list-missing-requires
-list-missing-requires c κs = search needs
-
 returns : tie.Need-returns
 unfolding rulesOf
 returns c = rw (c .enum-told .given .1)
@@ -89,20 +47,20 @@ pub emptied-spec : {M : Type 1} → statement M
 emptied-spec =
     tie.close
     (tie.spec
-    enum-told
-    enum-told-2
-    enum-told-3
-    enum-told-4
-    dim-missing-requires
-    enum-told-5
-    dim-missing-requires-2
-    enum-told-6
-    enum-told-7
-    enum-told-8
-    enum-told-9
-    node-missing-requires
-    enum-told-10
-    list-missing-requires
+    (λ c. search needs)
+    (λ c. search needs)
+    (λ c. search needs)
+    (λ c. search needs)
+    (λ c κs. search needs)
+    (λ c. search needs)
+    (λ c κs. search needs)
+    (λ c. search needs)
+    (λ c. search needs)
+    (λ c. search needs)
+    (λ c. search needs)
+    (λ c κs. search needs)
+    (λ c. search needs)
+    (λ c κs. search needs)
     returns
     returns-2
     returns-3

@@ -3,9 +3,6 @@ use borrow.Author.Needs.{needs}
 use Rattle.tags.proofs.is_named.Statement.{statement}
 use Rattle.tags.proofs.is_named.Tie as tie
 
-index-of-requires : tie.Need-index-of-requires
-index-of-requires c κs = search needs
-
 returns : tie.Need-returns
 returns c = sym (c .index-of .ensures .named)
 
@@ -13,5 +10,5 @@ pub is-named-spec : {M : Type 1} → statement M
 is-named-spec =
     tie.close
     (tie.spec
-    index-of-requires
+    (λ c κs. search needs)
     returns)

@@ -2,15 +2,6 @@ use borrow.Author.Needs.{needs}
 use Rattle.tags.proofs.lut_dim_fault.Statement.{statement}
 use Rattle.tags.proofs.lut_dim_fault.Tie as tie
 
-slice-aggregate-same : tie.Need-slice-aggregate-same
-slice-aggregate-same c = search needs
-
-same-requires : tie.Need-same-requires
-same-requires c κs = search needs
-
-lut-shape-fault-requires : tie.Need-lut-shape-fault-requires
-lut-shape-fault-requires c κs = search needs
-
 returns : tie.Need-returns
 returns c = rw (← c .before .before .same .ensures, c .before .if1 .taken, c .lut-shape-fault .ensures)
 
@@ -21,8 +12,8 @@ pub lut-dim-fault-spec : {M : Type 1} → statement M
 lut-dim-fault-spec =
     tie.close
     (tie.spec
-    slice-aggregate-same
-    same-requires
-    lut-shape-fault-requires
+    (λ c. search needs)
+    (λ c κs. search needs)
+    (λ c κs. search needs)
     returns
     returns-2)

@@ -2,15 +2,6 @@ use borrow.Author.Needs.{needs}
 use Rattle.tags.proofs.lut_shape_fault.Statement.{statement}
 use Rattle.tags.proofs.lut_shape_fault.Tie as tie
 
-shape-of-requires : tie.Need-shape-of-requires
-shape-of-requires c κs = search needs
-
-enum-known-shape : tie.Need-enum-known-shape
-enum-known-shape c = search needs
-
-enum-told : tie.Need-enum-told
-enum-told c = search needs
-
 returns : tie.Need-returns
 returns c = rw (← c .before .before .before .shape-of .ensures, c .before .shape .given .1)
 
@@ -21,8 +12,8 @@ pub lut-shape-fault-spec : {M : Type 1} → statement M
 lut-shape-fault-spec =
     tie.close
     (tie.spec
-    shape-of-requires
-    enum-known-shape
-    enum-told
+    (λ c κs. search needs)
+    (λ c. search needs)
+    (λ c. search needs)
     returns
     returns-2)

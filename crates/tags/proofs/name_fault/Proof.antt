@@ -3,27 +3,21 @@ use borrow.Author.Needs.{needs}
 use Rattle.tags.proofs.name_fault.Statement.{statement}
 use Rattle.tags.proofs.name_fault.Tie as tie
 
-is-named-requires : tie.Need-is-named-requires
-is-named-requires c κs = search needs
-
 returns : tie.Need-returns
 returns c = rw (← c .before .is-named .ensures, c .if1 .taken)
 
 returns-2 : tie.Need-returns-2
-returns-2 c = rw (← c .before .before .is-named .ensures, c .before .if1 .left, sixteen (c .before .before .before .before .before .args .s .now) (c .before .before .before .before .before .args .seen) (c .if2 .taken))
-
-name-rule-requires : tie.Need-name-rule-requires
-name-rule-requires c κs = search needs
+returns-2 c = rw (← c .before .before .is-named .ensures, c .before .if1 .left, sixteen (c .before .before .before .before .before .args .s .now) (c .before .before .before .before .before .args .attributes) (c .if2 .taken))
 
 returns-3 : tie.Need-returns-3
-returns-3 c = rw (← c .before .before .before .is-named .ensures, c .before .before .if1 .left, fewer (c .before .before .before .before .before .before .args .s .now) (c .before .before .before .before .before .before .args .seen) (c .before .if2 .left), c .name-rule .ensures)
+returns-3 c = rw (← c .before .before .before .is-named .ensures, c .before .before .if1 .left, fewer (c .before .before .before .before .before .before .args .s .now) (c .before .before .before .before .before .before .args .attributes) (c .before .if2 .left), c .name-rule .ensures)
 
 pub name-fault-spec : {M : Type 1} → statement M
 name-fault-spec =
     tie.close
     (tie.spec
-    is-named-requires
+    (λ c κs. search needs)
     returns
     returns-2
-    name-rule-requires
+    (λ c κs. search needs)
     returns-3)

@@ -4,23 +4,17 @@ use borrow.Author.Needs.{needs}
 use Rattle.tags.proofs.open_end.Statement.{statement}
 use Rattle.tags.proofs.open_end.Tie as tie
 
-opened-requires : tie.Need-opened-requires
-opened-requires c κs = search needs
-
 returns : tie.Need-returns
-returns c = open-bad (rulesOf (c .before .before .before .args .kind)) (c .before .before .before .args .s .now) (c .before .before .before .args .seen) (c .before .before .before .args .at) (c .before .before .before .pre) _ (c .before .opened .ensures) (c .if1 .taken)
-
-add-t7 : tie.Need-add-t7
-add-t7 c = search needs
+returns c = open-bad (rulesOf (c .before .before .before .args .kind)) (c .before .before .before .args .s .now) (c .before .before .before .args .attributes) (c .before .before .before .args .at) (c .before .before .before .pre) _ (c .before .opened .ensures) (c .if1 .taken)
 
 returns-2 : tie.Need-returns-2
-returns-2 c = open-done (rulesOf (c .before .before .before .args .kind)) (c .before .before .before .args .s .now) (c .before .before .before .args .seen) (c .before .before .before .args .at) (c .before .before .before .pre) _ (c .before .opened .ensures) (c .if1 .left)
+returns-2 c = open-done (rulesOf (c .before .before .before .args .kind)) (c .before .before .before .args .s .now) (c .before .before .before .args .attributes) (c .before .before .before .args .at) (c .before .before .before .pre) _ (c .before .opened .ensures) (c .if1 .left)
 
 pub open-end-spec : {M : Type 1} → statement M
 open-end-spec =
     tie.close
     (tie.spec
-    opened-requires
+    (λ c κs. search needs)
     returns
-    add-t7
+    (λ c. search needs)
     returns-2)

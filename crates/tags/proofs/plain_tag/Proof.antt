@@ -6,17 +6,8 @@ use borrow.Author.Needs.{needs}
 use Rattle.tags.proofs.plain_tag.Statement.{statement}
 use Rattle.tags.proofs.plain_tag.Tie as tie
 
-shared-slice-read-if2 : tie.Need-shared-slice-read-if2
-shared-slice-read-if2 c = search needs
-
-add-t9 : tie.Need-add-t9
-add-t9 c = search needs
-
 returns : tie.Need-returns
 returns c = open-at-once _ _ (c .before .before .if1 .taken) (c .if2 .taken)
-
-start-tag-requires : tie.Need-start-tag-requires
-start-tag-requires c κs = search needs
 
 returns-2 : tie.Need-returns-2
 returns-2 c = plainly _ _ _ (ends-as (rulesOf Plain) _ _ (c .start-tag .result) (c .start-tag .ensures .0) (c .start-tag .ensures .1))
@@ -25,8 +16,8 @@ pub plain-tag-spec : {M : Type 1} → statement M
 plain-tag-spec =
     tie.close
     (tie.spec
-    shared-slice-read-if2
-    add-t9
+    (λ c. search needs)
+    (λ c. search needs)
     returns
-    start-tag-requires
+    (λ c κs. search needs)
     returns-2)

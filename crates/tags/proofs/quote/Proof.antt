@@ -1,30 +1,15 @@
 use mathlib.Core.Path.{sym, _∙_}
 use Rattle.xml.proofs.Answers.{failed}
-use Rattle.tags.proofs.Attributes.{quote-failed, quote-cut, quote-is, quote-other}
+use Rattle.tags.proofs.AttributeLaws.{quote-failed, quote-cut, quote-is, quote-other}
 use borrow.Author.Needs.{needs}
 use Rattle.tags.proofs.quote.Statement.{statement}
 use Rattle.tags.proofs.quote.Tie as tie
-
-spaces-requires : tie.Need-spaces-requires
-spaces-requires c κs = search needs
-
-enum-known-r : tie.Need-enum-known-r
-enum-known-r c = search needs
 
 returns : tie.Need-returns
 returns c = quote-failed _ _ _ (failed (c .before .spaces .result) (c .match .keys2)) (c .before .spaces .ensures)
 
 returns-2 : tie.Need-returns-2
 returns-2 c = quote-cut _ _ _ (rw (c .before .before .r .given .1) at (c .before .before .before .before .spaces .ensures)) (c .if1 .taken)
-
-shared-slice-read-is-quote : tie.Need-shared-slice-read-is-quote
-shared-slice-read-is-quote c = search needs
-
-is-quote-requires : tie.Need-is-quote-requires
-is-quote-requires c κs = search needs
-
-add-t10 : tie.Need-add-t10
-add-t10 c = search needs
 
 returns-3 : tie.Need-returns-3
 returns-3 c = quote-is _ _ _ (rw (c .before .before .before .before .before .r .given .1) at (c .before .before .before .before .before .before .before .spaces .ensures)) (c .before .before .before .if1 .left) (sym (c .before .is-quote .ensures) ∙ c .if2 .taken)
@@ -36,12 +21,12 @@ pub quote-spec : {M : Type 1} → statement M
 quote-spec =
     tie.close
     (tie.spec
-    spaces-requires
-    enum-known-r
+    (λ c κs. search needs)
+    (λ c. search needs)
     returns
     returns-2
-    shared-slice-read-is-quote
-    is-quote-requires
-    add-t10
+    (λ c. search needs)
+    (λ c κs. search needs)
+    (λ c. search needs)
     returns-3
     returns-4)

@@ -2,24 +2,6 @@ use borrow.Author.Needs.{needs}
 use Rattle.tags.proofs.range_text_fault.Statement.{statement}
 use Rattle.tags.proofs.range_text_fault.Tie as tie
 
-slice-aggregate-same : tie.Need-slice-aggregate-same
-slice-aggregate-same c = search needs
-
-same-requires : tie.Need-same-requires
-same-requires c κs = search needs
-
-slice-aggregate-either : tie.Need-slice-aggregate-either
-slice-aggregate-either c = search needs
-
-slice-aggregate-either-2 : tie.Need-slice-aggregate-either-2
-slice-aggregate-either-2 c = search needs
-
-either-requires : tie.Need-either-requires
-either-requires c κs = search needs
-
-unless-requires : tie.Need-unless-requires
-unless-requires c κs = search needs
-
 returns : tie.Need-returns
 returns c = rw (← c .before .before .before .before .before .same .ensures, c .before .before .before .before .if1 .taken, c .unless .ensures, c .before .either .ensures)
 
@@ -30,11 +12,11 @@ pub range-text-fault-spec : {M : Type 1} → statement M
 range-text-fault-spec =
     tie.close
     (tie.spec
-    slice-aggregate-same
-    same-requires
-    slice-aggregate-either
-    slice-aggregate-either-2
-    either-requires
-    unless-requires
+    (λ c. search needs)
+    (λ c κs. search needs)
+    (λ c. search needs)
+    (λ c. search needs)
+    (λ c κs. search needs)
+    (λ c κs. search needs)
     returns
     returns-2)

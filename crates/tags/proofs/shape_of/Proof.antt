@@ -4,12 +4,6 @@ use borrow.Author.Needs.{needs}
 use Rattle.tags.proofs.shape_of.Statement.{statement}
 use Rattle.tags.proofs.shape_of.Tie as tie
 
-digits-of-requires : tie.Need-digits-of-requires
-digits-of-requires c κs = search needs
-
-begins-with-zero-requires : tie.Need-begins-with-zero-requires
-begins-with-zero-requires c κs = search needs
-
 returns : tie.Need-returns
 returns c = shape-zero _ _ (c .before .begins-with-zero .ensures) (c .if1 .taken)
 
@@ -28,9 +22,6 @@ part-columns-of-start c = omega (arith, c .before .before .before .before .digit
 part-columns-of-end : tie.Need-part-columns-of-end
 part-columns-of-end c = omega (arith, c .before .before .before .before .digits-of .ensures .within)
 
-columns-of-requires : tie.Need-columns-of-requires
-columns-of-requires c κs = search needs
-
 returns-4 : tie.Need-returns-4
 returns-4 c = shape-none _ _ (c .before .before .before .before .before .before .before .digits-of .ensures) _ (c .before .columns-of .ensures) (c .if4 .taken)
 
@@ -41,14 +32,14 @@ pub shape-of-spec : {M : Type 1} → statement M
 shape-of-spec =
     tie.close
     (tie.spec
-    digits-of-requires
-    begins-with-zero-requires
+    (λ c κs. search needs)
+    (λ c κs. search needs)
     returns
     returns-2
     returns-3
     sub-columns-of
     part-columns-of-start
     part-columns-of-end
-    columns-of-requires
+    (λ c κs. search needs)
     returns-4
     returns-5)

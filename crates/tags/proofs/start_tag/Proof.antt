@@ -4,24 +4,6 @@ use borrow.Author.Needs.{needs}
 use Rattle.tags.proofs.start_tag.Statement.{statement}
 use Rattle.tags.proofs.start_tag.Tie as tie
 
-tag-parts-requires : tie.Need-tag-parts-requires
-tag-parts-requires c κs = search needs
-
-no-attributes-requires : tie.Need-no-attributes-requires
-no-attributes-requires c κs = search needs
-
-enum-known-end : tie.Need-enum-known-end
-enum-known-end c = search needs
-
-enum-known-end-2 : tie.Need-enum-known-end-2
-enum-known-end-2 c = search needs
-
-enum-known-end-3 : tie.Need-enum-known-end-3
-enum-known-end-3 c = search needs
-
-enum-told : tie.Need-enum-told
-enum-told c = search needs
-
 returns : tie.Need-returns
 returns c = kept-open _ _ _ (c .before .before .before .before .before .tag-parts .result) (c .before .before .before .before .before .tag-parts .ensures) _ (c .before .end .given .1)
 
@@ -38,12 +20,12 @@ pub start-tag-spec : {M : Type 1} → statement M
 start-tag-spec =
     tie.close
     (tie.spec
-    tag-parts-requires
-    no-attributes-requires
-    enum-known-end
-    enum-known-end-2
-    enum-known-end-3
-    enum-told
+    (λ c κs. search needs)
+    (λ c κs. search needs)
+    (λ c. search needs)
+    (λ c. search needs)
+    (λ c. search needs)
+    (λ c. search needs)
     returns
     returns-2
     returns-3

@@ -9,22 +9,16 @@ use Rattle.tags.proofs.tag_parts.Statement.{statement}
 use Rattle.tags.proofs.tag_parts.Tie as tie
 
 abbrev Inv-loop : tie.InvT-loop
-Inv-loop s at kind seen₀ spaced₀ i₀ seen spaced i = TagInv (rulesOf kind) s at seen spaced i
+Inv-loop s at kind attributes₀ spaced₀ i₀ attributes spaced i = TagInv (rulesOf kind) s at attributes spaced i
 
 abbrev μ-loop : tie.MeasureT-loop
-μ-loop s at kind seen₀ spaced₀ i₀ seen spaced i = length s - i
-
-no-attributes-requires : tie.Need-no-attributes-requires Inv-loop μ-loop
-no-attributes-requires c κs = search needs
+μ-loop s at kind attributes₀ spaced₀ i₀ attributes spaced i = length s - i
 
 loop-holds : tie.Need-loop-holds Inv-loop μ-loop
 loop-holds c = rw (c .no-attributes .ensures) (tag-start _ _ _)
 
 shared-slice-read-b : tie.Need-shared-slice-read-b Inv-loop μ-loop
 shared-slice-read-b c = omega arith
-
-is-space-requires : tie.Need-is-space-requires Inv-loop μ-loop
-is-space-requires c κs = search needs
 
 add-i : tie.Need-add-i Inv-loop μ-loop
 add-i c = omega arith
@@ -33,28 +27,19 @@ loop-less : tie.Need-loop-less Inv-loop μ-loop
 loop-less c = omega arith
 
 loop-again : tie.Need-loop-again Inv-loop μ-loop
-loop-again c = tag-space (rulesOf (c .before .before .before .before .before .before .before .args .kind)) (c .before .before .before .before .before .before .before .args .s .now) (c .before .before .before .before .before .before .before .args .at) (c .before .before .before .before .loop .seen) (c .before .before .before .before .loop .spaced) (c .before .before .before .before .loop .i) (c .before .before .before .before .loop .inv) (c .before .before .before .loop-test .taken) (sym (c .before .is-space .ensures) ∙ c .if1 .taken)
+loop-again c = tag-space (rulesOf (c .before .before .before .before .before .before .before .args .kind)) (c .before .before .before .before .before .before .before .args .s .now) (c .before .before .before .before .before .before .before .args .at) (c .before .before .before .before .loop .attributes) (c .before .before .before .before .loop .spaced) (c .before .before .before .before .loop .i) (c .before .before .before .before .loop .inv) (c .before .before .before .loop-test .taken) (sym (c .before .is-space .ensures) ∙ c .if1 .taken)
 
 open-end-requires : tie.Need-open-end-requires Inv-loop μ-loop
 open-end-requires c κs = c .before .before .before .before .loop-test .taken
 
 returns : tie.Need-returns Inv-loop μ-loop
-returns c = tag-open (rulesOf (c .before .before .before .before .before .before .before .before .before .args .kind)) (c .before .before .before .before .before .before .before .before .before .args .s .now) (c .before .before .before .before .before .before .before .before .before .args .at) (c .before .before .before .before .before .before .loop .seen) (c .before .before .before .before .before .before .loop .spaced) (c .before .before .before .before .before .before .loop .i) (c .before .before .before .before .before .before .loop .inv) (c .before .before .before .before .before .loop-test .taken) (sym (c .before .before .before .is-space .ensures) ∙ c .before .before .if1 .left) (c .before .if2 .taken) _ (c .open-end .ensures)
+returns c = tag-open (rulesOf (c .before .before .before .before .before .before .before .before .before .args .kind)) (c .before .before .before .before .before .before .before .before .before .args .s .now) (c .before .before .before .before .before .before .before .before .before .args .at) (c .before .before .before .before .before .before .loop .attributes) (c .before .before .before .before .before .before .loop .spaced) (c .before .before .before .before .before .before .loop .i) (c .before .before .before .before .before .before .loop .inv) (c .before .before .before .before .before .loop-test .taken) (sym (c .before .before .before .is-space .ensures) ∙ c .before .before .if1 .left) (c .before .if2 .taken) _ (c .open-end .ensures)
 
 empty-end-requires : tie.Need-empty-end-requires Inv-loop μ-loop
 empty-end-requires c κs = c .before .before .before .before .before .loop-test .taken
 
 returns-2 : tie.Need-returns-2 Inv-loop μ-loop
-returns-2 c = tag-empty (rulesOf (c .before .before .before .before .before .before .before .before .before .before .args .kind)) (c .before .before .before .before .before .before .before .before .before .before .args .s .now) (c .before .before .before .before .before .before .before .before .before .before .args .at) (c .before .before .before .before .before .before .before .loop .seen) (c .before .before .before .before .before .before .before .loop .spaced) (c .before .before .before .before .before .before .before .loop .i) (c .before .before .before .before .before .before .before .loop .inv) (c .before .before .before .before .before .before .loop-test .taken) (sym (c .before .before .before .before .is-space .ensures) ∙ c .before .before .before .if1 .left) (c .before .before .if2 .left) (c .before .if3 .taken) _ (c .empty-end .ensures)
-
-attribute-requires : tie.Need-attribute-requires Inv-loop μ-loop
-attribute-requires c κs = search needs
-
-enum-known-a : tie.Need-enum-known-a Inv-loop μ-loop
-enum-known-a c = search needs
-
-with-attribute-requires : tie.Need-with-attribute-requires Inv-loop μ-loop
-with-attribute-requires c κs = search needs
+returns-2 c = tag-empty (rulesOf (c .before .before .before .before .before .before .before .before .before .before .args .kind)) (c .before .before .before .before .before .before .before .before .before .before .args .s .now) (c .before .before .before .before .before .before .before .before .before .before .args .at) (c .before .before .before .before .before .before .before .loop .attributes) (c .before .before .before .before .before .before .before .loop .spaced) (c .before .before .before .before .before .before .before .loop .i) (c .before .before .before .before .before .before .before .loop .inv) (c .before .before .before .before .before .before .loop-test .taken) (sym (c .before .before .before .before .is-space .ensures) ∙ c .before .before .before .if1 .left) (c .before .before .if2 .left) (c .before .if3 .taken) _ (c .empty-end .ensures)
 
 add-i-2 : tie.Need-add-i-2 Inv-loop μ-loop
 add-i-2 c = omega (arith, (rw (c .before .before .a .given .1) at (c .before .before .before .before .attribute .ensures)) .1)
@@ -63,25 +48,19 @@ loop-less-2 : tie.Need-loop-less-2 Inv-loop μ-loop
 loop-less-2 c = omega (arith, (rw (c .before .before .a .given .1) at (c .before .before .before .before .attribute .ensures)) .1)
 
 loop-again-2 : tie.Need-loop-again-2 Inv-loop μ-loop
-loop-again-2 c = tag-attribute (rulesOf (c .before .before .before .before .before .before .before .before .before .before .before .before .before .before .before .args .kind)) (c .before .before .before .before .before .before .before .before .before .before .before .before .before .before .before .args .s .now) (c .before .before .before .before .before .before .before .before .before .before .before .before .before .before .before .args .at) (c .before .before .before .before .before .before .before .before .before .before .before .before .loop .seen) (c .before .before .before .before .before .before .before .before .before .before .before .before .loop .spaced) (c .before .before .before .before .before .before .before .before .before .before .before .before .loop .i) (c .before .before .before .before .before .before .before .before .before .before .before .before .loop .inv) (c .before .before .before .before .before .before .before .before .before .before .before .loop-test .taken) (sym (c .before .before .before .before .before .before .before .before .before .is-space .ensures) ∙ c .before .before .before .before .before .before .before .before .if1 .left) (c .before .before .before .before .before .before .before .if2 .left) (c .before .before .before .before .before .before .if3 .left) (c .before .before .before .before .before .if4 .taken) _ _ _ ((rw (c .before .before .a .given .1) at (c .before .before .before .before .attribute .ensures)) .0) ((rw (c .before .before .a .given .1) at (c .before .before .before .before .attribute .ensures)) .1) _ (c .with-attribute .ensures)
-
-enum-known-a-2 : tie.Need-enum-known-a-2 Inv-loop μ-loop
-enum-known-a-2 c = search needs
+loop-again-2 c = tag-attribute (rulesOf (c .before .before .before .before .before .before .before .before .before .before .before .before .before .before .before .args .kind)) (c .before .before .before .before .before .before .before .before .before .before .before .before .before .before .before .args .s .now) (c .before .before .before .before .before .before .before .before .before .before .before .before .before .before .before .args .at) (c .before .before .before .before .before .before .before .before .before .before .before .before .loop .attributes) (c .before .before .before .before .before .before .before .before .before .before .before .before .loop .spaced) (c .before .before .before .before .before .before .before .before .before .before .before .before .loop .i) (c .before .before .before .before .before .before .before .before .before .before .before .before .loop .inv) (c .before .before .before .before .before .before .before .before .before .before .before .loop-test .taken) (sym (c .before .before .before .before .before .before .before .before .before .is-space .ensures) ∙ c .before .before .before .before .before .before .before .before .if1 .left) (c .before .before .before .before .before .before .before .if2 .left) (c .before .before .before .before .before .before .if3 .left) (c .before .before .before .before .before .if4 .taken) _ _ _ ((rw (c .before .before .a .given .1) at (c .before .before .before .before .attribute .ensures)) .0) ((rw (c .before .before .a .given .1) at (c .before .before .before .before .attribute .ensures)) .1) _ (c .with-attribute .ensures)
 
 returns-3 : tie.Need-returns-3 Inv-loop μ-loop
-returns-3 c = tag-fault (rulesOf (c .before .before .before .before .before .before .before .before .before .before .before .before .before .before .args .kind)) (c .before .before .before .before .before .before .before .before .before .before .before .before .before .before .args .s .now) (c .before .before .before .before .before .before .before .before .before .before .before .before .before .before .args .at) (c .before .before .before .before .before .before .before .before .before .before .before .loop .seen) (c .before .before .before .before .before .before .before .before .before .before .before .loop .spaced) (c .before .before .before .before .before .before .before .before .before .before .before .loop .i) (c .before .before .before .before .before .before .before .before .before .before .before .loop .inv) (c .before .before .before .before .before .before .before .before .before .before .loop-test .taken) (sym (c .before .before .before .before .before .before .before .before .is-space .ensures) ∙ c .before .before .before .before .before .before .before .if1 .left) (c .before .before .before .before .before .before .if2 .left) (c .before .before .before .before .before .if3 .left) (c .before .before .before .before .if4 .taken) _ _ ((rw (c .before .a2 .given .1) at (c .before .before .before .attribute .ensures)) .0) ((rw (c .before .a2 .given .1) at (c .before .before .before .attribute .ensures)) .1)
-
-enum-told : tie.Need-enum-told Inv-loop μ-loop
-enum-told c = search needs
+returns-3 c = tag-fault (rulesOf (c .before .before .before .before .before .before .before .before .before .before .before .before .before .before .args .kind)) (c .before .before .before .before .before .before .before .before .before .before .before .before .before .before .args .s .now) (c .before .before .before .before .before .before .before .before .before .before .before .before .before .before .args .at) (c .before .before .before .before .before .before .before .before .before .before .before .loop .attributes) (c .before .before .before .before .before .before .before .before .before .before .before .loop .spaced) (c .before .before .before .before .before .before .before .before .before .before .before .loop .i) (c .before .before .before .before .before .before .before .before .before .before .before .loop .inv) (c .before .before .before .before .before .before .before .before .before .before .loop-test .taken) (sym (c .before .before .before .before .before .before .before .before .is-space .ensures) ∙ c .before .before .before .before .before .before .before .if1 .left) (c .before .before .before .before .before .before .if2 .left) (c .before .before .before .before .before .if3 .left) (c .before .before .before .before .if4 .taken) _ _ ((rw (c .before .a2 .given .1) at (c .before .before .before .attribute .ensures)) .0) ((rw (c .before .a2 .given .1) at (c .before .before .before .attribute .ensures)) .1)
 
 returns-4 : tie.Need-returns-4 Inv-loop μ-loop
-returns-4 c = tag-cut (rulesOf (c .before .before .before .before .before .before .before .before .before .before .before .before .before .args .kind)) (c .before .before .before .before .before .before .before .before .before .before .before .before .before .args .s .now) (c .before .before .before .before .before .before .before .before .before .before .before .before .before .args .at) (c .before .before .before .before .before .before .before .before .before .before .loop .seen) (c .before .before .before .before .before .before .before .before .before .before .loop .spaced) (c .before .before .before .before .before .before .before .before .before .before .loop .i) (c .before .before .before .before .before .before .before .before .before .before .loop .inv) (c .before .before .before .before .before .before .before .before .before .loop-test .taken) (sym (c .before .before .before .before .before .before .before .is-space .ensures) ∙ c .before .before .before .before .before .before .if1 .left) (c .before .before .before .before .before .if2 .left) (c .before .before .before .before .if3 .left) (c .before .before .before .if4 .taken) ((rw (c .enum-told .given .1) at (c .before .before .attribute .ensures)) .0)
+returns-4 c = tag-cut (rulesOf (c .before .before .before .before .before .before .before .before .before .before .before .before .before .args .kind)) (c .before .before .before .before .before .before .before .before .before .before .before .before .before .args .s .now) (c .before .before .before .before .before .before .before .before .before .before .before .before .before .args .at) (c .before .before .before .before .before .before .before .before .before .before .loop .attributes) (c .before .before .before .before .before .before .before .before .before .before .loop .spaced) (c .before .before .before .before .before .before .before .before .before .before .loop .i) (c .before .before .before .before .before .before .before .before .before .before .loop .inv) (c .before .before .before .before .before .before .before .before .before .loop-test .taken) (sym (c .before .before .before .before .before .before .before .is-space .ensures) ∙ c .before .before .before .before .before .before .if1 .left) (c .before .before .before .before .before .if2 .left) (c .before .before .before .before .if3 .left) (c .before .before .before .if4 .taken) ((rw (c .enum-told .given .1) at (c .before .before .attribute .ensures)) .0)
 
 returns-5 : tie.Need-returns-5 Inv-loop μ-loop
-returns-5 c = tag-other (rulesOf (c .before .before .before .before .before .before .before .before .before .before .args .kind)) (c .before .before .before .before .before .before .before .before .before .before .args .s .now) (c .before .before .before .before .before .before .before .before .before .before .args .at) (c .before .before .before .before .before .before .before .loop .seen) (c .before .before .before .before .before .before .before .loop .spaced) (c .before .before .before .before .before .before .before .loop .i) (c .before .before .before .before .before .before .before .loop .inv) (c .before .before .before .before .before .before .loop-test .taken) (sym (c .before .before .before .before .is-space .ensures) ∙ c .before .before .before .if1 .left) (c .before .before .if2 .left) (c .before .if3 .left) (c .if4 .left)
+returns-5 c = tag-other (rulesOf (c .before .before .before .before .before .before .before .before .before .before .args .kind)) (c .before .before .before .before .before .before .before .before .before .before .args .s .now) (c .before .before .before .before .before .before .before .before .before .before .args .at) (c .before .before .before .before .before .before .before .loop .attributes) (c .before .before .before .before .before .before .before .loop .spaced) (c .before .before .before .before .before .before .before .loop .i) (c .before .before .before .before .before .before .before .loop .inv) (c .before .before .before .before .before .before .loop-test .taken) (sym (c .before .before .before .before .is-space .ensures) ∙ c .before .before .before .if1 .left) (c .before .before .if2 .left) (c .before .if3 .left) (c .if4 .left)
 
 returns-6 : tie.Need-returns-6 Inv-loop μ-loop
-returns-6 c = tag-end (rulesOf (c .before .before .before .before .args .kind)) (c .before .before .before .before .args .s .now) (c .before .before .before .before .args .at) (c .before .loop .seen) (c .before .loop .spaced) (c .before .loop .i) (c .before .loop .inv) (c .loop-test .left)
+returns-6 c = tag-end (rulesOf (c .before .before .before .before .args .kind)) (c .before .before .before .before .args .s .now) (c .before .before .before .before .args .at) (c .before .loop .attributes) (c .before .loop .spaced) (c .before .loop .i) (c .before .loop .inv) (c .loop-test .left)
 
 pub tag-parts-spec : {M : Type 1} → statement M
 tag-parts-spec =
@@ -89,10 +68,10 @@ tag-parts-spec =
     (tie.spec
     Inv-loop
     μ-loop
-    no-attributes-requires
+    (λ c κs. search needs)
     loop-holds
     shared-slice-read-b
-    is-space-requires
+    (λ c κs. search needs)
     add-i
     loop-less
     loop-again
@@ -100,15 +79,15 @@ tag-parts-spec =
     returns
     empty-end-requires
     returns-2
-    attribute-requires
-    enum-known-a
-    with-attribute-requires
+    (λ c κs. search needs)
+    (λ c. search needs)
+    (λ c κs. search needs)
     add-i-2
     loop-less-2
     loop-again-2
-    enum-known-a-2
+    (λ c. search needs)
     returns-3
-    enum-told
+    (λ c. search needs)
     returns-4
     returns-5
     returns-6)

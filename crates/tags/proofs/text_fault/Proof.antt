@@ -3,66 +3,6 @@ use borrow.Author.Needs.{needs}
 use Rattle.tags.proofs.text_fault.Statement.{statement}
 use Rattle.tags.proofs.text_fault.Tie as tie
 
-enum-told : tie.Need-enum-told
-enum-told c = search needs
-
-enum-told-2 : tie.Need-enum-told-2
-enum-told-2 c = search needs
-
-enum-told-3 : tie.Need-enum-told-3
-enum-told-3 c = search needs
-
-enum-told-4 : tie.Need-enum-told-4
-enum-told-4 c = search needs
-
-matrix-dim-fault-requires : tie.Need-matrix-dim-fault-requires
-matrix-dim-fault-requires c κs = search needs
-
-enum-told-5 : tie.Need-enum-told-5
-enum-told-5 c = search needs
-
-lut-dim-fault-requires : tie.Need-lut-dim-fault-requires
-lut-dim-fault-requires c κs = search needs
-
-enum-told-6 : tie.Need-enum-told-6
-enum-told-6 c = search needs
-
-node-text-fault-requires : tie.Need-node-text-fault-requires
-node-text-fault-requires c κs = search needs
-
-enum-told-7 : tie.Need-enum-told-7
-enum-told-7 c = search needs
-
-lut-text-fault-requires : tie.Need-lut-text-fault-requires
-lut-text-fault-requires c κs = search needs
-
-node-text-fault-requires-2 : tie.Need-node-text-fault-requires-2
-node-text-fault-requires-2 c κs = search needs
-
-enum-told-8 : tie.Need-enum-told-8
-enum-told-8 c = search needs
-
-range-text-fault-requires : tie.Need-range-text-fault-requires
-range-text-fault-requires c κs = search needs
-
-node-text-fault-requires-3 : tie.Need-node-text-fault-requires-3
-node-text-fault-requires-3 c κs = search needs
-
-enum-told-9 : tie.Need-enum-told-9
-enum-told-9 c = search needs
-
-cdl-text-fault-requires : tie.Need-cdl-text-fault-requires
-cdl-text-fault-requires c κs = search needs
-
-node-text-fault-requires-4 : tie.Need-node-text-fault-requires-4
-node-text-fault-requires-4 c κs = search needs
-
-enum-told-10 : tie.Need-enum-told-10
-enum-told-10 c = search needs
-
-list-text-fault-requires : tie.Need-list-text-fault-requires
-list-text-fault-requires c κs = search needs
-
 returns : tie.Need-returns
 unfolding rulesOf
 returns c = rw (c .enum-told .given .1)
@@ -107,26 +47,26 @@ pub text-fault-spec : {M : Type 1} → statement M
 text-fault-spec =
     tie.close
     (tie.spec
-    enum-told
-    enum-told-2
-    enum-told-3
-    enum-told-4
-    matrix-dim-fault-requires
-    enum-told-5
-    lut-dim-fault-requires
-    enum-told-6
-    node-text-fault-requires
-    enum-told-7
-    lut-text-fault-requires
-    node-text-fault-requires-2
-    enum-told-8
-    range-text-fault-requires
-    node-text-fault-requires-3
-    enum-told-9
-    cdl-text-fault-requires
-    node-text-fault-requires-4
-    enum-told-10
-    list-text-fault-requires
+    (λ c. search needs)
+    (λ c. search needs)
+    (λ c. search needs)
+    (λ c. search needs)
+    (λ c κs. search needs)
+    (λ c. search needs)
+    (λ c κs. search needs)
+    (λ c. search needs)
+    (λ c κs. search needs)
+    (λ c. search needs)
+    (λ c κs. search needs)
+    (λ c κs. search needs)
+    (λ c. search needs)
+    (λ c κs. search needs)
+    (λ c κs. search needs)
+    (λ c. search needs)
+    (λ c κs. search needs)
+    (λ c κs. search needs)
+    (λ c. search needs)
+    (λ c κs. search needs)
     returns
     returns-2
     returns-3

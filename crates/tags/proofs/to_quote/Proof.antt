@@ -1,29 +1,14 @@
 use Rattle.xml.proofs.Answers.{failed}
-use Rattle.tags.proofs.Attributes.{to-failed, to-no-equals, to-quote}
+use Rattle.tags.proofs.AttributeLaws.{to-failed, to-no-equals, to-quote}
 use borrow.Author.Needs.{needs}
 use Rattle.tags.proofs.to_quote.Statement.{statement}
 use Rattle.tags.proofs.to_quote.Tie as tie
 
-spaces-requires : tie.Need-spaces-requires
-spaces-requires c κs = search needs
-
-enum-known-r : tie.Need-enum-known-r
-enum-known-r c = search needs
-
 returns : tie.Need-returns
 returns c = to-failed _ _ _ (failed (c .before .spaces .result) (c .match .keys2)) (c .before .spaces .ensures)
 
-byte-requires : tie.Need-byte-requires
-byte-requires c κs = search needs
-
-enum-known-q : tie.Need-enum-known-q
-enum-known-q c = search needs
-
 returns-2 : tie.Need-returns-2
 returns-2 c = to-no-equals _ _ _ (rw (c .before .before .before .r .given .1) at (c .before .before .before .before .before .spaces .ensures)) _ (failed (c .before .byte .result) (c .match2 .keys2)) (c .before .byte .ensures)
-
-quote-requires : tie.Need-quote-requires
-quote-requires c κs = search needs
 
 returns-3 : tie.Need-returns-3
 returns-3 c = to-quote _ _ _ (rw (c .before .before .before .before .before .before .r .given .1) at (c .before .before .before .before .before .before .before .before .spaces .ensures)) _ _ (rw (c .before .before .q .given .1) at (c .before .before .before .before .byte .ensures)) (c .quote .ensures)
@@ -32,11 +17,11 @@ pub to-quote-spec : {M : Type 1} → statement M
 to-quote-spec =
     tie.close
     (tie.spec
-    spaces-requires
-    enum-known-r
+    (λ c κs. search needs)
+    (λ c. search needs)
     returns
-    byte-requires
-    enum-known-q
+    (λ c κs. search needs)
+    (λ c. search needs)
     returns-2
-    quote-requires
+    (λ c κs. search needs)
     returns-3)

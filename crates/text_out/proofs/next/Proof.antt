@@ -4,9 +4,6 @@ use Rattle.text_out.specs.Output.{counted}
 use Rattle.text_out.proofs.next.Statement.{statement}
 use Rattle.text_out.proofs.next.Tie as tie
 
-add-result : tie.Need-add-result
-add-result c = search needs
-
 returns : tie.Need-returns
 unfolding counted
 returns c = search needs
@@ -16,4 +13,4 @@ unfolding counted
 returns-2 c = search needs
 
 pub next-spec : {M : Type 1} → statement M
-next-spec = tie.close (tie.spec add-result returns returns-2)
+next-spec = tie.close (tie.spec (λ c. search needs) returns returns-2)

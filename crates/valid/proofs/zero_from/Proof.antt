@@ -8,9 +8,6 @@ use Rattle.valid.specs.Valid.{zeroFrom}
 use Rattle.valid.proofs.zero_from.Statement.{statement}
 use Rattle.valid.proofs.zero_from.Tie as tie
 
-length-requires : tie.Need-length-requires
-length-requires c κs = search needs
-
 coefficients-zero-requires : tie.Need-coefficients-zero-requires
 unfolding roomLength
 coefficients-zero-requires c κs = omega arith
@@ -37,7 +34,7 @@ pub zero-from-spec : {M : Type 1} → statement M
 zero-from-spec =
     tie.close
     (tie.spec
-    length-requires
+    (λ c κs. search needs)
     coefficients-zero-requires
     returns
     powers-zero-requires

@@ -5,21 +5,6 @@ use borrow.Author.Needs.{needs}
 use Rattle.values.proofs.clear_at_fault.Statement.{statement}
 use Rattle.values.proofs.clear_at_fault.Tie as tie
 
-enum-known-r : tie.Need-enum-known-r
-enum-known-r c = search needs
-
-length-requires : tie.Need-length-requires
-length-requires c κs = search needs
-
-clear-requires : tie.Need-clear-requires
-clear-requires c κs = search needs
-
-same-length : tie.Need-same-length
-same-length c = search needs
-
-same-length-2 : tie.Need-same-length-2
-same-length-2 c = search needs
-
 returns : tie.Need-returns
 returns c =
     let e = c .before .before in
@@ -35,10 +20,10 @@ pub clear-at-fault-spec : {M : Type 1} → statement M
 clear-at-fault-spec =
     tie.close
     (tie.spec
-    enum-known-r
-    length-requires
-    clear-requires
-    same-length
-    same-length-2
+    (λ c. search needs)
+    (λ c κs. search needs)
+    (λ c κs. search needs)
+    (λ c. search needs)
+    (λ c. search needs)
     returns
     returns-2)

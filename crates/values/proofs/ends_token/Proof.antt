@@ -4,9 +4,6 @@ use borrow.Author.Needs.{needs}
 use Rattle.values.proofs.ends_token.Statement.{statement}
 use Rattle.values.proofs.ends_token.Tie as tie
 
-is-space-requires : tie.Need-is-space-requires
-is-space-requires c κs = search needs
-
 returns : tie.Need-returns
 returns c = ends-space _ (sym (c .before .is-space .ensures) ∙ c .if1 .taken)
 
@@ -14,4 +11,4 @@ returns-2 : tie.Need-returns-2
 returns-2 c = ends-less _ (sym (c .before .is-space .ensures) ∙ c .if1 .left)
 
 pub ends-token-spec : {M : Type 1} → statement M
-ends-token-spec = tie.close (tie.spec is-space-requires returns returns-2)
+ends-token-spec = tie.close (tie.spec (λ c κs. search needs) returns returns-2)

@@ -4,9 +4,6 @@ use borrow.Author.Needs.{needs}
 use Rattle.values.proofs.not_one.Statement.{statement}
 use Rattle.values.proofs.not_one.Tie as tie
 
-is-one-requires : tie.Need-is-one-requires
-is-one-requires c κs = search needs
-
 returns : tie.Need-returns
 returns c = let q : _ ≡ true = sym (c .before .is-one .ensures) ∙ c .if1 .taken in rw q
 
@@ -14,4 +11,4 @@ returns-2 : tie.Need-returns-2
 returns-2 c = let q : _ ≡ false = sym (c .before .is-one .ensures) ∙ c .if1 .left in rw q
 
 pub not-one-spec : {M : Type 1} → statement M
-not-one-spec = tie.close (tie.spec is-one-requires returns returns-2)
+not-one-spec = tie.close (tie.spec (λ c κs. search needs) returns returns-2)

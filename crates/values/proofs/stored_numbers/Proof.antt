@@ -19,26 +19,8 @@ abbrev μ-loop : tie.MeasureT-loop
 loop-holds : tie.Need-loop-holds Inv-loop μ-loop
 loop-holds c = numbers-start _ _ _ _ _ _ _
 
-shared-slice-read-b : tie.Need-shared-slice-read-b Inv-loop μ-loop
-shared-slice-read-b c = search needs
-
-is-space-requires : tie.Need-is-space-requires Inv-loop μ-loop
-is-space-requires c κs = search needs
-
-add-i : tie.Need-add-i Inv-loop μ-loop
-add-i c = search needs
-
-loop-less : tie.Need-loop-less Inv-loop μ-loop
-loop-less c = search needs
-
 loop-again : tie.Need-loop-again Inv-loop μ-loop
 loop-again c = numbers-space (c .before .before .before .before .loop .inv) (omega arith) (sym (c .before .is-space .ensures) ∙ c .if1 .taken)
-
-too-few-requires : tie.Need-too-few-requires Inv-loop μ-loop
-too-few-requires c κs = search needs
-
-only-end-requires : tie.Need-only-end-requires Inv-loop μ-loop
-only-end-requires c κs = search needs
 
 same-length : tie.Need-same-length Inv-loop μ-loop
 same-length c = numbers-from (c .before .before .before .before .before .before .before .loop .inv) .coefficients .size
@@ -49,15 +31,6 @@ same-length-2 c = numbers-from (c .before .before .before .before .before .befor
 returns : tie.Need-returns Inv-loop μ-loop
 returns c = numbers-end (c .before .before .before .before .before .before .before .loop .inv) (omega arith) (sym (c .before .before .before .before .is-space .ensures) ∙ c .before .before .before .if1 .left) (c .before .before .if2 .taken) _ _ (c .before .too-few .ensures) (c .only-end .ensures)
 
-token-read-requires : tie.Need-token-read-requires Inv-loop μ-loop
-token-read-requires c κs = search needs
-
-enum-known-t : tie.Need-enum-known-t Inv-loop μ-loop
-enum-known-t c = search needs
-
-store-requires : tie.Need-store-requires Inv-loop μ-loop
-store-requires c κs = search needs
-
 add-count : tie.Need-add-count Inv-loop μ-loop
 add-count c = omega (arith, c .before .before .before .before .before .before .before .before .before .before .before .before .before .before .loop .inv .low)
 
@@ -67,9 +40,6 @@ loop-less-2 c = omega (arith, token-forward (c .before .before .before .before .
 loop-again-2 : tie.Need-loop-again-2 Inv-loop μ-loop
 loop-again-2 c = numbers-token (c .before .before .before .before .before .before .before .before .before .before .before .before .before .before .loop .inv) (omega arith) (sym (c .before .before .before .before .before .before .before .before .before .before .before .is-space .ensures) ∙ c .before .before .before .before .before .before .before .before .before .before .if1 .left) (c .before .before .before .before .before .before .before .before .before .if2 .left) _ _ _ (rw (c .before .before .before .before .before .before .t .given .1) at (c .before .before .before .before .before .before .before .before .token-read .ensures)) (c .before .before .store .ensures)
 
-enum-known-t-2 : tie.Need-enum-known-t-2 Inv-loop μ-loop
-enum-known-t-2 c = search needs
-
 same-length-3 : tie.Need-same-length-3 Inv-loop μ-loop
 same-length-3 c = numbers-from (c .before .before .before .before .before .before .before .before .before .loop .inv) .coefficients .size
 
@@ -78,9 +48,6 @@ same-length-4 c = numbers-from (c .before .before .before .before .before .befor
 
 returns-2 : tie.Need-returns-2 Inv-loop μ-loop
 returns-2 c = numbers-token-fault (c .before .before .before .before .before .before .before .before .before .loop .inv) (omega arith) (sym (c .before .before .before .before .before .before .is-space .ensures) ∙ c .before .before .before .before .before .if1 .left) (c .before .before .before .before .if2 .left) _ _ (rw (c .before .t2 .given .1) at (c .before .before .before .token-read .ensures))
-
-enum-told : tie.Need-enum-told Inv-loop μ-loop
-enum-told c = search needs
 
 same-length-5 : tie.Need-same-length-5 Inv-loop μ-loop
 same-length-5 c = numbers-from (c .before .before .before .before .before .before .before .before .loop .inv) .coefficients .size
@@ -107,27 +74,27 @@ stored-numbers-spec =
     Inv-loop
     μ-loop
     loop-holds
-    shared-slice-read-b
-    is-space-requires
-    add-i
-    loop-less
+    (λ c. search needs)
+    (λ c κs. search needs)
+    (λ c. search needs)
+    (λ c. search needs)
     loop-again
-    too-few-requires
-    only-end-requires
+    (λ c κs. search needs)
+    (λ c κs. search needs)
     same-length
     same-length-2
     returns
-    token-read-requires
-    enum-known-t
-    store-requires
+    (λ c κs. search needs)
+    (λ c. search needs)
+    (λ c κs. search needs)
     add-count
     loop-less-2
     loop-again-2
-    enum-known-t-2
+    (λ c. search needs)
     same-length-3
     same-length-4
     returns-2
-    enum-told
+    (λ c. search needs)
     same-length-5
     same-length-6
     returns-3

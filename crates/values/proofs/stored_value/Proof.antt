@@ -8,26 +8,8 @@ use borrow.Author.Needs.{needs}
 use Rattle.values.proofs.stored_value.Statement.{statement}
 use Rattle.values.proofs.stored_value.Tie as tie
 
-start-tag-requires : tie.Need-start-tag-requires
-start-tag-requires c κs = search needs
-
-behind-requires : tie.Need-behind-requires
-behind-requires c κs = search needs
-
-enum-known-r : tie.Need-enum-known-r
-enum-known-r c = search needs
-
 returns : tie.Need-returns
 returns c = value-failed _ _ _ _ _ _ _ (c .before .before .start-tag .result) _ (failed (c .before .behind .result) (c .match .keys2)) (tag-reads valueRules Value value-rules _ _ (c .before .before .start-tag .result) (c .before .before .start-tag .ensures) _ (c .before .behind .ensures))
-
-stored-numbers-requires : tie.Need-stored-numbers-requires
-stored-numbers-requires c κs = search needs
-
-same-length : tie.Need-same-length
-same-length c = search needs
-
-same-length-2 : tie.Need-same-length-2
-same-length-2 c = search needs
 
 returns-2 : tie.Need-returns-2
 returns-2 c = value-then _ _ _ _ _ _ _ (c .before .before .before .before .before .before .before .before .before .start-tag .result) _ _ _ (tag-reads valueRules Value value-rules _ _ (c .before .before .before .before .before .before .before .before .before .start-tag .result) (c .before .before .before .before .before .before .before .before .before .start-tag .ensures) _ (sym (c .before .before .before .before .before .before .r .given .1) ∙ c .before .before .before .before .before .before .before .before .behind .ensures)) (c .before .before .stored-numbers .ensures)
@@ -36,11 +18,11 @@ pub stored-value-spec : {M : Type 1} → statement M
 stored-value-spec =
     tie.close
     (tie.spec
-    start-tag-requires
-    behind-requires
-    enum-known-r
+    (λ c κs. search needs)
+    (λ c κs. search needs)
+    (λ c. search needs)
     returns
-    stored-numbers-requires
-    same-length
-    same-length-2
+    (λ c κs. search needs)
+    (λ c. search needs)
+    (λ c. search needs)
     returns-2)

@@ -20,22 +20,10 @@ abbrev μ-loop : tie.MeasureT-loop
 loop-holds : tie.Need-loop-holds Inv-loop μ-loop
 loop-holds c = text-start _ _ _
 
-shared-slice-read-b : tie.Need-shared-slice-read-b Inv-loop μ-loop
-shared-slice-read-b c = search needs
-
-ends-token-requires : tie.Need-ends-token-requires Inv-loop μ-loop
-ends-token-requires c κs = search needs
-
 returns : tie.Need-returns Inv-loop μ-loop
 returns c =
     let q : _ ≡ true = sym (c .before .ends-token .ensures) ∙ c .if1 .taken in
     token-bytes _ _ _ (text-stop _ _ _ _ (c .before .before .before .before .loop .inv) (omega arith) q) q
-
-entity-requires : tie.Need-entity-requires Inv-loop μ-loop
-entity-requires c κs = search needs
-
-enum-known-r : tie.Need-enum-known-r Inv-loop μ-loop
-enum-known-r c = search needs
 
 returns-2 : tie.Need-returns-2 Inv-loop μ-loop
 returns-2 c =
@@ -49,9 +37,6 @@ loop-again : tie.Need-loop-again Inv-loop μ-loop
 loop-again c =
     let q : _ ≡ false = sym (c .before .before .before .before .before .before .ends-token .ensures) ∙ c .before .before .before .before .before .if1 .left in
     text-and _ _ _ _ (c .before .before .before .before .before .before .before .before .before .loop .inv) (omega arith) q (not-less _ q) (c .before .before .before .before .if2 .taken) _ (rw (c .before .r .given .1) at (c .before .before .before .entity .ensures))
-
-add-i : tie.Need-add-i Inv-loop μ-loop
-add-i c = search needs
 
 loop-less-2 : tie.Need-loop-less-2 Inv-loop μ-loop
 loop-less-2 c = omega arith
@@ -71,15 +56,15 @@ token-spec =
     Inv-loop
     μ-loop
     loop-holds
-    shared-slice-read-b
-    ends-token-requires
+    (λ c. search needs)
+    (λ c κs. search needs)
     returns
-    entity-requires
-    enum-known-r
+    (λ c κs. search needs)
+    (λ c. search needs)
     returns-2
     loop-less
     loop-again
-    add-i
+    (λ c. search needs)
     loop-less-2
     loop-again-2
     returns-3)

@@ -5,12 +5,6 @@ use borrow.Author.Needs.{needs}
 use Rattle.values.proofs.token_read.Statement.{statement}
 use Rattle.values.proofs.token_read.Tie as tie
 
-token-requires : tie.Need-token-requires
-token-requires c κs = search needs
-
-enum-known-r : tie.Need-enum-known-r
-enum-known-r c = search needs
-
 sub-number : tie.Need-sub-number
 sub-number c = omega (arith, (rw (c .before .r .given .1) at (c .before .before .before .token .ensures .reads)) .inside)
 
@@ -19,24 +13,6 @@ part-number-start c = omega (arith, (rw (c .before .r .given .1) at (c .before .
 
 part-number-end : tie.Need-part-number-end
 part-number-end c = omega (arith, (rw (c .before .r .given .1) at (c .before .before .before .token .ensures .reads)) .inside)
-
-number-requires : tie.Need-number-requires
-number-requires c κs = search needs
-
-enum-known-t : tie.Need-enum-known-t
-enum-known-t c = search needs
-
-judged-requires : tie.Need-judged-requires
-judged-requires c κs = search needs
-
-enum-told : tie.Need-enum-told
-enum-told c = search needs
-
-enum-known-r-2 : tie.Need-enum-known-r-2
-enum-known-r-2 c = search needs
-
-enum-told-2 : tie.Need-enum-told-2
-enum-told-2 c = search needs
 
 returns : tie.Need-returns
 returns c = rw (c .judged .ensures) (token-number _ _ _ _ _ _ _ (rw (c .before .before .before .before .before .before .before .r .given .1) at (c .before .before .before .before .before .before .before .before .before .token .ensures)) (sym (c .before .before .t .given .1) ∙ c .before .before .before .before .number .ensures))
@@ -54,17 +30,17 @@ pub token-read-spec : {M : Type 1} → statement M
 token-read-spec =
     tie.close
     (tie.spec
-    token-requires
-    enum-known-r
+    (λ c κs. search needs)
+    (λ c. search needs)
     sub-number
     part-number-start
     part-number-end
-    number-requires
-    enum-known-t
-    judged-requires
-    enum-told
-    enum-known-r-2
-    enum-told-2
+    (λ c κs. search needs)
+    (λ c. search needs)
+    (λ c κs. search needs)
+    (λ c. search needs)
+    (λ c. search needs)
+    (λ c. search needs)
     returns
     returns-2
     returns-3

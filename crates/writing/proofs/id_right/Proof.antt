@@ -27,23 +27,11 @@ returns-2 c = id-long _ (c .if2 .taken)
 loop-holds : tie.Need-loop-holds Inv-loop μ-loop
 loop-holds c = refl
 
-shared-slice-read-is-id-byte : tie.Need-shared-slice-read-is-id-byte Inv-loop μ-loop
-shared-slice-read-is-id-byte c = search needs
-
-is-id-byte-requires : tie.Need-is-id-byte-requires Inv-loop μ-loop
-is-id-byte-requires c κs = search needs
-
 returns-3 : tie.Need-returns-3 Inv-loop μ-loop
 returns-3 c =
     let l = c .before .before .before .before in
     let s = c .before .before .before .before .before .before .before .before .args .id .now in
     id-bytes s _ (omega arith) (omega arith) (l .loop .inv ∙ every-fails isIdByte s (l .loop .i) 0 (omega arith) (sym (c .before .is-id-byte .ensures) ∙ not-true _ (c .if3 .taken)))
-
-add-i : tie.Need-add-i Inv-loop μ-loop
-add-i c = search needs
-
-loop-less : tie.Need-loop-less Inv-loop μ-loop
-loop-less c = search needs
 
 loop-again : tie.Need-loop-again Inv-loop μ-loop
 loop-again c =
@@ -66,10 +54,10 @@ id-right-spec =
     returns
     returns-2
     loop-holds
-    shared-slice-read-is-id-byte
-    is-id-byte-requires
+    (λ c. search needs)
+    (λ c κs. search needs)
     returns-3
-    add-i
-    loop-less
+    (λ c. search needs)
+    (λ c. search needs)
     loop-again
     returns-4)

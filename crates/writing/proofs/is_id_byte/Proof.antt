@@ -8,11 +8,8 @@ use Rattle.writing.proofs.is_id_byte.Tie as tie
 returns : tie.Need-returns
 returns c = colon _ (c .if1 .taken)
 
-is-name-byte-requires : tie.Need-is-name-byte-requires
-is-name-byte-requires c κs = search needs
-
 returns-2 : tie.Need-returns-2
 returns-2 c = (c .is-name-byte .ensures) ∙ name-byte _ (c .before .if1 .left)
 
 pub is-id-byte-spec : {M : Type 1} → statement M
-is-id-byte-spec = tie.close (tie.spec returns is-name-byte-requires returns-2)
+is-id-byte-spec = tie.close (tie.spec returns (λ c κs. search needs) returns-2)

@@ -7,22 +7,10 @@ use borrow.Author.Needs.{needs}
 use Rattle.writing.proofs.write.Statement.{statement}
 use Rattle.writing.proofs.write.Tie as tie
 
-valid-requires : tie.Need-valid-requires
-valid-requires c κs = search needs
-
-refused-requires : tie.Need-refused-requires
-refused-requires c κs = search needs
-
 returns : tie.Need-returns
 returns c =
     let a = c .before .before .before .before .before .args in
     ends-16 (a .list) (lent (a .coefficients .now) (a .powers .now)) (a .id .now) (a .out .now) _ (sym (c .before .before .valid .ensures) ∙ not-true _ (c .before .if1 .taken)) (c .refused .ensures)
-
-id-right-requires : tie.Need-id-right-requires
-id-right-requires c κs = search needs
-
-refused-requires-2 : tie.Need-refused-requires-2
-refused-requires-2 c κs = search needs
 
 returns-2 : tie.Need-returns-2
 returns-2 c =
@@ -34,9 +22,6 @@ returns-2 c =
 text-length-requires : tie.Need-text-length-requires
 text-length-requires c κs = (sym (c .before .before .before .valid .ensures) ∙ not-false _ (c .before .before .if1 .left))
 
-refused-requires-3 : tie.Need-refused-requires-3
-refused-requires-3 c κs = search needs
-
 returns-3 : tie.Need-returns-3
 returns-3 c =
     let a = c .before .before .before .before .before .before .before .before .before .args in
@@ -47,9 +32,6 @@ returns-3 c =
 
 put-list-requires : tie.Need-put-list-requires
 put-list-requires c κs = (sym (c .before .before .before .before .before .before .valid .ensures) ∙ not-false _ (c .before .before .before .before .before .if1 .left))
-
-same-length : tie.Need-same-length
-same-length c = search needs
 
 returns-4 : tie.Need-returns-4
 returns-4 c =
@@ -63,15 +45,15 @@ pub write-spec : {M : Type 1} → statement M
 write-spec =
     tie.close
     (tie.spec
-    valid-requires
-    refused-requires
+    (λ c κs. search needs)
+    (λ c κs. search needs)
     returns
-    id-right-requires
-    refused-requires-2
+    (λ c κs. search needs)
+    (λ c κs. search needs)
     returns-2
     text-length-requires
-    refused-requires-3
+    (λ c κs. search needs)
     returns-3
     put-list-requires
-    same-length
+    (λ c. search needs)
     returns-4)

@@ -8,17 +8,8 @@ use Rattle.xml.proofs.byte.Tie as tie
 returns : tie.Need-returns
 returns c = byte-cut _ _ _ _ (omega arith)
 
-shared-slice-read-if2 : tie.Need-shared-slice-read-if2
-shared-slice-read-if2 c = search needs
-
-add-t9 : tie.Need-add-t9
-add-t9 c = search needs
-
 returns-2 : tie.Need-returns-2
 returns-2 c = byte-is _ _ _ _ (omega arith) (c .if2 .taken)
-
-add-t10 : tie.Need-add-t10
-add-t10 c = search needs
 
 returns-3 : tie.Need-returns-3
 returns-3 c = byte-any _ _ _ _ (omega arith) (c .before .if2 .left) (c .if3 .taken)
@@ -28,4 +19,4 @@ returns-4 c = byte-other _ _ _ _ (omega arith) (c .before .if2 .left) (c .if3 .l
 
 pub byte-spec : {M : Type 1} → statement M
 byte-spec =
-    tie.close (tie.spec returns shared-slice-read-if2 add-t9 returns-2 add-t10 returns-3 returns-4)
+    tie.close (tie.spec returns (λ c. search needs) (λ c. search needs) returns-2 (λ c. search needs) returns-3 returns-4)

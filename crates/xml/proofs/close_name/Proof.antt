@@ -8,14 +8,8 @@ use Rattle.xml.proofs.close_name.Tie as tie
 returns : tie.Need-returns
 returns c = close-cut _ _ (omega arith)
 
-add-open-name : tie.Need-add-open-name
-add-open-name c = search needs
-
-open-name-requires : tie.Need-open-name-requires
-open-name-requires c κs = search needs
-
 returns-2 : tie.Need-returns-2
 returns-2 c = close-name _ _ (omega arith) _ (c .open-name .ensures)
 
 pub close-name-spec : {M : Type 1} → statement M
-close-name-spec = tie.close (tie.spec returns add-open-name open-name-requires returns-2)
+close-name-spec = tie.close (tie.spec returns (λ c. search needs) (λ c κs. search needs) returns-2)

@@ -16,23 +16,8 @@ abbrev μ-loop : tie.MeasureT-loop
 loop-holds : tie.Need-loop-holds Inv-loop μ-loop
 loop-holds c = comment-start _ _
 
-add-j : tie.Need-add-j Inv-loop μ-loop
-add-j c = search needs
-
-shared-slice-read-if1 : tie.Need-shared-slice-read-if1 Inv-loop μ-loop
-shared-slice-read-if1 c = search needs
-
 returns : tie.Need-returns Inv-loop μ-loop
 returns c = comment-dash-end _ _ _ (c .before .before .before .before .loop .inv) (omega arith) (c .before .if1 .taken) (omega arith)
-
-shared-slice-read-if3 : tie.Need-shared-slice-read-if3 Inv-loop μ-loop
-shared-slice-read-if3 c = search needs
-
-add-byte : tie.Need-add-byte Inv-loop μ-loop
-add-byte c = search needs
-
-byte-requires : tie.Need-byte-requires Inv-loop μ-loop
-byte-requires c κs = search needs
 
 returns-2 : tie.Need-returns-2 Inv-loop μ-loop
 returns-2 c = comment-last _ _ _ (c .before .before .before .before .before .before .before .loop .inv) (omega arith) (c .before .before .before .before .if1 .taken) (omega arith) _ (c .before .if3 .taken) (c .byte .ensures)
@@ -59,12 +44,12 @@ comment-body-spec =
     Inv-loop
     μ-loop
     loop-holds
-    add-j
-    shared-slice-read-if1
+    (λ c. search needs)
+    (λ c. search needs)
     returns
-    shared-slice-read-if3
-    add-byte
-    byte-requires
+    (λ c. search needs)
+    (λ c. search needs)
+    (λ c κs. search needs)
     returns-2
     loop-less
     loop-again

@@ -6,14 +6,8 @@ use borrow.Author.Needs.{needs}
 use Rattle.xml.proofs.is_name_byte.Statement.{statement}
 use Rattle.xml.proofs.is_name_byte.Tie as tie
 
-is-letter-requires : tie.Need-is-letter-requires
-is-letter-requires c κs = search needs
-
 returns : tie.Need-returns
 returns c = name-letter _ (sym (c .before .is-letter .ensures) ∙ c .if1 .taken)
-
-is-digit-requires : tie.Need-is-digit-requires
-is-digit-requires c κs = search needs
 
 returns-2 : tie.Need-returns-2
 returns-2 c = name-digit _ (sym (c .before .before .before .is-letter .ensures) ∙ c .before .before .if1 .left) (sym (c .before .is-digit .ensures) ∙ c .if2 .taken)
@@ -34,9 +28,9 @@ pub is-name-byte-spec : {M : Type 1} → statement M
 is-name-byte-spec =
     tie.close
     (tie.spec
-    is-letter-requires
+    (λ c κs. search needs)
     returns
-    is-digit-requires
+    (λ c κs. search needs)
     returns-2
     returns-3
     returns-4

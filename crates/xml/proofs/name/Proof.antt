@@ -9,18 +9,6 @@ use Rattle.xml.proofs.name.Tie as tie
 returns : tie.Need-returns
 returns c = name-cut _ _ (omega arith)
 
-shared-slice-read-is-letter : tie.Need-shared-slice-read-is-letter
-shared-slice-read-is-letter c = search needs
-
-is-letter-requires : tie.Need-is-letter-requires
-is-letter-requires c κs = search needs
-
-add-name-bytes : tie.Need-add-name-bytes
-add-name-bytes c = search needs
-
-name-bytes-requires : tie.Need-name-bytes-requires
-name-bytes-requires c κs = search needs
-
 returns-2 : tie.Need-returns-2
 returns-2 c = name-first _ _ (omega arith) _ (sym (c .before .before .is-letter .ensures) ∙ c .before .if2 .taken) (c .name-bytes .ensures)
 
@@ -32,9 +20,9 @@ name-spec =
     tie.close
     (tie.spec
     returns
-    shared-slice-read-is-letter
-    is-letter-requires
-    add-name-bytes
-    name-bytes-requires
+    (λ c. search needs)
+    (λ c κs. search needs)
+    (λ c. search needs)
+    (λ c κs. search needs)
     returns-2
     returns-3)

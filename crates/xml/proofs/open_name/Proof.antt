@@ -8,14 +8,8 @@ use Rattle.xml.proofs.open_name.Tie as tie
 returns : tie.Need-returns
 returns c = open-cut _ _ (omega arith)
 
-add-name : tie.Need-add-name
-add-name c = search needs
-
-name-requires : tie.Need-name-requires
-name-requires c κs = search needs
-
 returns-2 : tie.Need-returns-2
 returns-2 c = open-name _ _ (omega arith) _ (c .name .ensures)
 
 pub open-name-spec : {M : Type 1} → statement M
-open-name-spec = tie.close (tie.spec returns add-name name-requires returns-2)
+open-name-spec = tie.close (tie.spec returns (λ c. search needs) (λ c κs. search needs) returns-2)

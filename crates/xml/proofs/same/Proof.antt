@@ -30,9 +30,6 @@ shared-slice-read-if2-2 c = omega arith
 returns-2 : tie.Need-returns-2 Inv-loop μ-loop
 returns-2 c = same-differs _ _ _ (c .before .before .before .before .loop .inv .1) (omega arith) (omega arith) (c .if2 .taken)
 
-add-i : tie.Need-add-i Inv-loop μ-loop
-add-i c = search needs
-
 loop-less : tie.Need-loop-less Inv-loop μ-loop
 loop-less c = omega arith
 
@@ -53,7 +50,7 @@ same-spec =
     shared-slice-read-if2
     shared-slice-read-if2-2
     returns-2
-    add-i
+    (λ c. search needs)
     loop-less
     loop-again
     returns-3)

@@ -29,9 +29,6 @@ shared-slice-read-if2 c = omega arith
 shared-slice-read-if2-2 : tie.Need-shared-slice-read-if2-2 Inv-loop μ-loop
 shared-slice-read-if2-2 c = omega arith
 
-add-i : tie.Need-add-i Inv-loop μ-loop
-add-i c = search needs
-
 loop-less : tie.Need-loop-less Inv-loop μ-loop
 loop-less c = omega arith
 
@@ -57,7 +54,7 @@ same-name-spec =
     loop-holds
     shared-slice-read-if2
     shared-slice-read-if2-2
-    add-i
+    (λ c. search needs)
     loop-less
     loop-again
     returns-2)

@@ -20,18 +20,9 @@ abbrev μ-loop : tie.MeasureT-loop
 loop-holds : tie.Need-loop-holds Inv-loop μ-loop
 loop-holds c = span-start _ _ _
 
-shared-slice-read-is-space : tie.Need-shared-slice-read-is-space Inv-loop μ-loop
-shared-slice-read-is-space c = search needs
-
-is-space-requires : tie.Need-is-space-requires Inv-loop μ-loop
-is-space-requires c κs = search needs
-
 returns : tie.Need-returns Inv-loop μ-loop
 unfolding spaces
 returns c = span-stop _ _ _ _ (c .before .before .before .before .loop .inv) (omega arith) (sym (c .before .is-space .ensures) ∙ not-true _ (c .if1 .taken))
-
-add-i : tie.Need-add-i Inv-loop μ-loop
-add-i c = search needs
 
 loop-less : tie.Need-loop-less Inv-loop μ-loop
 loop-less c = omega arith
@@ -50,10 +41,10 @@ spaces-spec =
     Inv-loop
     μ-loop
     loop-holds
-    shared-slice-read-is-space
-    is-space-requires
+    (λ c. search needs)
+    (λ c κs. search needs)
     returns
-    add-i
+    (λ c. search needs)
     loop-less
     loop-again
     returns-2)

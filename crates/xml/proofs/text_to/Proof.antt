@@ -19,20 +19,11 @@ abbrev μ-loop : tie.MeasureT-loop
 loop-holds : tie.Need-loop-holds Inv-loop μ-loop
 loop-holds c = text-start _ _ _
 
-shared-slice-read-b : tie.Need-shared-slice-read-b Inv-loop μ-loop
-shared-slice-read-b c = search needs
-
 returns : tie.Need-returns Inv-loop μ-loop
 returns c = text-stop _ _ _ _ (c .before .before .before .loop .inv) (omega arith) (eq-eqb _ _ (c .if1 .taken))
 
 returns-2 : tie.Need-returns-2 Inv-loop μ-loop
 returns-2 c = text-less _ _ _ _ (c .before .before .before .before .loop .inv) (omega arith) (ne-eqb _ _ (c .before .if1 .left)) (c .if2 .taken)
-
-entity-requires : tie.Need-entity-requires Inv-loop μ-loop
-entity-requires c κs = search needs
-
-enum-known-r : tie.Need-enum-known-r Inv-loop μ-loop
-enum-known-r c = search needs
 
 returns-3 : tie.Need-returns-3 Inv-loop μ-loop
 returns-3 c = text-failed _ _ _ _ (c .before .before .before .before .before .before .before .loop .inv) (omega arith) (ne-eqb _ _ (c .before .before .before .before .if1 .left)) (c .before .before .before .if2 .left) (c .before .before .if3 .taken) _ (failed (c .before .entity .result) (c .match .keys2)) (c .before .entity .ensures)
@@ -42,9 +33,6 @@ loop-less c = omega (arith, (rw (c .before .r .given .1) at (c .before .before .
 
 loop-again : tie.Need-loop-again Inv-loop μ-loop
 loop-again c = text-and _ _ _ _ (c .before .before .before .before .before .before .before .before .before .loop .inv) (omega arith) (ne-eqb _ _ (c .before .before .before .before .before .before .if1 .left)) (c .before .before .before .before .before .if2 .left) (c .before .before .before .before .if3 .taken) _ (rw (c .before .r .given .1) at (c .before .before .before .entity .ensures))
-
-add-i : tie.Need-add-i Inv-loop μ-loop
-add-i c = search needs
 
 loop-less-2 : tie.Need-loop-less-2 Inv-loop μ-loop
 loop-less-2 c = omega arith
@@ -62,15 +50,15 @@ text-to-spec =
     Inv-loop
     μ-loop
     loop-holds
-    shared-slice-read-b
+    (λ c. search needs)
     returns
     returns-2
-    entity-requires
-    enum-known-r
+    (λ c κs. search needs)
+    (λ c. search needs)
     returns-3
     loop-less
     loop-again
-    add-i
+    (λ c. search needs)
     loop-less-2
     loop-again-2
     returns-4)

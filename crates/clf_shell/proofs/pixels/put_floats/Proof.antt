@@ -12,45 +12,18 @@ Inv-loop buffer₀ at xs held₀ i₀ buffer held i = length buffer ≡ length b
 abbrev μ-loop : tie.MeasureT-loop
 μ-loop buffer₀ at xs held₀ i₀ buffer held i = length xs - i
 
-loop-holds : tie.Need-loop-holds Inv-loop μ-loop
-loop-holds c = search needs
-
-mul-put-float : tie.Need-mul-put-float Inv-loop μ-loop
-mul-put-float c = search needs
-
-shared-slice-read-put-float : tie.Need-shared-slice-read-put-float Inv-loop μ-loop
-shared-slice-read-put-float c = search needs
-
-put-float-requires : tie.Need-put-float-requires Inv-loop μ-loop
-put-float-requires c κs = search needs
-
-add-i : tie.Need-add-i Inv-loop μ-loop
-add-i c = search needs
-
-loop-less : tie.Need-loop-less Inv-loop μ-loop
-loop-less c = search needs
-
-loop-again : tie.Need-loop-again Inv-loop μ-loop
-loop-again c = search needs
-
-same-length : tie.Need-same-length Inv-loop μ-loop
-same-length c = search needs
-
-returns : tie.Need-returns Inv-loop μ-loop
-returns c = search needs
-
 pub put-floats-spec : {M : Type 1} → statement M
 put-floats-spec =
     tie.close
     (tie.spec
     Inv-loop
     μ-loop
-    loop-holds
-    mul-put-float
-    shared-slice-read-put-float
-    put-float-requires
-    add-i
-    loop-less
-    loop-again
-    same-length
-    returns)
+    (λ c. search needs)
+    (λ c. search needs)
+    (λ c. search needs)
+    (λ c κs. search needs)
+    (λ c. search needs)
+    (λ c. search needs)
+    (λ c. search needs)
+    (λ c. search needs)
+    (λ c. search needs))

@@ -11,57 +11,27 @@ use Rattle.shell_text.proofs.commands.unknown.Reads as unknown-reads
 use Rattle.shell_text.proofs.lines.is_run.Reads as is-run-reads
 
 -- src/commands.rt:127:8
-is-run-requires : tie.Need-is-run-requires
-is-run-requires c κs = search needs
-
 -- src/commands.rt:128:9
-same-length : tie.Need-same-length
-same-length c = search needs
-
 -- src/commands.rt:128:9
 returns : tie.Need-returns
 returns c = line-runs (now (c .before .before .before .before .args .line)) (sym (c .before .is-run .ensures) ∙ c .if1 .taken)
 
 -- src/commands.rt:136:9
-unknown-requires : tie.Need-unknown-requires
-unknown-requires c κs = search needs
-
 -- src/commands.rt:136:9
-same-length-2 : tie.Need-same-length-2
-same-length-2 c = search needs
-
 -- src/commands.rt:136:9
 returns-2 : tie.Need-returns-2
 returns-2 c = line-short (now (c .before .before .before .before .before .before .args .line)) (sym (c .before .before .before .is-run .ensures) ∙ c .before .before .if1 .left) (c .unknown .result) (c .before .if2 .taken) (c .unknown .ensures)
 
 -- src/commands.rt:138:8
-slice-read-if3 : tie.Need-slice-read-if3
-slice-read-if3 c = search needs
-
 -- src/commands.rt:139:9
-unknown-requires-2 : tie.Need-unknown-requires-2
-unknown-requires-2 c κs = search needs
-
 -- src/commands.rt:139:9
-same-length-3 : tie.Need-same-length-3
-same-length-3 c = search needs
-
 -- src/commands.rt:139:9
 returns-3 : tie.Need-returns-3
 returns-3 c = line-joined (now (c .before .before .before .before .before .before .before .before .args .line)) (sym (c .before .before .before .before .before .is-run .ensures) ∙ c .before .before .before .before .if1 .left) (c .unknown2 .result) (c .before .before .before .if2 .left) (c .before .if3 .taken) (c .unknown2 .ensures)
 
 -- src/commands.rt:141:18
-slice-read-letter : tie.Need-slice-read-letter
-slice-read-letter c = search needs
-
 -- src/commands.rt:142:5
-lettered-requires : tie.Need-lettered-requires
-lettered-requires c κs = search needs
-
 -- src/commands.rt:124:1
-same-length-4 : tie.Need-same-length-4
-same-length-4 c = search needs
-
 -- src/commands.rt:124:1
 returns-4 : tie.Need-returns-4
 returns-4 c = line-lettered (now (c .before .before .before .before .before .before .before .before .before .before .before .before .args .line)) (sym (c .before .before .before .before .before .before .before .before .before .is-run .ensures) ∙ c .before .before .before .before .before .before .before .before .if1 .left) (c .before .before .lettered .result) _ (c .before .before .before .before .before .before .before .if2 .left) (c .before .before .before .before .before .if3 .left) (c .before .before .lettered .ensures)
@@ -70,17 +40,17 @@ pub command-spec : {M : Type 1} → statement M
 command-spec =
     tie.close
     (tie.spec
-    is-run-requires
-    same-length
+    (λ c κs. search needs)
+    (λ c. search needs)
     returns
-    unknown-requires
-    same-length-2
+    (λ c κs. search needs)
+    (λ c. search needs)
     returns-2
-    slice-read-if3
-    unknown-requires-2
-    same-length-3
+    (λ c. search needs)
+    (λ c κs. search needs)
+    (λ c. search needs)
     returns-3
-    slice-read-letter
-    lettered-requires
-    same-length-4
+    (λ c. search needs)
+    (λ c κs. search needs)
+    (λ c. search needs)
     returns-4)

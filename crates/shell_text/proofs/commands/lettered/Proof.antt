@@ -11,49 +11,25 @@ use Rattle.shell_text.proofs.commands.under_id.Reads as under-id-reads
 use Rattle.shell_text.proofs.commands.unknown.Reads as unknown-reads
 
 -- src/commands.rt:97:9
-shape-requires : tie.Need-shape-requires
-shape-requires c κs = search needs
-
 -- src/commands.rt:99:9
-plain-requires : tie.Need-plain-requires
-plain-requires c κs = search needs
-
 -- src/commands.rt:99:9
-same-length : tie.Need-same-length
-same-length c = search needs
-
 -- src/commands.rt:99:9
 returns : tie.Need-returns
 returns c = letters-one (c .before .before .before .before .before .before .before .args .letter) (c .before .before .before .before .before .shape .result) _ _ (c .before .before .plain .result) (c .before .before .before .before .before .shape .ensures) (c .before .before .before .before .if1 .taken) (c .before .before .plain .ensures)
 
 -- src/commands.rt:102:9
-numbered-requires : tie.Need-numbered-requires
-numbered-requires c κs = search needs
-
 -- src/commands.rt:102:9
-same-length-2 : tie.Need-same-length-2
-same-length-2 c = search needs
-
 -- src/commands.rt:102:9
 returns-2 : tie.Need-returns-2
 returns-2 c = letters-two (c .before .before .before .before .before .before .before .before .args .letter) (c .before .before .before .before .before .before .shape .result) _ _ (c .before .before .numbered .result) (c .before .before .before .before .before .before .shape .ensures) (c .before .before .before .before .if2 .taken) (c .before .before .numbered .ensures)
 
 -- src/commands.rt:105:9
-under-id-requires : tie.Need-under-id-requires
-under-id-requires c κs = search needs
-
 -- src/commands.rt:105:9
-same-length-3 : tie.Need-same-length-3
-same-length-3 c = search needs
-
 -- src/commands.rt:105:9
 returns-3 : tie.Need-returns-3
 returns-3 c = letters-three (c .before .before .before .before .before .before .before .before .before .args .letter) (c .before .before .before .before .before .before .before .shape .result) _ _ (c .before .before .under-id .result) (c .before .before .before .before .before .before .before .shape .ensures) (c .before .before .before .before .if3 .taken) (c .before .before .under-id .ensures)
 
 -- src/commands.rt:107:5
-unknown-requires : tie.Need-unknown-requires
-unknown-requires c κs = search needs
-
 -- src/commands.rt:94:1
 returns-4 : tie.Need-returns-4
 returns-4 c = letters-none (c .before .before .before .before .before .before .args .letter) (c .before .before .before .before .shape .result) _ (c .unknown .result) (c .before .before .before .before .shape .ensures) (c .before .before .before .if1 .left) (c .before .before .if2 .left) (c .before .if3 .left) (c .unknown .ensures)
@@ -62,15 +38,15 @@ pub lettered-spec : {M : Type 1} → statement M
 lettered-spec =
     tie.close
     (tie.spec
-    shape-requires
-    plain-requires
-    same-length
+    (λ c κs. search needs)
+    (λ c κs. search needs)
+    (λ c. search needs)
     returns
-    numbered-requires
-    same-length-2
+    (λ c κs. search needs)
+    (λ c. search needs)
     returns-2
-    under-id-requires
-    same-length-3
+    (λ c κs. search needs)
+    (λ c. search needs)
     returns-3
-    unknown-requires
+    (λ c κs. search needs)
     returns-4)

@@ -13,49 +13,19 @@ use Rattle.shell_text.proofs.hex.last_field.Reads as last-field-reads
 use Rattle.tags.proofs.part.Reads as part-reads
 
 -- src/commands.rt:51:9
-next-field-requires : tie.Need-next-field-requires
-next-field-requires c κs = search needs
-
 -- src/commands.rt:54:33
-part-requires : tie.Need-part-requires
-part-requires c κs = search needs
-
 -- src/commands.rt:54:9
-number-requires : tie.Need-number-requires
-number-requires c κs = search needs
-
 -- src/commands.rt:56:24
-enum-known-parsed : tie.Need-enum-known-parsed
-enum-known-parsed c = search needs
-
 -- src/commands.rt:57:17
-last-field-requires : tie.Need-last-field-requires
-last-field-requires c κs = search needs
-
 -- src/commands.rt:58:13
-with-bytes-requires : tie.Need-with-bytes-requires
-with-bytes-requires c κs = search needs
-
 -- src/commands.rt:60:30
-enum-told : tie.Need-enum-told
-enum-told c = search needs
-
 -- src/commands.rt:60:30
-unknown-requires : tie.Need-unknown-requires
-unknown-requires c κs = search needs
-
 -- src/commands.rt:48:1
-same-length : tie.Need-same-length
-same-length c = search needs
-
 -- src/commands.rt:48:1
 returns : tie.Need-returns
 returns c = says-numbered (c .before .before .before .before .before .before .before .before .before .before .before .before .before .before .args .letter) (now (c .before .before .before .before .before .before .before .before .before .before .before .before .before .before .args .line)) (c .before .before .before .before .before .before .before .before .before .before .before .next-field .result) (c .before .before .before .before .before .before .before .before .before .before .before .next-field .ensures) (c .before .before .before .before .before .before .before .before .number .result) _ (c .before .before .before .before .before .before .before .before .before .part .ensures) (c .before .before .before .before .before .before .before .before .number .ensures) _ _ (c .before .before .before .last-field .result) (c .with-bytes .result) (c .before .before .before .before .before .before .parsed .given .1) (c .before .before .before .last-field .ensures) (c .with-bytes .ensures)
 
 -- src/commands.rt:48:1
-same-length-2 : tie.Need-same-length-2
-same-length-2 c = search needs
-
 -- src/commands.rt:48:1
 returns-2 : tie.Need-returns-2
 returns-2 c = says-no-number (c .before .before .before .before .before .before .before .before .before .args .letter) (now (c .before .before .before .before .before .before .before .before .before .args .line)) (c .before .before .before .before .before .before .next-field .result) (c .before .before .before .before .before .before .next-field .ensures) (c .before .before .before .number .result) _ (c .before .before .before .before .part .ensures) (c .before .before .before .number .ensures) (c .unknown .result) (c .before .enum-told .given .1) (c .unknown .ensures)
@@ -64,15 +34,15 @@ pub numbered-spec : {M : Type 1} → statement M
 numbered-spec =
     tie.close
     (tie.spec
-    next-field-requires
-    part-requires
-    number-requires
-    enum-known-parsed
-    last-field-requires
-    with-bytes-requires
-    enum-told
-    unknown-requires
-    same-length
+    (λ c κs. search needs)
+    (λ c κs. search needs)
+    (λ c κs. search needs)
+    (λ c. search needs)
+    (λ c κs. search needs)
+    (λ c κs. search needs)
+    (λ c. search needs)
+    (λ c κs. search needs)
+    (λ c. search needs)
     returns
-    same-length-2
+    (λ c. search needs)
     returns-2)

@@ -8,20 +8,11 @@ use Rattle.shell_text.proofs.commands.with_bytes.Reads as with-bytes-re
 use Rattle.shell_text.proofs.hex.last_field.Reads as last-field-reads
 
 -- src/commands.rt:43:9
-last-field-requires : tie.Need-last-field-requires
-last-field-requires c κs = search needs
-
 -- src/commands.rt:44:5
-with-bytes-requires : tie.Need-with-bytes-requires
-with-bytes-requires c κs = search needs
-
 -- src/commands.rt:40:1
-same-length : tie.Need-same-length
-same-length c = search needs
-
 -- src/commands.rt:40:1
 returns : tie.Need-returns
 returns c = says-plain (c .before .before .before .before .before .before .args .letter) _ _ (c .before .before .before .last-field .result) (c .with-bytes .result) (c .before .before .before .last-field .ensures) (c .with-bytes .ensures)
 
 pub plain-spec : {M : Type 1} → statement M
-plain-spec = tie.close (tie.spec last-field-requires with-bytes-requires same-length returns)
+plain-spec = tie.close (tie.spec (λ c κs. search needs) (λ c κs. search needs) (λ c. search needs) returns)

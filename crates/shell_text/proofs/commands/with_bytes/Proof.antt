@@ -8,17 +8,8 @@ use Rattle.shell_text.proofs.commands.with_bytes.Lts as lts
 use Rattle.shell_text.proofs.commands.unknown.Reads as unknown-reads
 
 -- src/commands.rt:29:24
-enum-known-d : tie.Need-enum-known-d
-enum-known-d c = search needs
-
 -- src/commands.rt:35:31
-enum-told : tie.Need-enum-told
-enum-told c = search needs
-
 -- src/commands.rt:35:31
-unknown-requires : tie.Need-unknown-requires
-unknown-requires c κs = search needs
-
 -- src/commands.rt:25:1
 returns : tie.Need-returns
 unfolding withBytes
@@ -30,4 +21,4 @@ unfolding withBytes
 returns-2 c = c .unknown .ensures ∙ sym (ap (withBytes (c .before .before .before .args .letter) (c .before .before .before .args .number)) (c .before .enum-told .given .1))
 
 pub with-bytes-spec : {M : Type 1} → statement M
-with-bytes-spec = tie.close (tie.spec enum-known-d enum-told unknown-requires returns returns-2)
+with-bytes-spec = tie.close (tie.spec (λ c. search needs) (λ c. search needs) (λ c κs. search needs) returns returns-2)

@@ -31,32 +31,14 @@ add-joined c = omega (arith, c .before .before .loop .inv .3 .size)
 slice-read-joined-2 : tie.Need-slice-read-joined-2 Inv-loop μ-loop
 slice-read-joined-2 c = omega (arith, c .before .before .before .loop .inv .3 .size)
 
-joined-requires : tie.Need-joined-requires Inv-loop μ-loop
-joined-requires c κs = search needs
-
-same-length : tie.Need-same-length Inv-loop μ-loop
-same-length c = search needs
-
 returns : tie.Need-returns Inv-loop μ-loop
 returns c = let p = c .before .before .before .before .before .loop .inv .3 in ends _ _ (c .before .before .before .before .before .loop .i) (c .before .joined .result) p (omega (arith, p .size)) (stops _ _ (c .before .before .before .before .before .loop .i) (c .before .joined .result) p _ _ (omega arith) (omega arith) (c .before .joined .ensures) (omega (arith, p .size)) (c .if1 .taken))
-
-cast-word : tie.Need-cast-word Inv-loop μ-loop
-cast-word c = search needs
 
 slice-write-word : tie.Need-slice-write-word Inv-loop μ-loop
 slice-write-word c = omega (arith, c .before .before .before .before .before .loop .inv .3 .size)
 
-add-i : tie.Need-add-i Inv-loop μ-loop
-add-i c = search needs
-
-loop-less : tie.Need-loop-less Inv-loop μ-loop
-loop-less c = search needs
-
 loop-again : tie.Need-loop-again Inv-loop μ-loop
 loop-again c = let p = c .before .before .before .before .before .loop .inv .3 in (search needs, search needs, search needs, passes-one _ _ (c .before .before .before .before .before .loop .i) (c .before .joined .result) p _ _ (omega arith) (omega arith) (c .before .joined .ensures) (omega (arith, p .size)) (c .if1 .left))
-
-same-length-2 : tie.Need-same-length-2 Inv-loop μ-loop
-same-length-2 c = search needs
 
 returns-2 : tie.Need-returns-2 Inv-loop μ-loop
 returns-2 c = let p = c .before .loop .inv .3 in ends _ _ (c .before .loop .i) 0 p (omega (arith, p .size)) (few-bytes _ (c .before .loop .i + c .before .loop .i) (omega arith))
@@ -73,13 +55,13 @@ decode-spec =
     mul-joined-2
     add-joined
     slice-read-joined-2
-    joined-requires
-    same-length
+    (λ c κs. search needs)
+    (λ c. search needs)
     returns
-    cast-word
+    (λ c. search needs)
     slice-write-word
-    add-i
-    loop-less
+    (λ c. search needs)
+    (λ c. search needs)
     loop-again
-    same-length-2
+    (λ c. search needs)
     returns-2)

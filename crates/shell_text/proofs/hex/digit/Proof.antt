@@ -17,9 +17,6 @@ returns-3 : tie.Need-returns-3
 unfolding digitOf
 returns-3 c = rw (le-ltb (c .before .before .before .args .b) 48 (c .before .before .if1 .left), lt-leb (c .before .before .before .args .b) 57 (c .before .if2 .left), lt-ltb (c .before .before .before .args .b) 97 (c .if3 .taken))
 
-sub-result : tie.Need-sub-result
-sub-result c = search needs
-
 returns-4 : tie.Need-returns-4
 unfolding digitOf
 returns-4 c = rw (le-ltb (c .before .before .before .before .args .b) 48 (c .before .before .before .if1 .left), lt-leb (c .before .before .before .before .args .b) 57 (c .before .before .if2 .left), le-ltb (c .before .before .before .before .args .b) 97 (c .before .if3 .left), le-leb (c .before .before .before .before .args .b) 102 (c .if4 .taken))
@@ -29,4 +26,4 @@ unfolding digitOf
 returns-5 c = rw (le-ltb (c .before .before .before .before .args .b) 48 (c .before .before .before .if1 .left), lt-leb (c .before .before .before .before .args .b) 57 (c .before .before .if2 .left), le-ltb (c .before .before .before .before .args .b) 97 (c .before .if3 .left), lt-leb (c .before .before .before .before .args .b) 102 (c .if4 .left))
 
 pub digit-spec : {M : Type 1} → statement M
-digit-spec = tie.close (tie.spec returns returns-2 returns-3 sub-result returns-4 returns-5)
+digit-spec = tie.close (tie.spec returns returns-2 returns-3 (λ c. search needs) returns-4 returns-5)

@@ -5,15 +5,9 @@ use borrow.Author.Needs.{needs}
 use Rattle.shell_text.proofs.hex.glyph.Statement.{statement}
 use Rattle.shell_text.proofs.hex.glyph.Tie as tie
 
-add-result : tie.Need-add-result
-add-result c = search needs
-
 returns : tie.Need-returns
 unfolding glyphOf
 returns c = rw (lt-ltb (c .before .args .d) 10 (c .if1 .taken))
-
-add-result-2 : tie.Need-add-result-2
-add-result-2 c = search needs
 
 returns-2 : tie.Need-returns-2
 unfolding glyphOf
@@ -24,4 +18,4 @@ unfolding glyphOf
 returns-3 c = rw (le-ltb (c .before .before .args .d) 10 (c .before .if1 .left), le-ltb (c .before .before .args .d) 16 (c .if2 .left))
 
 pub glyph-spec : {M : Type 1} → statement M
-glyph-spec = tie.close (tie.spec add-result returns add-result-2 returns-2 returns-3)
+glyph-spec = tie.close (tie.spec (λ c. search needs) returns (λ c. search needs) returns-2 returns-3)

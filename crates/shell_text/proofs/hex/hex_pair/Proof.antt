@@ -4,15 +4,9 @@ use borrow.Author.Needs.{needs}
 use Rattle.shell_text.proofs.hex.hex_pair.Statement.{statement}
 use Rattle.shell_text.proofs.hex.hex_pair.Tie as tie
 
-glyph-requires : tie.Need-glyph-requires
-glyph-requires c κs = search needs
-
-glyph-requires-2 : tie.Need-glyph-requires-2
-glyph-requires-2 c κs = search needs
-
 returns : tie.Need-returns
 unfolding pairText
 returns c = cc
 
 pub hex-pair-spec : {M : Type 1} → statement M
-hex-pair-spec = tie.close (tie.spec glyph-requires glyph-requires-2 returns)
+hex-pair-spec = tie.close (tie.spec (λ c κs. search needs) (λ c κs. search needs) returns)

@@ -5,12 +5,6 @@ use borrow.Author.Needs.{needs}
 use Rattle.shell_text.proofs.hex.joined.Statement.{statement}
 use Rattle.shell_text.proofs.hex.joined.Tie as tie
 
-digit-requires : tie.Need-digit-requires
-digit-requires c κs = search needs
-
-digit-requires-2 : tie.Need-digit-requires-2
-digit-requires-2 c κs = search needs
-
 returns : tie.Need-returns
 unfolding joinedOf
 returns c = rw (← c .before .before .digit .ensures, le-leb 16 (c .before .before .digit .result) (c .if1 .taken))
@@ -18,18 +12,6 @@ returns c = rw (← c .before .before .digit .ensures, le-leb 16 (c .before .bef
 returns-2 : tie.Need-returns-2
 unfolding joinedOf
 returns-2 c = rw (← c .before .before .before .digit .ensures, ← c .before .before .digit2 .ensures, lt-leb 16 (c .before .before .before .digit .result) (c .before .if1 .left), le-leb 16 (c .before .before .digit2 .result) (c .if2 .taken))
-
-cast-result : tie.Need-cast-result
-cast-result c = search needs
-
-mul-result : tie.Need-mul-result
-mul-result c = search needs
-
-cast-result-2 : tie.Need-cast-result-2
-cast-result-2 c = search needs
-
-add-result : tie.Need-add-result
-add-result c = search needs
 
 returns-3 : tie.Need-returns-3
 unfolding joinedOf
@@ -39,12 +21,12 @@ pub joined-spec : {M : Type 1} → statement M
 joined-spec =
     tie.close
     (tie.spec
-    digit-requires
-    digit-requires-2
+    (λ c κs. search needs)
+    (λ c κs. search needs)
     returns
     returns-2
-    cast-result
-    mul-result
-    cast-result-2
-    add-result
+    (λ c. search needs)
+    (λ c. search needs)
+    (λ c. search needs)
+    (λ c. search needs)
     returns-3)

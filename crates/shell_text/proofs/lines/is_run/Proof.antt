@@ -7,17 +7,11 @@ use Rattle.shell_text.proofs.lines.is_run.Tie as tie
 returns : tie.Need-returns
 returns c = run-none _ (c .if1 .taken)
 
-shared-slice-read-if2 : tie.Need-shared-slice-read-if2
-shared-slice-read-if2 c = search needs
-
 returns-2 : tie.Need-returns-2
 returns-2 c = run-other _ (c .before .before .if1 .left) (c .if2 .taken)
 
 returns-3 : tie.Need-returns-3
 returns-3 c = run-alone _ (c .before .if2 .left) (c .if3 .taken)
-
-shared-slice-read-result : tie.Need-shared-slice-read-result
-shared-slice-read-result c = search needs
 
 returns-4 : tie.Need-returns-4
 returns-4 c = run-words _ (c .before .before .before .before .if1 .left) (c .before .before .if2 .left) (c .before .if3 .left)
@@ -25,4 +19,4 @@ returns-4 c = run-words _ (c .before .before .before .before .if1 .left) (c .bef
 pub is-run-spec : {M : Type 1} → statement M
 is-run-spec =
     tie.close
-    (tie.spec returns shared-slice-read-if2 returns-2 returns-3 shared-slice-read-result returns-4)
+    (tie.spec returns (λ c. search needs) returns-2 returns-3 (λ c. search needs) returns-4)

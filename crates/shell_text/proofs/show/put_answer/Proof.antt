@@ -1,36 +1,21 @@
 -- `put_answer` meets its contract. Assumes nothing.
-use Rattle.shell_text.specs.Show.{answerText}
+use Rattle.shell_text.specs.Show.{shownAnswer}
 use Rattle.text_out.proofs.Laws.{puts-then}
 use borrow.Author.Needs.{needs}
 use Rattle.shell_text.proofs.show.put_answer.Statement.{statement}
 use Rattle.shell_text.proofs.show.put_answer.Tie as tie
 
-put-digits-requires : tie.Need-put-digits-requires
-put-digits-requires c κs = search needs
-
-slice-aggregate-put : tie.Need-slice-aggregate-put
-slice-aggregate-put c = search needs
-
-put-requires : tie.Need-put-requires
-put-requires c κs = search needs
-
-put-digits-requires-2 : tie.Need-put-digits-requires-2
-put-digits-requires-2 c κs = search needs
-
-same-length : tie.Need-same-length
-same-length c = search needs
-
 returns : tie.Need-returns
-unfolding answerText
+unfolding shownAnswer
 returns c = puts-then (c .before .before .before .before .before .before .before .before .before .before .before .put-digits .ensures) (puts-then (c .before .before .before .before .before .before .put .ensures) (c .before .before .put-digits2 .ensures))
 
 pub put-answer-spec : {M : Type 1} → statement M
 put-answer-spec =
     tie.close
     (tie.spec
-    put-digits-requires
-    slice-aggregate-put
-    put-requires
-    put-digits-requires-2
-    same-length
+    (λ c κs. search needs)
+    (λ c. search needs)
+    (λ c κs. search needs)
+    (λ c κs. search needs)
+    (λ c. search needs)
     returns)

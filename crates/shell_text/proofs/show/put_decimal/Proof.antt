@@ -13,24 +13,6 @@ use borrow.Author.Needs.{needs}
 use Rattle.shell_text.proofs.show.put_decimal.Statement.{statement}
 use Rattle.shell_text.proofs.show.put_decimal.Tie as tie
 
-put-whole-requires : tie.Need-put-whole-requires
-put-whole-requires c κs = search needs
-
-slice-aggregate-put : tie.Need-slice-aggregate-put
-slice-aggregate-put c = search needs
-
-put-requires : tie.Need-put-requires
-put-requires c κs = search needs
-
-wide-requires : tie.Need-wide-requires
-wide-requires c κs = search needs
-
-put-whole-requires-2 : tie.Need-put-whole-requires-2
-put-whole-requires-2 c κs = search needs
-
-same-length : tie.Need-same-length
-same-length c = search needs
-
 returns : tie.Need-returns
 unfolding decimalText
 returns c =
@@ -45,10 +27,10 @@ pub put-decimal-spec : {M : Type 1} → statement M
 put-decimal-spec =
     tie.close
     (tie.spec
-    put-whole-requires
-    slice-aggregate-put
-    put-requires
-    wide-requires
-    put-whole-requires-2
-    same-length
+    (λ c κs. search needs)
+    (λ c. search needs)
+    (λ c κs. search needs)
+    (λ c κs. search needs)
+    (λ c κs. search needs)
+    (λ c. search needs)
     returns)

@@ -7,35 +7,11 @@ use borrow.Author.Needs.{needs}
 use Rattle.shell_text.proofs.show.put_whole.Statement.{statement}
 use Rattle.shell_text.proofs.show.put_whole.Tie as tie
 
-slice-aggregate-put : tie.Need-slice-aggregate-put
-slice-aggregate-put c = search needs
-
-put-requires : tie.Need-put-requires
-put-requires c κs = search needs
-
-size-requires : tie.Need-size-requires
-size-requires c κs = search needs
-
-put-digits-requires : tie.Need-put-digits-requires
-put-digits-requires c κs = search needs
-
-same-length : tie.Need-same-length
-same-length c = search needs
-
 returns : tie.Need-returns
 returns c =
     let z = c .before .before .before .before .before .before .before .before .before .before .before .before .args .z in
     let f : SFits w64 z = search needs in
     puts-negative z (c .before .before .before .size .result) (whole-negative z (is-negative z f (c .before .before .before .before .before .before .before .before .before .before .if1 .taken))) (size-kept z f (c .before .before .before .size .ensures)) (c .before .before .before .before .before .before .before .put .ensures) (c .before .before .put-digits .ensures)
-
-size-requires-2 : tie.Need-size-requires-2
-size-requires-2 c κs = search needs
-
-put-digits-requires-2 : tie.Need-put-digits-requires-2
-put-digits-requires-2 c κs = search needs
-
-same-length-2 : tie.Need-same-length-2
-same-length-2 c = search needs
 
 returns-2 : tie.Need-returns-2
 returns-2 c =
@@ -47,13 +23,13 @@ pub put-whole-spec : {M : Type 1} → statement M
 put-whole-spec =
     tie.close
     (tie.spec
-    slice-aggregate-put
-    put-requires
-    size-requires
-    put-digits-requires
-    same-length
+    (λ c. search needs)
+    (λ c κs. search needs)
+    (λ c κs. search needs)
+    (λ c κs. search needs)
+    (λ c. search needs)
     returns
-    size-requires-2
-    put-digits-requires-2
-    same-length-2
+    (λ c κs. search needs)
+    (λ c κs. search needs)
+    (λ c. search needs)
     returns-2)

@@ -9,19 +9,13 @@ use Rattle.shell_text.proofs.words.number.Tie as tie
 float-from-bits-result : tie.Need-float-from-bits-result
 float-from-bits-result c = by-field _ (c .if1 .taken)
 
-returns : tie.Need-returns
-returns c = search needs
-
 returns-2 : tie.Need-returns-2
 returns-2 c = zero-by-zero ∙ sym (nan-of _ (c .before .if1 .left) (c .if2 .taken))
 
 float-from-bits-result-2 : tie.Need-float-from-bits-result-2
 float-from-bits-result-2 c = by-digits _ (c .if2 .left)
 
-returns-3 : tie.Need-returns-3
-returns-3 c = search needs
-
 pub number-spec : {M : Type 1} → statement M
 number-spec =
     tie.close
-    (tie.spec float-from-bits-result returns returns-2 float-from-bits-result-2 returns-3)
+    (tie.spec float-from-bits-result (λ c. search needs) returns-2 float-from-bits-result-2 (λ c. search needs))

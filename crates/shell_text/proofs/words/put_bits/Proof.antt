@@ -20,32 +20,8 @@ abbrev μ-loop : tie.MeasureT-loop
 loop-holds : tie.Need-loop-holds Inv-loop μ-loop
 loop-holds c = digits-first _ _ _
 
-cast-glyph : tie.Need-cast-glyph Inv-loop μ-loop
-cast-glyph c = search needs
-
-glyph-requires : tie.Need-glyph-requires Inv-loop μ-loop
-glyph-requires c κs = search needs
-
-slice-aggregate-put : tie.Need-slice-aggregate-put Inv-loop μ-loop
-slice-aggregate-put c = search needs
-
-put-requires : tie.Need-put-requires Inv-loop μ-loop
-put-requires c κs = search needs
-
-mul-rest : tie.Need-mul-rest Inv-loop μ-loop
-mul-rest c = search needs
-
-sub-i : tie.Need-sub-i Inv-loop μ-loop
-sub-i c = search needs
-
-loop-less : tie.Need-loop-less Inv-loop μ-loop
-loop-less c = search needs
-
 loop-again : tie.Need-loop-again Inv-loop μ-loop
 loop-again c = goes-then (c .before .before .before .before .before .before .before .loop .inv) (top-more (c .before .before .before .before .before .before .before .loop .i) (c .before .before .before .before .before .before .before .loop .rest) (c .before .before .before .before .before .glyph .result) (c .before .before .before .before .before .before .loop-test .taken) (c .before .before .before .before .before .glyph .ensures)) (c .before .before .put .ensures)
-
-same-length : tie.Need-same-length Inv-loop μ-loop
-same-length c = search needs
 
 returns : tie.Need-returns Inv-loop μ-loop
 returns c = goes-end (c .before .loop .inv) (top-none (c .before .loop .i) (c .before .loop .rest) (c .loop-test .left))
@@ -57,13 +33,13 @@ put-bits-spec =
     Inv-loop
     μ-loop
     loop-holds
-    cast-glyph
-    glyph-requires
-    slice-aggregate-put
-    put-requires
-    mul-rest
-    sub-i
-    loop-less
+    (λ c. search needs)
+    (λ c κs. search needs)
+    (λ c. search needs)
+    (λ c κs. search needs)
+    (λ c. search needs)
+    (λ c. search needs)
+    (λ c. search needs)
     loop-again
-    same-length
+    (λ c. search needs)
     returns)

@@ -8,30 +8,12 @@ use borrow.Author.Needs.{needs}
 use Rattle.shell_text.proofs.words.put_word.Statement.{statement}
 use Rattle.shell_text.proofs.words.put_word.Tie as tie
 
-slice-aggregate-put : tie.Need-slice-aggregate-put
-slice-aggregate-put c = search needs
-
-put-requires : tie.Need-put-requires
-put-requires c κs = search needs
-
-put-bits-requires : tie.Need-put-bits-requires
-put-bits-requires c κs = search needs
-
-same-length : tie.Need-same-length
-same-length c = search needs
-
 returns : tie.Need-returns
 unfolding wordText
 returns c = puts-then (c .before .before .before .before .before .before .before .put .ensures) (puts-by (λ n t. bitsText n ++ t) (sym (not-itself _ (c .before .before .before .before .if1 .taken))) (c .before .before .put-bits .ensures))
 
 float-to-bits-put-bits : tie.Need-float-to-bits-put-bits
 float-to-bits-put-bits c = by-itself _ (c .before .if1 .left)
-
-put-bits-requires-2 : tie.Need-put-bits-requires-2
-put-bits-requires-2 c κs = search needs
-
-same-length-2 : tie.Need-same-length-2
-same-length-2 c = search needs
 
 returns-2 : tie.Need-returns-2
 unfolding wordText
@@ -41,12 +23,12 @@ pub put-word-spec : {M : Type 1} → statement M
 put-word-spec =
     tie.close
     (tie.spec
-    slice-aggregate-put
-    put-requires
-    put-bits-requires
-    same-length
+    (λ c. search needs)
+    (λ c κs. search needs)
+    (λ c κs. search needs)
+    (λ c. search needs)
     returns
     float-to-bits-put-bits
-    put-bits-requires-2
-    same-length-2
+    (λ c κs. search needs)
+    (λ c. search needs)
     returns-2)

@@ -5,17 +5,11 @@ use borrow.Author.Needs.{needs}
 use Rattle.writing.proofs.elements.put_content.Statement.{statement}
 use Rattle.writing.proofs.elements.put_content.Tie as tie
 
-enum-known-kind : tie.Need-enum-known-kind
-enum-known-kind c = search needs
-
 put-array-requires : tie.Need-put-array-requires
 put-array-requires c κs =
     let h = c .before .before .before .before .before .before .pre in
     let e = (c .before .before .before .kind .given .1) in
     wide-asks _ _ e _ _ (c .before .if1 .taken) h
-
-same-length : tie.Need-same-length
-same-length c = search needs
 
 returns : tie.Need-returns
 returns c = puts-as (wide-text _ _ (c .before .before .before .before .before .before .kind .given .1) _ _ (c .before .before .before .before .if1 .taken)) (c .before .before .put-array .ensures)
@@ -26,26 +20,17 @@ put-array-requires-2 c κs =
     let e = (c .before .before .before .kind .given .1) in
     narrow-asks _ _ e _ _ (c .before .if1 .left) h
 
-enum-known-kind-2 : tie.Need-enum-known-kind-2
-enum-known-kind-2 c = search needs
-
 put-array-requires-3 : tie.Need-put-array-requires-3
 put-array-requires-3 c κs =
     let h = c .before .before .before .before .before .pre in
     let e = (c .before .before .kind2 .given .1) in
     table-asks _ _ _ e _ _ h
 
-enum-told : tie.Need-enum-told
-enum-told c = search needs
-
 put-range-requires : tie.Need-put-range-requires
 put-range-requires c κs =
     let h = c .before .before .before .before .pre in
     let e = (c .before .enum-told .given .1) in
     range-asks _ _ e _ _ h
-
-enum-told-2 : tie.Need-enum-told-2
-enum-told-2 c = search needs
 
 put-sop-requires : tie.Need-put-sop-requires
 put-sop-requires c κs =
@@ -59,26 +44,14 @@ put-sat-requires c κs =
     let e = (c .before .before .before .before .before .enum-told2 .given .1) in
     cdl-asks _ _ e _ _ h
 
-same-length-2 : tie.Need-same-length-2
-same-length-2 c = search needs
-
 returns-2 : tie.Need-returns-2
 returns-2 c = puts-as (narrow-text _ _ (c .before .before .before .before .before .before .kind .given .1) _ _ (c .before .before .before .before .if1 .left)) (c .before .before .put-array2 .ensures)
-
-same-length-3 : tie.Need-same-length-3
-same-length-3 c = search needs
 
 returns-3 : tie.Need-returns-3
 returns-3 c = puts-as (table-text _ _ _ (c .before .before .before .before .before .kind2 .given .1) _ _) (c .before .before .put-array3 .ensures)
 
-same-length-4 : tie.Need-same-length-4
-same-length-4 c = search needs
-
 returns-4 : tie.Need-returns-4
 returns-4 c = puts-as (range-text _ _ (c .before .before .before .before .enum-told .given .1) _ _) (c .before .before .put-range .ensures)
-
-same-length-5 : tie.Need-same-length-5
-same-length-5 c = search needs
 
 returns-5 : tie.Need-returns-5
 returns-5 c =
@@ -89,23 +62,23 @@ pub put-content-spec : {M : Type 1} → statement M
 put-content-spec =
     tie.close
     (tie.spec
-    enum-known-kind
+    (λ c. search needs)
     put-array-requires
-    same-length
+    (λ c. search needs)
     returns
     put-array-requires-2
-    enum-known-kind-2
+    (λ c. search needs)
     put-array-requires-3
-    enum-told
+    (λ c. search needs)
     put-range-requires
-    enum-told-2
+    (λ c. search needs)
     put-sop-requires
     put-sat-requires
-    same-length-2
+    (λ c. search needs)
     returns-2
-    same-length-3
+    (λ c. search needs)
     returns-3
-    same-length-4
+    (λ c. search needs)
     returns-4
-    same-length-5
+    (λ c. search needs)
     returns-5)

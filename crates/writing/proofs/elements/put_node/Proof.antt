@@ -6,17 +6,8 @@ use borrow.Author.Needs.{needs}
 use Rattle.writing.proofs.elements.put_node.Statement.{statement}
 use Rattle.writing.proofs.elements.put_node.Tie as tie
 
-put-start-requires : tie.Need-put-start-requires
-put-start-requires c κs = search needs
-
 put-content-requires : tie.Need-put-content-requires
 put-content-requires c κs = c .before .before .before .before .before .before .pre
-
-put-end-requires : tie.Need-put-end-requires
-put-end-requires c κs = search needs
-
-same-length : tie.Need-same-length
-same-length c = search needs
 
 returns : tie.Need-returns
 unfolding nodeText elementOf
@@ -25,4 +16,4 @@ returns c = puts-then (c .before .before .before .before .before .before .before
 pub put-node-spec : {M : Type 1} → statement M
 put-node-spec =
     tie.close
-    (tie.spec put-start-requires put-content-requires put-end-requires same-length returns)
+    (tie.spec (λ c κs. search needs) put-content-requires (λ c κs. search needs) (λ c. search needs) returns)

@@ -19,26 +19,14 @@ Inv-loop out₀ at list coefficients powers count held₀ k₀ out held k =
 abbrev μ-loop : tie.MeasureT-loop
 μ-loop out₀ at list coefficients powers count held₀ k₀ out held k = count - k
 
-held-requires : tie.Need-held-requires Inv-loop μ-loop
-held-requires c κs = search needs
-
 loop-holds : tie.Need-loop-holds Inv-loop μ-loop
 loop-holds c = goes-start _ _ _
-
-get-requires : tie.Need-get-requires Inv-loop μ-loop
-get-requires c κs = search needs
 
 put-node-requires : tie.Need-put-node-requires Inv-loop μ-loop
 put-node-requires c κs =
     let a = c .before .before .before .before .before .before in
     let e = c .before .before .before .before .held .ensures .nodes in
     node-asks (lent (a .args .coefficients .now) (a .args .powers .now)) (a .args .list) (a .pre) (c .before .before .before .loop .k) (omega arith) _ (c .before .get .ensures)
-
-add-k : tie.Need-add-k Inv-loop μ-loop
-add-k c = search needs
-
-loop-less : tie.Need-loop-less Inv-loop μ-loop
-loop-less c = search needs
 
 loop-again : tie.Need-loop-again Inv-loop μ-loop
 loop-again c =
@@ -47,9 +35,6 @@ loop-again c =
     let l = c .before .before .before .before .before .before in
     let n = nodes-next (lent (a .coefficients .now) (a .powers .now)) (a .list) (l .loop .k) (omega arith) _ (c .before .before .before .before .get .ensures) in
     goes-then (l .loop .inv) n (c .before .before .put-node .ensures)
-
-same-length : tie.Need-same-length Inv-loop μ-loop
-same-length c = search needs
 
 returns : tie.Need-returns Inv-loop μ-loop
 returns c =
@@ -64,12 +49,12 @@ put-nodes-spec =
     (tie.spec
     Inv-loop
     μ-loop
-    held-requires
+    (λ c κs. search needs)
     loop-holds
-    get-requires
+    (λ c κs. search needs)
     put-node-requires
-    add-k
-    loop-less
+    (λ c. search needs)
+    (λ c. search needs)
     loop-again
-    same-length
+    (λ c. search needs)
     returns)

@@ -6,44 +6,17 @@ use borrow.Author.Needs.{needs}
 use Rattle.writing.proofs.elements.put_range.Statement.{statement}
 use Rattle.writing.proofs.elements.put_range.Tie as tie
 
-slice-aggregate-put-value : tie.Need-slice-aggregate-put-value
-slice-aggregate-put-value c = search needs
-
-put-value-requires : tie.Need-put-value-requires
-put-value-requires c κs = search needs
-
-slice-aggregate-put-value-2 : tie.Need-slice-aggregate-put-value-2
-slice-aggregate-put-value-2 c = search needs
-
 add-put-value : tie.Need-add-put-value
 unfolding roomLength
 add-put-value c = search needs
-
-put-value-requires-2 : tie.Need-put-value-requires-2
-put-value-requires-2 c κs = search needs
-
-slice-aggregate-put-value-3 : tie.Need-slice-aggregate-put-value-3
-slice-aggregate-put-value-3 c = search needs
 
 add-put-value-2 : tie.Need-add-put-value-2
 unfolding roomLength
 add-put-value-2 c = search needs
 
-put-value-requires-3 : tie.Need-put-value-requires-3
-put-value-requires-3 c κs = search needs
-
-slice-aggregate-put-value-4 : tie.Need-slice-aggregate-put-value-4
-slice-aggregate-put-value-4 c = search needs
-
 add-put-value-3 : tie.Need-add-put-value-3
 unfolding roomLength
 add-put-value-3 c = search needs
-
-put-value-requires-4 : tie.Need-put-value-requires-4
-put-value-requires-4 c κs = search needs
-
-same-length : tie.Need-same-length
-same-length c = search needs
 
 returns : tie.Need-returns
 returns c =
@@ -60,16 +33,16 @@ pub put-range-spec : {M : Type 1} → statement M
 put-range-spec =
     tie.close
     (tie.spec
-    slice-aggregate-put-value
-    put-value-requires
-    slice-aggregate-put-value-2
+    (λ c. search needs)
+    (λ c κs. search needs)
+    (λ c. search needs)
     add-put-value
-    put-value-requires-2
-    slice-aggregate-put-value-3
+    (λ c κs. search needs)
+    (λ c. search needs)
     add-put-value-2
-    put-value-requires-3
-    slice-aggregate-put-value-4
+    (λ c κs. search needs)
+    (λ c. search needs)
     add-put-value-3
-    put-value-requires-4
-    same-length
+    (λ c κs. search needs)
+    (λ c. search needs)
     returns)

@@ -5,7 +5,7 @@ use lib.IntN.{pos}
 use mir.ValLaws.{toZ-ofZ}
 use mir.Syntax.{w8, w64}
 use Rattle.room.specs.Room.{roomLength}
-use Rattle.valid.specs.Valid.{numberAt}
+use Rattle.valid.specs.Valid.{decimalAt}
 use Rattle.writing.proofs.numbers.put_number.Statement.{statement}
 use Rattle.writing.proofs.numbers.put_number.Tie as tie
 
@@ -21,14 +21,8 @@ shared-slice-copy-out-power : tie.Need-shared-slice-copy-out-power
 unfolding roomLength
 shared-slice-copy-out-power c = search needs
 
-put-number-requires : tie.Need-put-number-requires
-put-number-requires c κs = search needs
-
-same-length : tie.Need-same-length
-same-length c = search needs
-
 returns : tie.Need-returns
-unfolding numberAt
+unfolding decimalAt
 returns c =
     let s = c .before .before .before .before .before .before .before .args in
     let e1 = toZ-ofZ w64 (getD (s .coefficients .now) (s .k) (pos 0)) (sfits-of (c .before .before .before .before .before .coefficient .given)) in
@@ -42,6 +36,6 @@ put-number-spec =
     mul-coefficient
     shared-slice-copy-out-coefficient
     shared-slice-copy-out-power
-    put-number-requires
-    same-length
+    (λ c κs. search needs)
+    (λ c. search needs)
     returns)

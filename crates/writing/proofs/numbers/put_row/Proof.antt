@@ -13,21 +13,9 @@ returns c =
     let a = s .args in
     goes-end (goes-start _ _ _) (row-none (lent (a .coefficients .now) (a .powers .now)) (a .from) (a .count) (s .pre) (c .if1 .taken))
 
-put-number-requires : tie.Need-put-number-requires
-put-number-requires c κs = search needs
-
 add-put-spaced : tie.Need-add-put-spaced
 unfolding roomLength
 add-put-spaced c = search needs
-
-sub-put-spaced : tie.Need-sub-put-spaced
-sub-put-spaced c = search needs
-
-put-spaced-requires : tie.Need-put-spaced-requires
-put-spaced-requires c κs = search needs
-
-same-length : tie.Need-same-length
-same-length c = search needs
 
 returns-2 : tie.Need-returns-2
 returns-2 c =
@@ -43,9 +31,9 @@ put-row-spec =
     tie.close
     (tie.spec
     returns
-    put-number-requires
+    (λ c κs. search needs)
     add-put-spaced
-    sub-put-spaced
-    put-spaced-requires
-    same-length
+    (λ c. search needs)
+    (λ c κs. search needs)
+    (λ c. search needs)
     returns-2)

@@ -31,24 +31,12 @@ put-row-requires c κs =
     let e = rows-left (c .before .before .before .before .args .rows) (c .before .before .before .before .args .columns) (l .loop .i) (omega arith) in
     search needs
 
-slice-aggregate-put : tie.Need-slice-aggregate-put Inv-loop μ-loop
-slice-aggregate-put c = search needs
-
-put-requires : tie.Need-put-requires Inv-loop μ-loop
-put-requires c κs = search needs
-
 add-k : tie.Need-add-k Inv-loop μ-loop
 unfolding roomLength
 add-k c =
     let l = c .before .before .before .before .before .before .before .before .before .before in
     let e = rows-left (c .before .before .before .before .before .before .before .before .before .before .before .before .args .rows) (c .before .before .before .before .before .before .before .before .before .before .before .before .args .columns) (l .loop .i) (omega arith) in
     search needs
-
-add-i : tie.Need-add-i Inv-loop μ-loop
-add-i c = search needs
-
-loop-less : tie.Need-loop-less Inv-loop μ-loop
-loop-less c = search needs
 
 loop-again : tie.Need-loop-again Inv-loop μ-loop
 loop-again c =
@@ -57,9 +45,6 @@ loop-again c =
     let e = rows-left (a .rows) (a .columns) (l .loop .i) (omega arith) in
     let n = rows-next (lent (a .coefficients .now) (a .powers .now)) (l .loop .k) (a .rows) (a .columns) (l .loop .i) (omega arith) in
     (search needs, search needs, goes-then (l .loop .inv .2) n (puts-then (c .before .before .before .before .before .before .before .put-row .ensures) (c .before .before .put .ensures)))
-
-same-length : tie.Need-same-length Inv-loop μ-loop
-same-length c = search needs
 
 returns : tie.Need-returns Inv-loop μ-loop
 returns c =
@@ -75,11 +60,11 @@ put-rows-spec =
     μ-loop
     loop-holds
     put-row-requires
-    slice-aggregate-put
-    put-requires
+    (λ c. search needs)
+    (λ c κs. search needs)
     add-k
-    add-i
-    loop-less
+    (λ c. search needs)
+    (λ c. search needs)
     loop-again
-    same-length
+    (λ c. search needs)
     returns)

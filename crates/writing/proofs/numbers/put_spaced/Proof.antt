@@ -22,24 +22,9 @@ abbrev μ-loop : tie.MeasureT-loop
 loop-holds : tie.Need-loop-holds Inv-loop μ-loop
 loop-holds c = (search needs, spaced-start _ _ _ _ _)
 
-slice-aggregate-put : tie.Need-slice-aggregate-put Inv-loop μ-loop
-slice-aggregate-put c = search needs
-
-put-requires : tie.Need-put-requires Inv-loop μ-loop
-put-requires c κs = search needs
-
 add-put-number : tie.Need-add-put-number Inv-loop μ-loop
 unfolding roomLength
 add-put-number c = search needs
-
-put-number-requires : tie.Need-put-number-requires Inv-loop μ-loop
-put-number-requires c κs = search needs
-
-add-i : tie.Need-add-i Inv-loop μ-loop
-add-i c = search needs
-
-loop-less : tie.Need-loop-less Inv-loop μ-loop
-loop-less c = search needs
 
 loop-again : tie.Need-loop-again Inv-loop μ-loop
 loop-again c =
@@ -48,9 +33,6 @@ loop-again c =
     let h = c .before .before .before .before .before .before .before .before .before .before .before .before .pre in
     let n = spaced-next (lent (a .coefficients .now) (a .powers .now)) (a .from) (a .count) h (l .loop .i) (omega arith) in
     (search needs, goes-then (l .loop .inv .1) n (puts-then (c .before .before .before .before .before .before .put .ensures) (c .before .before .put-number .ensures)))
-
-same-length : tie.Need-same-length Inv-loop μ-loop
-same-length c = search needs
 
 returns : tie.Need-returns Inv-loop μ-loop
 returns c =
@@ -66,12 +48,12 @@ put-spaced-spec =
     Inv-loop
     μ-loop
     loop-holds
-    slice-aggregate-put
-    put-requires
+    (λ c. search needs)
+    (λ c κs. search needs)
     add-put-number
-    put-number-requires
-    add-i
-    loop-less
+    (λ c κs. search needs)
+    (λ c. search needs)
+    (λ c. search needs)
     loop-again
-    same-length
+    (λ c. search needs)
     returns)

@@ -1,15 +1,9 @@
--- `markup::stranger` meets its contract. Assumes nothing.
+-- `markup::forbidden` meets its contract. Assumes nothing.
 use native.Mathlib.Omega.{arith}
 use Rattle.markup.proofs.Tags.{stranger-comment, stranger-question, stranger-element}
 use borrow.Author.Needs.{needs}
-use Rattle.markup.proofs.stranger.Statement.{statement}
-use Rattle.markup.proofs.stranger.Tie as tie
-
-comment-requires : tie.Need-comment-requires
-comment-requires c κs = search needs
-
-settled-requires : tie.Need-settled-requires
-settled-requires c κs = search needs
+use Rattle.markup.proofs.forbidden.Statement.{statement}
+use Rattle.markup.proofs.forbidden.Tie as tie
 
 returns : tie.Need-returns
 returns c = rw (c .settled .ensures) (stranger-comment _ _ (omega arith) _ (c .before .comment .result) (c .before .before .if1 .taken) (c .before .comment .ensures))
@@ -17,23 +11,17 @@ returns c = rw (c .settled .ensures) (stranger-comment _ _ (omega arith) _ (c .b
 returns-2 : tie.Need-returns-2
 returns-2 c = stranger-question _ _ (omega arith) _ (c .before .if1 .left) (c .if2 .taken)
 
-open-name-requires : tie.Need-open-name-requires
-open-name-requires c κs = search needs
-
-refused-requires : tie.Need-refused-requires
-refused-requires c κs = search needs
-
 returns-3 : tie.Need-returns-3
 returns-3 c = rw (c .refused .ensures) (stranger-element _ _ (omega arith) _ (c .before .before .before .if1 .left) (c .before .open-name .result) (c .before .before .if2 .left) (c .before .open-name .ensures))
 
-pub stranger-spec : {M : Type 1} → statement M
-stranger-spec =
+pub forbidden-spec : {M : Type 1} → statement M
+forbidden-spec =
     tie.close
     (tie.spec
-    comment-requires
-    settled-requires
+    (λ c κs. search needs)
+    (λ c κs. search needs)
     returns
     returns-2
-    open-name-requires
-    refused-requires
+    (λ c κs. search needs)
+    (λ c κs. search needs)
     returns-3)

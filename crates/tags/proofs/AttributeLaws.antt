@@ -124,16 +124,16 @@ module _ (rules : Rules) (s : List ℕ) (at e q : ℕ) (h : (at < e) × (e < q) 
 
 -- ---- behind the name
 
-module _ (rules : Rules) (seen : List Attribute) (s : List ℕ) (at e : ℕ) (h : (at < e) × (e ≤ length s)) (k : ℕ) (n : k ≡ nameFault rules seen (partIn s at e)) where
+module _ (rules : Rules) (attributes : List Attribute) (s : List ℕ) (at e : ℕ) (h : (at < e) × (e ≤ length s)) (k : ℕ) (n : k ≡ nameFault rules attributes (partIn s at e)) where
   abbrev behind : List ℕ → Parser Attribute
   behind v = (seq toQuote (behindQuote rules v)) .run
 
   abbrev whole : Out Attribute
-  whole = named rules seen (part s at e) (drop e s) (drop at s)
+  whole = named rules attributes (part s at e) (drop e s) (drop at s)
 
   by-fault : whole ≡ thenOut (verdict k (part s at e) (drop e s) (drop at s)) behind
   by-fault =
-      ap (λ (m : ℕ). thenOut (verdict m (part s at e) (drop e s) (drop at s)) behind) (sym (n ∙ ap (nameFault rules seen) (sym (part-in s at e (h .1)))))
+      ap (λ (m : ℕ). thenOut (verdict m (part s at e) (drop e s) (drop at s)) behind) (sym (n ∙ ap (nameFault rules attributes) (sym (part-in s at e (h .1)))))
 
   pub named-bad : (k ≡ 0 → ⊥) → AttributeIs s at (Fault k at) whole
   named-bad z = record {
@@ -173,7 +173,7 @@ then-one (done a r) f g k h = h a r
 then-one (fault m r) f g k h = refl
 then-one cut f g k h = refl
 
-module _ (rules : Rules) (seen : List Attribute) where
+module _ (rules : Rules) (attributes : List Attribute) where
   abbrev onward : List ℕ → Parser Attribute
   onward w = (seq toQuote (behindQuote rules w)) .run
 
@@ -182,9 +182,9 @@ module _ (rules : Rules) (seen : List Attribute) where
   to-parts w l =
       then-one (spaces .run l) _ _ _ (λ a r. then-one ((byte equals 2) .run r) _ _ _ (λ a₂ r₂. then-one (spaces .run r₂) _ _ _ (λ a₃ r₃. refl)))
 
-  attribute-parts : (l : List ℕ) → (attribute rules seen) .run l ≡ thenOut (judgeOut (nameFault rules seen) (name .run l) l) onward
+  attribute-parts : (l : List ℕ) → (attribute rules attributes) .run l ≡ thenOut (judgeOut (nameFault rules attributes) (name .run l) l) onward
   unfolding attribute
-  attribute-parts l = go (judgeOut (nameFault rules seen) (name .run l) l)
+  attribute-parts l = go (judgeOut (nameFault rules attributes) (name .run l) l)
     where
       go : (o : Out (List ℕ)) → thenOut o (λ w. bindP (spaces .run) (λ x. bindP ((byte equals 2) .run) (λ y. bindP (spaces .run) (λ z. bindP isQuoteByte (λ q. (behindQuote rules w q) .run)))))
           ≡ thenOut o onward
@@ -193,40 +193,40 @@ module _ (rules : Rules) (seen : List Attribute) where
       go cut = refl
 
   pub attribute-named : (s : List ℕ) (at e : ℕ) (r : AttributeRead) → Reads 1 (name .run) (part s at) s at (Scans.At e)
-      → AttributeIs s at r (named rules seen (part s at e) (drop e s) (drop at s)) → (attributeOut s at r ≡ (attribute rules seen) .run (drop at s)) × AttributeInside s at r
+      → AttributeIs s at r (named rules attributes (part s at e) (drop e s) (drop at s)) → (attributeOut s at r ≡ (attribute rules attributes) .run (drop at s)) × AttributeInside s at r
   attribute-named s at e r v x =
-      (x .out ∙ sym (attribute-parts (drop at s) ∙ ap (λ (o : Out (List ℕ)). thenOut (judgeOut (nameFault rules seen) o (drop at s)) onward) (sym (v .out))), x .inside)
+      (x .out ∙ sym (attribute-parts (drop at s) ∙ ap (λ (o : Out (List ℕ)). thenOut (judgeOut (nameFault rules attributes) o (drop at s)) onward) (sym (v .out))), x .inside)
 
   pub attribute-fault : (s : List ℕ) (at k p : ℕ) → Reads 1 (name .run) (part s at) s at (Scans.Fault k p)
-      → (attributeOut s at (Fault k p) ≡ (attribute rules seen) .run (drop at s)) × AttributeInside s at (Fault k p)
+      → (attributeOut s at (Fault k p) ≡ (attribute rules attributes) .run (drop at s)) × AttributeInside s at (Fault k p)
   attribute-fault s at k p v =
-      (sym (attribute-parts (drop at s) ∙ ap (λ (o : Out (List ℕ)). thenOut (judgeOut (nameFault rules seen) o (drop at s)) onward) (sym (v .out))), v .inside)
+      (sym (attribute-parts (drop at s) ∙ ap (λ (o : Out (List ℕ)). thenOut (judgeOut (nameFault rules attributes) o (drop at s)) onward) (sym (v .out))), v .inside)
 
   pub attribute-cut : (s : List ℕ) (at : ℕ) → Reads 1 (name .run) (part s at) s at Scans.Cut
-      → (attributeOut s at Cut ≡ (attribute rules seen) .run (drop at s)) × AttributeInside s at Cut
+      → (attributeOut s at Cut ≡ (attribute rules attributes) .run (drop at s)) × AttributeInside s at Cut
   attribute-cut s at v =
-      (sym (attribute-parts (drop at s) ∙ ap (λ (o : Out (List ℕ)). thenOut (judgeOut (nameFault rules seen) o (drop at s)) onward) (sym (v .out))), tt)
+      (sym (attribute-parts (drop at s) ∙ ap (λ (o : Out (List ℕ)). thenOut (judgeOut (nameFault rules attributes) o (drop at s)) onward) (sym (v .out))), tt)
 
   -- ---- an attribute is read behind fifteen others at most
 
-  few-fault : (w : List ℕ) → nameFault rules seen w ≡ 0 → length seen < 16
-  few-fault w e = go (isNamed w seen) (leb 16 (length seen)) refl e
+  few-fault : (w : List ℕ) → nameFault rules attributes w ≡ 0 → length attributes < 16
+  few-fault w e = go (isNamed w attributes) (leb 16 (length attributes)) refl e
     where
-      go : (a b : Bool) → leb 16 (length seen) ≡ b → cond a 2 (cond b 3 (rules .names w)) ≡ 0 → length seen < 16
+      go : (a b : Bool) → leb 16 (length attributes) ≡ b → cond a 2 (cond b 3 (rules .names w)) ≡ 0 → length attributes < 16
       go true b q z = absurd (omega arith)
       go false true q z = absurd (omega arith)
-      go false false q z = let k : length seen < 16 = leb-false 16 (length seen) q in k
+      go false false q z = let k : length attributes < 16 = leb-false 16 (length attributes) q in k
 
-  few-verdict : (w r l : List ℕ) (a : Attribute) (u : List ℕ) (k : ℕ) → nameFault rules seen w ≡ k → thenOut (verdict k w r l) onward ≡ done a u → length seen < 16
+  few-verdict : (w r l : List ℕ) (a : Attribute) (u : List ℕ) (k : ℕ) → nameFault rules attributes w ≡ k → thenOut (verdict k w r l) onward ≡ done a u → length attributes < 16
   few-verdict w r l a u zero q z = few-fault w q
   few-verdict w r l a u (suc k) q z = nope cc
 
-  few-name : (o : Out (List ℕ)) (l : List ℕ) (a : Attribute) (u : List ℕ) → thenOut (judgeOut (nameFault rules seen) o l) onward ≡ done a u → length seen < 16
-  few-name (done w r) l a u z = few-verdict w r l a u (nameFault rules seen w) refl z
+  few-name : (o : Out (List ℕ)) (l : List ℕ) (a : Attribute) (u : List ℕ) → thenOut (judgeOut (nameFault rules attributes) o l) onward ≡ done a u → length attributes < 16
+  few-name (done w r) l a u z = few-verdict w r l a u (nameFault rules attributes w) refl z
   few-name (fault k r) l a u z = nope cc
   few-name cut l a u z = nope cc
 
-  pub attribute-few : (l : List ℕ) (a : Attribute) (u : List ℕ) → (attribute rules seen) .run l ≡ done a u → length seen < 16
+  pub attribute-few : (l : List ℕ) (a : Attribute) (u : List ℕ) → (attribute rules attributes) .run l ≡ done a u → length attributes < 16
   attribute-few l a u z = few-name (name .run l) l a u (sym (attribute-parts l) ∙ z)
 
 -- ---- there is one answer
