@@ -1,4 +1,5 @@
 -- The children of an ASC_CDL, its content and the node, by their parts. Assumes nothing.
+use Rattle.process_list.specs.declared.CdlStyle.{CdlStyle}
 use mathlib.Core.Path.{_≡_, refl, sym, ap, _∙_, subst}
 use mathlib.Core.Bool.{Bool, true, false, not}
 use mathlib.Core.List.{List, [], _++_, append-nil, append-assoc}
@@ -29,7 +30,7 @@ use Rattle.tags.specs.declared.TagEnd.{TagEnd}
 use Rattle.tags.specs.declared.TagEnd.the-variants as Ends
 use Rattle.tags.specs.declared.TagKind.the-variants as Tags
 use Rattle.values.specs.Code.{Laid}
-use Rattle.clf.specs.Nodes.{isSome, CdlState, noCdl, cdlBody, cdlFault, cdlHolder, cdlRules, cdlContent, cdlNode, ascCdl, sopNode, satNode, sopNumbers, satNumbers}
+use Rattle.clf.specs.Nodes.{isSome, CdlState, noCdl, cdlBody, cdlFault, cdlHolder, cdlRules, cdlContent, cdlStyle, cdlNode, ascCdl, sopNode, satNode, sopNumbers, satNumbers}
 use Rattle.node_parts.specs.Code.{NumbersIn, finishedNode, noNode, smallNumbers, NodeReads}
 use Rattle.node_parts.specs.Held.{Went, Goes, HeldAt, ReadsTo}
 use Rattle.node_parts.specs.declared.NodeStep.{NodeStep}
@@ -193,16 +194,16 @@ module _ (s : List ℕ) (at base : ℕ) (tag : StartTag) (m₀ m₁ m : Room) (c
   cdl-failed f z y =
       node-failed (bindP opens rest-of) s at base (c .scan) step m₀ m₁ (λ n. Unit {0}) (Unit {0}) f z y (reads (λ n. Unit {0}) (λ st x. tt) (tag .end) refl w)
 
-  module _ (e : ℕ) (i : c .scan ≡ At e) (clamp : Bool) (z : clamp ≡ not (same (textOf (bytes "style") (attributesOf s (tag .attributes))) (bytes "FwdNoClamp")))
-      (h : Laid base (smallNumbers m) m₀ m₁) (y : step ≡ finishedNode s (tag .attributes) (At e) (Cdl clamp)) where
-    ten : (st : CdlState) → CdlStands m c st → length (smallNumbers m) ≡ numbersOf (Cdl clamp)
+  module _ (e : ℕ) (i : c .scan ≡ At e) (style : CdlStyle) (z : style ≡ cdlStyle (textOf (bytes "style") (attributesOf s (tag .attributes))))
+      (h : Laid base (smallNumbers m) m₀ m₁) (y : step ≡ finishedNode s (tag .attributes) (At e) (Cdl style)) where
+    ten : (st : CdlState) → CdlStands m c st → length (smallNumbers m) ≡ numbersOf (Cdl style)
     unfolding numbersOf
     ten st x = ap length (x .numbers) ∙ length-append (sopNumbers st) (satNumbers st) ∙ omega (arith, x .nine, x .one)
 
     is : (st : CdlState) → CdlStands m c st → NodeIs base step m₀ m₁ (cdlNode (attributesOf s (tag .attributes)) st)
     is st x =
         let n = x .numbers in
-        rw (y, ← z, ← n) (finished-is s base m₀ m₁ (tag .attributes) (At e) (Cdl clamp) (smallNumbers m) (ten st x) h)
+        rw (y, ← z, ← n) (finished-is s base m₀ m₁ (tag .attributes) (At e) (Cdl style) (smallNumbers m) (ten st x) h)
 
     pub cdl-node : NodeReads (ascCdl .run) s at base step m₀ m₁
     unfolding ascCdl finishedNode

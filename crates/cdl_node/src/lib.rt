@@ -7,6 +7,7 @@ ghost use Prim.Native.Nat.{_+_, _≤_};
 ghost use lib.Dec.{ltb};
 ghost use lib.ListN.{length};
 ghost use Rattle.decimal.specs.declared.Decimal as Decimals;
+ghost use Rattle.process_list.specs.declared.CdlStyle.the-variants.{Fwd, FwdNoClamp};
 ghost use Rattle.xml.specs.Bytes.{same};
 ghost use Rattle.xml.specs.Xml.{endTag};
 ghost use Rattle.xml.specs.Elements.{held};
@@ -20,6 +21,7 @@ ghost use Rattle.node_parts.specs.Held.{Goes, ReadsTo};
 ghost use Rattle.cdl_node.specs.Code as Code;
 use markup::Item;
 use node_parts::NodeStep;
+use process_list::CdlStyle;
 use process_list::Kind;
 use tags::TagEnd;
 use tags::TagKind;
@@ -383,6 +385,16 @@ fn cdl_followed(s: &[u8], end: TagEnd, coefficients: &mut [i64], powers: &mut [i
     }
 }
 
+// The style, by whether its text is "FwdNoClamp".
+fn cdl_style(unclamped: bool) -> CdlStyle
+    ensures { λ r. ⌜ r ≡ cond unclamped FwdNoClamp Fwd ⌝ }
+{
+    if unclamped {
+        return CdlStyle::FwdNoClamp;
+    }
+    CdlStyle::Fwd
+}
+
 // An ASC_CDL, behind its name.
 pub fn read_cdl(
     s: &[u8],
@@ -404,6 +416,6 @@ pub fn read_cdl(
         return node_parts::failed(scan, coefficients, powers, base);
     };
     node_parts::store_all(&small, &small_powers, coefficients, powers, base);
-    let clamp = !node_parts::style_is(s, attributes, b"FwdNoClamp");
-    node_parts::finished(s, attributes, scan, Kind::Cdl { clamp })
+    let style = cdl_style(node_parts::style_is(s, attributes, b"FwdNoClamp"));
+    node_parts::finished(s, attributes, scan, Kind::Cdl { style })
 }

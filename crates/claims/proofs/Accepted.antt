@@ -15,7 +15,7 @@ use Rattle.xml.specs.Xml.{Tag}
 use Rattle.xml.specs.Elements.{Part, misc, child, close, textElement, info}
 use Rattle.clf.specs.Nodes.{NodeName, isMatrix, isLut1d, isRange, isCdl, notCarried, noNode, nodeName, nodeBody}
 use Rattle.clf.specs.List.{Child, node, description, inputDescriptor, outputDescriptor, infoChild, Flags, noFlags, childBody, listItem, nextFlags, head, Document, listContent, document, tail}
-use Rattle.clf.specs.Reading.{accepted, withChild, withPart, nodesAmong, byVerdict, listReading, tailReading, textReading, readText}
+use Rattle.clf.specs.Reading.{accepted, withChild, withPart, nodesAmong, readingBy, listReading, tailReading, textReading, readText}
 use Rattle.claims.proofs.Always.{Holds, holds-ret, holds-bad, holds-cond, holds-strict, holds-kept, holds-seq, holds-then, TurnHolds, holds-loop}
 use Rattle.claims.proofs.Numbers.{Each, each-more, endTag-holds}
 use Rattle.claims.proofs.Held.{PartHolds, between-holds}
@@ -106,7 +106,7 @@ pub judged-same : (room : ℕ) (m l : List Element) → listReading room m ≡ a
 unfolding listReading
 judged-same room m l e = go (verdict room m) refl e
   where
-    go : (v : Verdict) → verdict room m ≡ v → byVerdict m v ≡ accepted l → (m ≡ l) × (verdict room m ≡ Accepted)
+    go : (v : Verdict) → verdict room m ≡ v → readingBy m v ≡ accepted l → (m ≡ l) × (verdict room m ≡ Accepted)
     go Accepted q z = (cc, q)
     go NoNode q z = nope cc
     go TooManyNodes q z = nope cc

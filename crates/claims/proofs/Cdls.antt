@@ -1,4 +1,5 @@
 -- What each ASC_CDL that is read is. Assumes nothing.
+use Rattle.process_list.specs.declared.CdlStyle.{CdlStyle}
 use mathlib.Core.Path.{_≡_, refl, sym, ap, _∙_, subst}
 use mathlib.Core.Bool.{Bool, true, false, cond, not}
 use mathlib.Core.List.{List, [], _∷_, _++_}
@@ -21,7 +22,7 @@ use Rattle.xml.specs.Bytes.{bytes, same}
 use Rattle.xml.specs.Xml.{textOf, Tag, startTag}
 use Rattle.xml.specs.Elements.{textElement}
 use Rattle.clf.specs.Numbers.{anyNumber, notBelowZero, onlyOne}
-use Rattle.clf.specs.Nodes.{orElse, holderRules, sopName, sopRule, sopHolder, sopNode, satHolder, satNode, CdlState, cdlBody, cdlHolder, oneNumber, threeTimes, sopNumbers, satNumbers, cdlNode, cdlRules, cdlContent, ascCdl}
+use Rattle.clf.specs.Nodes.{cdlStyle, orElse, holderRules, sopName, sopRule, sopHolder, sopNode, satHolder, satNode, CdlState, cdlBody, cdlHolder, oneNumber, threeTimes, sopNumbers, satNumbers, cdlNode, cdlRules, cdlContent, ascCdl}
 use Rattle.claims.proofs.Always.{Holds, holds-ret, holds-cond, holds-seq, holds-then}
 use Rattle.claims.proofs.Numbers.{Each, each-more, each-map, Carried, Kept, Counted, value-holds}
 use Rattle.claims.proofs.Held.{Ended, held-holds}
@@ -235,9 +236,9 @@ nine-length : (l : List Decimal) → Nine l → length l ≡ 9
 nine-length l n =
     ap length (n .is) ∙ length-append (n .a ++ n .b) (n .c) ∙ omega (arith, length-append (n .a) (n .b), n .slopes .count, n .offsets .count, n .powers .count)
 
-cdl-right : (clamp : Bool) (l m : List Decimal) → Nine l → Counted 1 notBelowZero m → Right (Cdl clamp) (l ++ m)
+cdl-right : (style : CdlStyle) (l m : List Decimal) → Nine l → Counted 1 notBelowZero m → Right (Cdl style) (l ++ m)
 unfolding shapeRight numbersOf rulesHold
-cdl-right clamp l m n k = record {
+cdl-right style l m n k = record {
   shape = refl;
   count = length-append l m ∙ omega (arith, nine-length l n, k .count);
   each = each-more Carried l m (nine-each l n) (each-map (Kept notBelowZero) Carried m (λ d k. k .carried) (k .kept));
@@ -249,4 +250,4 @@ unfolding ascCdl
 cdl-holds =
     holds-then (startTag cdlRules) (λ tag. holds-seq Begun (content-holds tag)
     (λ st i. holds-ret (sound-by (cdlNode (tag .attributes) st)
-    (cdl-right (not (same (textOf (bytes "style") (tag .attributes)) (bytes "FwdNoClamp"))) (sopNumbers st) (satNumbers st) (sop-there (st .sop) (i .sop)) (sat-there (st .sat) (i .sat))))))
+    (cdl-right (cdlStyle (textOf (bytes "style") (tag .attributes))) (sopNumbers st) (satNumbers st) (sop-there (st .sop) (i .sop)) (sat-there (st .sat) (i .sat))))))

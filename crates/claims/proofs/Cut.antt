@@ -15,6 +15,7 @@ use Rattle.claims.specs.Cut.{Behind, same, later, Longer, short, atFault
 use Rattle.claims.proofs.Tail.{Tailed, tail-law}
 use Rattle.claims.proofs.Tail as T
 use Rattle.claims.proofs.Refusals.{answered}
+use Rattle.claims.specs.Theorems.{CutLaw}
 
 -- a place stays as bytes are appended
 place-more : (s r t : List ℕ) → placeIn (s ++ t) (r ++ t) ≡ placeIn s r
@@ -77,5 +78,5 @@ by-answer room s (dones d c r e h) =
     (tail-law r)
 
 -- THE CUT LAW
-pub cut-law : (room : ℕ) (s : List ℕ) → Longer room s
+pub cut-law : CutLaw
 cut-law room s = by-answer room s (document .law s)

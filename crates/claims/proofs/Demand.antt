@@ -14,7 +14,7 @@ use Rattle.grammar.specs.Parse.{Out, done, fault, cut}
 use Rattle.clf.specs.Places.{nodeSpan}
 use Rattle.clf.specs.Reading.{Reading, accepted, faulty, unfit, mostBytes, placeIn, isNumbered, listReading, readText, read}
 use Rattle.clf.specs.Reading as R
-use Rattle.look.specs.Replacing.{element, Replacing, refused, byVerdict, listed, byElement, replace, listAfter}
+use Rattle.look.specs.Replacing.{element, Replacing, refused, replacingBy, listed, byElement, replace, listAfter}
 use Rattle.claims.specs.TriedFile.{asReplacing, spliced, Attempt, answers, tries, trying, attemptElement, attempt, settled, byAttempt, fileCall, listCall, NotBefore, InElement, AllInElement, SmallAttempt, Small, SameRun}
 use Rattle.claims.proofs.Sound.{and-true}
 use Rattle.claims.proofs.Spliced.{Opened, opened, spliced-done, spliced-fault}
@@ -33,8 +33,8 @@ module _ (room : ℕ) (s : List ℕ) (l : List Element) (old : readText room s �
   stays a n p q = record { answer = q; l = l; reads = old; same = refl }
 
   -- the list with the new node, judged
-  by-verdict : (at : ℕ) (t : List ℕ) (m : List Element) (v : Verdict) → readText room t ≡ R.byVerdict m v
-      → Agree room (settled at s t (R.byVerdict m v)) (byVerdict m v, listAfter l (byVerdict m v))
+  by-verdict : (at : ℕ) (t : List ℕ) (m : List Element) (v : Verdict) → readText room t ≡ R.readingBy m v
+      → Agree room (settled at s t (R.readingBy m v)) (replacingBy m v, listAfter l (replacingBy m v))
   by-verdict at t m Accepted q = record { answer = refl; l = m; reads = q; same = refl }
   by-verdict at t m NoNode q = stays (refused 12 0) 12 0 refl
   by-verdict at t m TooManyNodes q = stays (refused 11 33) 11 33 refl
@@ -46,7 +46,7 @@ module _ (room : ℕ) (s : List ℕ) (l : List Element) (old : readText room s �
   unfolding listReading listed
   by-list at t m q =
       let v : Verdict = verdict room m in
-      subst (λ (x : Reading). Agree room (settled at s t x) (byVerdict m v, listAfter l (byVerdict m v))) (sym q) (by-verdict at t m v q)
+      subst (λ (x : Reading). Agree room (settled at s t x) (replacingBy m v, listAfter l (replacingBy m v))) (sym q) (by-verdict at t m v q)
 
   module _ (k : ℕ) (e : List ℕ) (there : k - 1 < length l) where
     abbrev w : ℕ × ℕ
@@ -101,7 +101,7 @@ module _ (room : ℕ) (s : List ℕ) (l : List Element) (old : readText room s �
   unfolding listReading
   list-in at m = go (verdict room m)
     where
-      go : (v : Verdict) → NotBefore at (R.byVerdict m v)
+      go : (v : Verdict) → NotBefore at (R.readingBy m v)
       go Accepted = tt
       go NoNode = tt
       go TooManyNodes = tt

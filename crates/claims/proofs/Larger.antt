@@ -26,13 +26,13 @@ replaceAs room (refused n p) = refused n p
 
 listed-last : (room : ℕ) (es : List Element) → listed room es ≡ replaceAs room (listed mostNumbers es)
 unfolding listed verdict
-listed-last room es = ap (Replacing.byVerdict es) (room-last room (map nodeOf es)) ∙ go (judged mostNumbers (map nodeOf es))
+listed-last room es = ap (Replacing.replacingBy es) (room-last room (map nodeOf es)) ∙ go (judged mostNumbers (map nodeOf es))
   where
-    by : (b : Bool) → Replacing.byVerdict es (cond b TooManyNumbers Accepted) ≡ cond b (refused 13 0) (replaced es)
+    by : (b : Bool) → Replacing.replacingBy es (cond b TooManyNumbers Accepted) ≡ cond b (refused 13 0) (replaced es)
     by true = refl
     by false = refl
 
-    go : (v : Verdict) → Replacing.byVerdict es (inRoom room (counted es) v) ≡ replaceAs room (Replacing.byVerdict es v)
+    go : (v : Verdict) → Replacing.replacingBy es (inRoom room (counted es) v) ≡ replaceAs room (Replacing.replacingBy es v)
     go Accepted = by (ltb (min room mostNumbers) (counted es))
     go NoNode = refl
     go TooManyNodes = refl

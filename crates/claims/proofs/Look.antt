@@ -20,6 +20,7 @@ use Rattle.look.specs.Look.{Look, roomOf, holding, replaceIn, lookAfter}
 use Rattle.claims.specs.LookRuns.{readInto, lookRun, SameLook}
 use Rattle.claims.proofs.Rules.{Short, read-short, WholeElements, text-elements}
 use Rattle.claims.proofs.Demand.{Agree, one-call, read-small, call-small, stays-small, runs}
+use Rattle.claims.specs.Theorems.{Demand3OfLooks}
 
 -- ---- a look that holds the elements of an accepted reading
 
@@ -91,11 +92,14 @@ module _ (x : Look) where
       let d : replaceIn (holding x es) (c .0) (c .1) ≡ fileCall (read room) s c .0 = a ∙ sym (g .answer) in
       (λ j. d j ∷ i .0 j, i .1)
 
-  -- DEMAND 3
-  pub demand3-look : (s : List ℕ) (l : List Element) (calls : List (ℕ × List ℕ)) → read room s ≡ accepted l → Small (read room) s calls → SameLook x s calls
-  demand3-look s l calls e k =
+  look-runs : (s : List ℕ) (l : List Element) (calls : List (ℕ × List ℕ)) → read room s ≡ accepted l → Small (read room) s calls → SameLook x s calls
+  look-runs s l calls e k =
       let r : Short room s l = read-short room s l e in
       let i : Same (holding x l) s calls = looks calls s l (r .most) (r .text) k in
       let q : holding x l ≡ readInto x s = ap (λ (z : Reading). holding x (nodesIn z)) (sym e) in
       let j : Same (readInto x s) s calls = subst (λ (y : Look). Same y s calls) q i in
       record { answers = j .0; look = j .1; places = runs room calls s l (r .most) (r .text) k .places }
+
+-- DEMAND 3
+pub demand3-look : Demand3OfLooks
+demand3-look x s l calls e k = look-runs x s l calls e k

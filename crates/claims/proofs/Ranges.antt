@@ -1,4 +1,5 @@
 -- What each Range that is read is. Assumes nothing.
+use Rattle.process_list.specs.declared.RangeStyle.{RangeStyle}
 use mathlib.Core.Path.{_≡_, refl}
 use mathlib.Core.Bool.{Bool, true, false, cond, not}
 use mathlib.Core.List.{List, [], _∷_}
@@ -16,7 +17,7 @@ use Rattle.xml.specs.Bytes.{bytes, same}
 use Rattle.xml.specs.Xml.{textOf, startTag}
 use Rattle.xml.specs.Elements.{textElement}
 use Rattle.clf.specs.Numbers.{anyNumber}
-use Rattle.clf.specs.Nodes.{orElse, nodeRules, RangeState, rangeIndex, valueAt, allThere, inOrder, oneOf, rangeBody, rangeHolder, rangeTexts, rangeNode, range}
+use Rattle.clf.specs.Nodes.{rangeStyle, orElse, nodeRules, RangeState, rangeIndex, valueAt, allThere, inOrder, oneOf, rangeBody, rangeHolder, rangeTexts, rangeNode, range}
 use Rattle.claims.proofs.Always.{Holds, holds-ret, holds-cond, holds-seq, holds-then}
 use Rattle.claims.proofs.Numbers.{Each, Carried, Kept, Counted, value-holds}
 use Rattle.claims.proofs.Held.{Ended, held-holds}
@@ -70,9 +71,9 @@ in-order st e = go (allThere st) (inOrder st) refl e
     go true false q z = absurd (omega arith)
     go false b q z = absurd (omega arith)
 
-range-right : (clamp : Bool) (st : RangeState) → Begun st → inOrder st ≡ true → Right (Range clamp) (valueAt 0 st ∷ valueAt 1 st ∷ valueAt 2 st ∷ valueAt 3 st ∷ [])
+range-right : (style : RangeStyle) (st : RangeState) → Begun st → inOrder st ≡ true → Right (Range style) (valueAt 0 st ∷ valueAt 1 st ∷ valueAt 2 st ∷ valueAt 3 st ∷ [])
 unfolding shapeRight numbersOf rulesHold rangeHolds
-range-right clamp st v q =
+range-right style st v q =
     let at : (i : ℕ) → Carried (valueAt i st) = λ i. value-carried (getD (st .values) i none) (v i) in
     record { shape = refl; count = refl; each = (at 0, (at 1, (at 2, (at 3, tt)))); rules = q }
 
@@ -82,4 +83,4 @@ range-holds =
     holds-then (startTag (nodeRules (λ w. 0) rangeTexts))
     (λ tag. holds-seq (Ended rangeHolder Begun (λ st v w h q. body-holds st v w)) (held-holds rangeHolder Begun (λ st v w h q. body-holds st v w) none-yet)
     (λ st e. holds-ret (sound-by (rangeNode (tag .attributes) st)
-    (range-right (not (same (textOf (bytes "style") (tag .attributes)) (bytes "noClamp"))) st (e .state) (in-order st (e .nothing))))))
+    (range-right (rangeStyle (textOf (bytes "style") (tag .attributes))) st (e .state) (in-order st (e .nothing))))))

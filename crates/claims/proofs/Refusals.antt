@@ -19,13 +19,14 @@ use Rattle.xml.specs.Xml.{isNamed, Tag, strayEnd}
 use Rattle.xml.specs.Elements.{Part, between, info}
 use Rattle.clf.specs.Nodes.{NodeName, nodeName, nodeFault, nodeBody}
 use Rattle.clf.specs.List.{declaration, node, description, inputDescriptor, outputDescriptor, infoChild, Flags, noFlags, childFault, childBody, listItem, nextFlags, listRules, rootFault, toRoot, prologue, head, Document, listContent, document, onward, tailPart, tail}
-use Rattle.clf.specs.Reading.{Reading, accepted, faulty, mostBytes, readingNumber, nodesAmong, placeIn, byVerdict, listReading, tailReading, textReading, readText, read}
+use Rattle.clf.specs.Reading.{Reading, accepted, faulty, mostBytes, readingNumber, nodesAmong, placeIn, readingBy, listReading, tailReading, textReading, readText, read}
 use Rattle.claims.specs.Refusals.{isTextFault, isListFault, Answered, whole, short, text, list}
 use Rattle.look.specs.Replacing.{start, element}
 use Rattle.claims.proofs.Faults.{fair-zero, fair-by, fair-cond, blames-ret, blames-bad, blames-cond, blames-strict, blames-blame, blames-kept, blames-word, blames-seq, blames-loop}
 use Rattle.claims.proofs.Blamed.{Textual, Well, Right, three, five, RightRules, startTag-well, endTag-well, strayEnd-well, between-well, textElement-well, info-well}
 use Rattle.claims.proofs.BlamedNodes.{eight, name-right, node-well}
 use Rattle.claims.proofs.Element.{start-blames}
+use Rattle.claims.specs.Theorems.{AnswersNumbered}
 
 -- ---- the document
 
@@ -109,7 +110,7 @@ tail-well s k r e = tail-all (suc (length s)) s k r (omega arith) e
 
 -- ---- reading
 
-by-verdict : (n : ℕ) (l : List Element) (v : Verdict) → Answered n (byVerdict l v)
+by-verdict : (n : ℕ) (l : List Element) (v : Verdict) → Answered n (readingBy l v)
 by-verdict n l Accepted = whole l
 by-verdict n l NoNode = list 12 0 refl
 by-verdict n l TooManyNodes = list 11 33 refl
@@ -131,7 +132,7 @@ by-document room s (fault k r) q = text k (placeIn s r) (document-well .number s
 by-document room s cut q = short
 
 -- THE NUMBERS OF A READING: 1 is given at the length and nowhere else, and no other number than those of document 01 is given
-pub answered : (room : ℕ) (s : List ℕ) → Answered (length s) (readText room s)
+pub answered : AnswersNumbered
 unfolding readText
 answered room s = by-document room s (document .run s) refl
 

@@ -20,6 +20,7 @@ use Rattle.claims.specs.Rules.{Allowed}
 use Rattle.claims.proofs.Numbers.{Each}
 use Rattle.claims.proofs.Sound.{every-true}
 use Rattle.claims.proofs.Accepted.{SoundNode, Whole, text-whole}
+use Rattle.claims.specs.Theorems.{AcceptedKeepsRules, AcceptedIsValid}
 
 -- what is accepted is at most 16 MiB, and accepted without that limit
 pub record Short (room : ℕ) (s : List ℕ) (l : List Element) : Type 0 where
@@ -61,11 +62,11 @@ whole-rules room l w =
 pub accepted-text-rules : (room : ℕ) (s : List ℕ) (l : List Element) → readText room s ≡ accepted l → Allowed room l
 accepted-text-rules room s l e = whole-rules room l (text-elements room s l e)
 
-pub accepted-rules : (room : ℕ) (s : List ℕ) (l : List Element) → read room s ≡ accepted l → Allowed room l
+pub accepted-rules : AcceptedKeepsRules
 accepted-rules room s l e = accepted-text-rules room s l (read-short room s l e .text)
 
 -- READ IMPLIES VALID: the list, and the room m, as an accepted reading leaves them
-pub accepted-valid : (m : Room) (s : List ℕ) (l : List Element) → read (roomLength m) s ≡ accepted l → isValid (listOf (placed l)) (filledWith (allNumbers l) m) ≡ true
+pub accepted-valid : AcceptedIsValid
 accepted-valid m s l e =
     let w : WholeElements (roomLength m) l = text-elements (roomLength m) s l (read-short (roomLength m) s l e .text) in
     made m l (w .sounds) (w .fits)

@@ -3,3 +3,4 @@ pub mod Cut
 pub mod Rules
 pub mod TriedFile
 pub mod LookRuns
+pub mod Theorems

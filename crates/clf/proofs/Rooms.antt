@@ -14,7 +14,7 @@ use Rattle.process_list.proofs.RoomLast.{inRoom, room-last}
 use Rattle.grammar.specs.Parse.{Out, done, fault, cut}
 use Rattle.grammar.specs.Laws.{nope}
 use Rattle.clf.specs.List.{Document, document, tail}
-use Rattle.clf.specs.Reading.{Reading, accepted, faulty, unfit, byVerdict, listReading, tailReading, textReading, readText, read, mostBytes, nodesAmong}
+use Rattle.clf.specs.Reading.{Reading, accepted, faulty, unfit, readingBy, listReading, tailReading, textReading, readText, read, mostBytes, nodesAmong}
 
 -- how many numbers the nodes have, by their kinds
 abbrev pub numberCount : List Element → ℕ
@@ -26,10 +26,10 @@ readIn room (accepted l) = cond (ltb (min room mostNumbers) (numberCount l)) (un
 readIn room (faulty k p) = faulty k p
 readIn room (unfit k p) = unfit k p
 
-by-verdict : (room : ℕ) (l : List Element) (v : Verdict) → byVerdict l (inRoom room (numberCount l) v) ≡ readIn room (byVerdict l v)
+by-verdict : (room : ℕ) (l : List Element) (v : Verdict) → readingBy l (inRoom room (numberCount l) v) ≡ readIn room (readingBy l v)
 by-verdict room l Accepted = by (ltb (min room mostNumbers) (numberCount l))
   where
-    by : (t : Bool) → byVerdict l (cond t TooManyNumbers Accepted) ≡ cond t (unfit 13 0) (accepted l)
+    by : (t : Bool) → readingBy l (cond t TooManyNumbers Accepted) ≡ cond t (unfit 13 0) (accepted l)
     by true = refl
     by false = refl
 by-verdict room l NoNode = refl
@@ -39,7 +39,7 @@ by-verdict room l TooManyNumbers = refl
 
 list-in : (room : ℕ) (l : List Element) → listReading room l ≡ readIn room (listReading mostNumbers l)
 unfolding listReading verdict
-list-in room l = ap (byVerdict l) (room-last room (map nodeOf l)) ∙ by-verdict room l (judged mostNumbers (map nodeOf l))
+list-in room l = ap (readingBy l) (room-last room (map nodeOf l)) ∙ by-verdict room l (judged mostNumbers (map nodeOf l))
 
 text-in : (room : ℕ) (s : List ℕ) (o : Out Document) → textReading room s o ≡ readIn room (textReading mostNumbers s o)
 text-in room s (done d r) = by (tail r)

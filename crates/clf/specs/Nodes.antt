@@ -11,6 +11,10 @@ use Rattle.decimal.specs.Decimal as Decimals
 use Rattle.decimal_value.specs.Value.{less, atMost}
 use Rattle.process_list.specs.declared.Depth.{Depth}
 use Rattle.process_list.specs.declared.Depth.the-variants.{I8, I10, I12, I16, F16, F32}
+use Rattle.process_list.specs.declared.RangeStyle.{RangeStyle}
+use Rattle.process_list.specs.declared.RangeStyle.the-variants.{Clamp, NoClamp}
+use Rattle.process_list.specs.declared.CdlStyle.{CdlStyle}
+use Rattle.process_list.specs.declared.CdlStyle.the-variants.{Fwd, FwdNoClamp}
 use Rattle.process_list.specs.declared.Kind.{Kind}
 use Rattle.process_list.specs.declared.Kind.the-variants.{Matrix, Lut1d, Range, Cdl}
 use Rattle.process_list.specs.List.{Element, numbersOf}
@@ -47,6 +51,7 @@ nodeTexts rest w t = cond (same w (bytes "inBitDepth") || same w (bytes "outBitD
 abbrev pub nodeMissing : List Attribute → ℕ
 nodeMissing l = cond (isNamed (bytes "inBitDepth") l && isNamed (bytes "outBitDepth") l) 0 8
 
+-- the depth of the attribute of this name. It is there and right, or the start tag is at fault (`nodeMissing`, `nodeTexts`): the default is never taken
 abbrev pub depthAt : List ℕ → List Attribute → Depth
 depthAt w l = orElse I8 (depthOf (textOf w l))
 
@@ -100,6 +105,7 @@ arrayRules shape = record {
 abbrev pub Table : Type 0
 Table = Kind × List Decimal
 
+-- the numbers of an Array of this shape. A `dim` of no shape is 8 in the start tag already, so that `none` does not come here
 abbrev pub arrayOf : Option Kind → G Table
 arrayOf none = bad 8
 arrayOf (some k) = seq (numbers (bytes "Array") (numbersOf k) anyNumber) (λ l. ret (k, l))
@@ -130,6 +136,7 @@ arrayHolder w shape = record {
   body = arrayBody shape;
 }
 
+-- the node of a table. An Array that is missing is 5 at the end tag (`arrayHolder`): the default is never taken
 abbrev pub tableNode : List Attribute → ArrayState → Element
 tableNode l st = let t = orElse (Matrix false, []) (st .table) in elementWith l (t .0) (t .1)
 
@@ -169,9 +176,11 @@ pub record RangeState : Type 0 where
 abbrev pub noValues : RangeState
 noValues = record { values = none ∷ none ∷ none ∷ none ∷ [] }
 
+-- whether the value of index i has been there; the indices are 0 to 3, so that `none` behind the list's end is never taken
 abbrev pub isThere : ℕ → RangeState → Bool
 isThere i st = isSome (getD (st .values) i none)
 
+-- the value of index i. It is asked for at the end tag, once all four are there (`rangeHolder`): the default is never taken
 abbrev pub valueAt : ℕ → RangeState → Decimal
 valueAt i st = orElse Decimals.zero (getD (st .values) i none)
 
@@ -190,7 +199,7 @@ rangeFault st w =
     cond (same w (bytes "Description")) (cond (anyThere st) 5 0)
     (cond (ltb (rangeIndex w) 4) (cond (isThere (rangeIndex w) st) 5 0) 5)
 
--- the number of a value element
+-- the number of a value element, which has exactly one (`valueElement w 1`): an empty list does not come here
 abbrev pub oneOf : List Decimal → Decimal
 oneOf [] = Decimals.zero
 oneOf (d ∷ l) = d
@@ -214,9 +223,13 @@ rangeHolder = record {
 abbrev pub rangeTexts : List ℕ → List ℕ → ℕ
 rangeTexts w t = cond (same w (bytes "style")) (cond (same t (bytes "Clamp") || same t (bytes "noClamp")) 0 8) 0
 
+-- the style by its text, which has been judged: what is not "noClamp" is "Clamp", or absent
+abbrev pub rangeStyle : List ℕ → RangeStyle
+rangeStyle t = cond (same t (bytes "noClamp")) NoClamp Clamp
+
 abbrev pub rangeNode : List Attribute → RangeState → Element
 rangeNode l st =
-    elementWith l (Range (not (same (textOf (bytes "style") l) (bytes "noClamp")))) (valueAt 0 st ∷ valueAt 1 st ∷ valueAt 2 st ∷ valueAt 3 st ∷ [])
+    elementWith l (Range (rangeStyle (textOf (bytes "style") l))) (valueAt 0 st ∷ valueAt 1 st ∷ valueAt 2 st ∷ valueAt 3 st ∷ [])
 
 unfoldable pub range : G Element
 range = do
@@ -302,8 +315,12 @@ sopNumbers st = orElse (threeTimes oneNumber ++ threeTimes Decimals.zero ++ thre
 abbrev pub satNumbers : CdlState → List Decimal
 satNumbers st = orElse (oneNumber ∷ []) (st .sat)
 
+-- the style by its text, which has been judged: what is not "FwdNoClamp" is "Fwd", or absent
+abbrev pub cdlStyle : List ℕ → CdlStyle
+cdlStyle t = cond (same t (bytes "FwdNoClamp")) FwdNoClamp Fwd
+
 abbrev pub cdlNode : List Attribute → CdlState → Element
-cdlNode l st = elementWith l (Cdl (not (same (textOf (bytes "style") l) (bytes "FwdNoClamp")))) (sopNumbers st ++ satNumbers st)
+cdlNode l st = elementWith l (Cdl (cdlStyle (textOf (bytes "style") l))) (sopNumbers st ++ satNumbers st)
 
 -- an ASC_CDL may be empty
 abbrev pub cdlRules : Rules
@@ -346,7 +363,7 @@ nodeFault isCdl = 0
 nodeFault notCarried = 7
 nodeFault noNode = 5
 
--- a node after its name
+-- a node after its name. One that is not carried, and a name that is none, is at fault at its `<` already (`nodeFault`): the last two are never taken
 abbrev pub nodeBody : NodeName → G Element
 nodeBody isMatrix = matrix
 nodeBody isLut1d = lut1d

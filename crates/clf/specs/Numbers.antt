@@ -23,7 +23,7 @@ endsToken b = isSpace b || eqb b lessThan
 unfoldable pub token : G ((Unit {0}) × List ℕ)
 token = text endsToken
 
--- the number that a token says; zero where it says none
+-- the number that a token says. One that says none is at fault (`faultOf`), so that the zero is never taken
 abbrev pub saidBy : Token → Decimal
 saidBy (Number d) = d
 saidBy Malformed = Decimals.zero

@@ -6,8 +6,7 @@ use lib.Dec.{ltb, leb}
 use lib.ListN.{length}
 use Rattle.decimal.specs.declared.Decimal.{Decimal}
 use Rattle.process_list.specs.declared.Verdict.{Verdict}
-use Rattle.process_list.specs.declared.Verdict.the-variants.{Accepted, NoNode, TooManyNodes, DepthDiffers, TooManyNumbers}
-use Rattle.process_list.specs.List.{Element, verdict, verdictNumber, verdictPlace, mostNumbers}
+use Rattle.process_list.specs.List.{Element, verdict, byVerdict, mostNumbers}
 use Rattle.grammar.specs.Parse.{Out, done, fault, cut}
 use Rattle.xml.specs.Elements.{Part, misc, child, close}
 use Rattle.clf.specs.List.{Child, node, description, inputDescriptor, outputDescriptor, infoChild, Document, document, tail}
@@ -43,16 +42,12 @@ nodesAmong (x ∷ l) = withPart (x .0) (nodesAmong l)
 abbrev pub placeIn : List ℕ → List ℕ → ℕ
 placeIn s r = length s - length r
 
-abbrev pub byVerdict : List Element → Verdict → Reading
-byVerdict l Accepted = accepted l
-byVerdict l NoNode = unfit (verdictNumber NoNode) (verdictPlace NoNode)
-byVerdict l TooManyNodes = unfit (verdictNumber TooManyNodes) (verdictPlace TooManyNodes)
-byVerdict l (DepthDiffers k) = unfit (verdictNumber (DepthDiffers k)) (verdictPlace (DepthDiffers k))
-byVerdict l TooManyNumbers = unfit (verdictNumber TooManyNumbers) (verdictPlace TooManyNumbers)
+abbrev pub readingBy : List Element → Verdict → Reading
+readingBy l = byVerdict (accepted l) unfit
 
 -- the finished list, for a room of this length
 unfoldable pub listReading : ℕ → List Element → Reading
-listReading room l = byVerdict l (verdict room l)
+listReading room l = readingBy l (verdict room l)
 
 abbrev pub tailReading : ℕ → List ℕ → Document → Out (Unit {0}) → Reading
 tailReading room s d (done u r) = listReading room (nodesAmong (d .parts))

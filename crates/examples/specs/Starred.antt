@@ -12,6 +12,8 @@ use Rattle.decimal.specs.Decimal.{zero}
 use Rattle.decimal_read.specs.Number.{tokenOf}
 use Rattle.decimal_value.specs.Value.{valueOf}
 use Rattle.process_list.specs.declared.Depth.the-variants.{F32}
+use Rattle.process_list.specs.declared.RangeStyle.the-variants.{Clamp}
+use Rattle.process_list.specs.declared.CdlStyle.the-variants.{Fwd}
 use Rattle.process_list.specs.declared.Kind.{Kind}
 use Rattle.process_list.specs.declared.Kind.the-variants.{Matrix, Lut1d, Range, Cdl}
 use Rattle.process_list.specs.List.{Element, placed, allNumbers, listOf}
@@ -80,11 +82,11 @@ lut1d = at32f (Lut1d 3 1) ("0" ∷ "0.25" ∷ "1" ∷ [])
 
 -- 'Range above', the one of the written form: minIn, maxIn, minOut, maxOut
 abbrev pub rangeAbove : Element
-rangeAbove = at32f (Range true) ("0" ∷ "1" ∷ "0" ∷ "5e-1" ∷ [])
+rangeAbove = at32f (Range Clamp) ("0" ∷ "1" ∷ "0" ∷ "5e-1" ∷ [])
 
 -- 'CDL slope 2, offset -0.25'; Power and Saturation are absent and read as 1
 abbrev pub cdl : Element
-cdl = at32f (Cdl true) ("2" ∷ "2" ∷ "2" ∷ "-0.25" ∷ "-0.25" ∷ "-0.25" ∷ "1" ∷ "1" ∷ "1" ∷ "1" ∷ [])
+cdl = at32f (Cdl Fwd) ("2" ∷ "2" ∷ "2" ∷ "-0.25" ∷ "-0.25" ∷ "-0.25" ∷ "1" ∷ "1" ∷ "1" ∷ "1" ∷ [])
 
 -- 'Gain 2', row by row
 abbrev pub gain : Element
@@ -92,7 +94,7 @@ gain = at32f (Matrix false) ("2" ∷ "0" ∷ "0" ∷ "0" ∷ "2" ∷ "0" ∷ "0"
 
 -- 'Clamp 0..1'
 abbrev pub clamp : Element
-clamp = at32f (Range true) ("0" ∷ "1" ∷ "0" ∷ "1" ∷ [])
+clamp = at32f (Range Clamp) ("0" ∷ "1" ∷ "0" ∷ "1" ∷ [])
 
 -- ---- the table
 

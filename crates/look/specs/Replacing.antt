@@ -5,8 +5,7 @@ use Prim.Native.Nat.{ℕ, _-_}
 use lib.Dec.{eqb, leb, ltb}
 use lib.ListN.{length, set}
 use Rattle.process_list.specs.declared.Verdict.{Verdict}
-use Rattle.process_list.specs.declared.Verdict.the-variants.{Accepted, NoNode, TooManyNodes, DepthDiffers, TooManyNumbers}
-use Rattle.process_list.specs.List.{Element, verdict, verdictNumber, verdictPlace}
+use Rattle.process_list.specs.List.{Element, verdict, byVerdict}
 use Rattle.grammar.specs.Parse.{Out, done, fault, cut}
 use Rattle.grammar.specs.Grammar.{G, ret, bad, look, judge, blame, eat, seq, _>>_}
 use Rattle.xml.specs.Bytes.{bytes, isNameByte, lessThan}
@@ -52,16 +51,12 @@ pub data Replacing : Type 0 where
 
 -- ---- by the list alone: 'Replacing: 16, 19, 4 (the element alone), then the element's own fault, then 10, 13'. The list is a reading, so 16 does not arise
 
-abbrev pub byVerdict : List Element → Verdict → Replacing
-byVerdict es Accepted = replaced es
-byVerdict es NoNode = refused (verdictNumber NoNode) (verdictPlace NoNode)
-byVerdict es TooManyNodes = refused (verdictNumber TooManyNodes) (verdictPlace TooManyNodes)
-byVerdict es (DepthDiffers k) = refused (verdictNumber (DepthDiffers k)) (verdictPlace (DepthDiffers k))
-byVerdict es TooManyNumbers = refused (verdictNumber TooManyNumbers) (verdictPlace TooManyNumbers)
+abbrev pub replacingBy : List Element → Verdict → Replacing
+replacingBy es = byVerdict (replaced es) refused
 
 -- the list with its new element, for a room of this length
 unfoldable pub listed : ℕ → List Element → Replacing
-listed room es = byVerdict es (verdict room es)
+listed room es = replacingBy es (verdict room es)
 
 -- by what the element alone is: 'bytes after' are 20 at the first of them; a place is counted in the element
 abbrev pub byElement : ℕ → List Element → ℕ → List ℕ → Out Element → Replacing

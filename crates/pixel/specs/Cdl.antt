@@ -1,11 +1,12 @@
 -- Document 01, ASC_CDL: 'fraction; x·slope + offset, held in 0..1 for Fwd; if Saturation is not 1: luma = 0.2126·r + 0.7152·g + 0.0722·b, luma + sat·(x − luma), held likewise; then times the out scale.'
 -- Only Power 1 is carried, so no power is taken.
 use mathlib.Core.Bool.{Bool, cond}
-use lib.Ieee.{Float, binary64, eq, ofBits}
+use Prim.Native.Nat.{ℕ}
+use lib.Ieee.{Float, eq}
 use Rattle.pixel.specs.declared.Pixel.{Pixel}
 use Rattle.pixel.specs.declared.Fraction.{Fraction}
 use Rattle.pixel.specs.declared.Fractions.{Fractions}
-use Rattle.pixel.specs.F64.{_⊕_, _⊖_, _⊗_, zero, one}
+use Rattle.pixel.specs.F64.{_⊕_, _⊖_, _⊗_, _⊘_, zero, one, whole}
 use Rattle.pixel.specs.Hold.{hold}
 use Rattle.pixel.specs.Scale.{toFractions, toCodeValues}
 
@@ -24,15 +25,18 @@ sopPixel slopeR slopeG slopeB offsetR offsetG offsetB clamp x = record {
   b = sop slopeB offsetB clamp (x .b);
 }
 
--- 0.2126, 0.7152 and 0.0722: each the f64 nearest to it
+-- 0.2126, 0.7152 and 0.0722, each as so many ten-thousandths: one division of two whole numbers rounds once, to the f64 nearest to the decimal
+unfoldable pub tenThousandths : ℕ → Float
+tenThousandths n = whole n ⊘ whole 10000
+
 abbrev pub redWeight : Float
-redWeight = ofBits binary64 0x3fcb_367a_0f90_96bc
+redWeight = tenThousandths 2126
 
 abbrev pub greenWeight : Float
-greenWeight = ofBits binary64 0x3fe6_e2eb_1c43_2ca5
+greenWeight = tenThousandths 7152
 
 abbrev pub blueWeight : Float
-blueWeight = ofBits binary64 0x3fb2_7bb2_fec5_6d5d
+blueWeight = tenThousandths 722
 
 -- 'luma = 0.2126·r + 0.7152·g + 0.0722·b'
 unfoldable pub luma : Fractions → Fraction

@@ -7,7 +7,7 @@ use Rattle.pixel.specs.declared.Pixel.{Pixel}
 use Rattle.pixel.specs.declared.CodeValue.{CodeValue}
 use Rattle.pixel.specs.F64.{_⊕_, _⊗_}
 
--- one row a1 a2 a3 k; wide says that the Matrix is 3x4
+-- one row a1 a2 a3 k; wide says that the Matrix is 3x4. The code hands over arrays of three rows of four, so that each index has its number and the defaults (`nan`, the empty row) are never taken
 unfoldable pub rowOut : List Float → Bool → Pixel → CodeValue
 rowOut row wide x =
     let sum = x .r ⊗ getD row 0 nan ⊕ x .g ⊗ getD row 1 nan ⊕ x .b ⊗ getD row 2 nan in

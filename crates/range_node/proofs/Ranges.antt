@@ -1,4 +1,5 @@
 -- The children of a Range, its content and the node, by their parts. Assumes nothing.
+use Rattle.process_list.specs.declared.RangeStyle.{RangeStyle}
 use mathlib.Core.Path.{_≡_, refl, sym, ap, _∙_}
 use mathlib.Core.Bool.{Bool, true, false, not}
 use mathlib.Core.List.{List, [], _∷_, map}
@@ -25,7 +26,7 @@ use Rattle.tags.specs.Ended.{tagOf}
 use Rattle.tags.specs.declared.StartTag.{StartTag}
 use Rattle.values.specs.Code.{Laid, NumbersRead}
 use Rattle.clf.specs.Numbers.{valueElement, anyNumber}
-use Rattle.clf.specs.Nodes.{isSome, orElse, oneOf, RangeState, noValues, rangeIndex, rangeBody, rangeFault, rangeHolder, rangeTexts, rangeNode, nodeRules, range}
+use Rattle.clf.specs.Nodes.{isSome, orElse, oneOf, RangeState, noValues, rangeIndex, rangeBody, rangeFault, rangeHolder, rangeTexts, rangeStyle, rangeNode, nodeRules, range}
 use Rattle.node_parts.specs.Code.{NumbersIn, finishedNode, noNode, smallNumbers, NodeReads}
 use Rattle.node_parts.specs.Held.{Went, Goes, HeldAt, ReadsTo}
 use Rattle.node_parts.specs.declared.NodeStep.{NodeStep}
@@ -133,16 +134,16 @@ module _ (s : List ℕ) (at base : ℕ) (tag : StartTag) where
     content-failed f z y =
         node-failed (bindP opens rest-of) s at base (c .scan) step m₀ m₁ (λ n. Unit {0}) (Unit {0}) f z y (whole (λ n. Unit {0}) (λ st x. tt))
 
-    module _ (e : ℕ) (i : c .scan ≡ At e) (clamp : Bool) (z : clamp ≡ not (same (textOf (bytes "style") (attributesOf s (tag .attributes))) (bytes "noClamp")))
-        (h : Laid base (smallNumbers m) m₀ m₁) (y : step ≡ finishedNode s (tag .attributes) (At e) (Range clamp)) where
-      four : length (smallNumbers m) ≡ 4 → length (smallNumbers m) ≡ numbersOf (Range clamp)
+    module _ (e : ℕ) (i : c .scan ≡ At e) (style : RangeStyle) (z : style ≡ rangeStyle (textOf (bytes "style") (attributesOf s (tag .attributes))))
+        (h : Laid base (smallNumbers m) m₀ m₁) (y : step ≡ finishedNode s (tag .attributes) (At e) (Range style)) where
+      four : length (smallNumbers m) ≡ 4 → length (smallNumbers m) ≡ numbersOf (Range style)
       unfolding numbersOf
       four x = x
 
       is : (st : RangeState) → RangeStands m c st → NodeIs base step m₀ m₁ (rangeNode (attributesOf s (tag .attributes)) st)
       is st x =
           let n = numbers m c st x in
-          rw (y, ← z, ← n) (finished-is s base m₀ m₁ (tag .attributes) (At e) (Range clamp) (smallNumbers m) (four (ap length n)) h)
+          rw (y, ← z, ← n) (finished-is s base m₀ m₁ (tag .attributes) (At e) (Range style) (smallNumbers m) (four (ap length n)) h)
 
       pub range-node : NodeReads (range .run) s at base step m₀ m₁
       unfolding range finishedNode

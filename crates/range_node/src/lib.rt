@@ -1,7 +1,8 @@
 // Range: Descriptions, then four values in any order.
 ghost use Rattle.process_list.specs.List.{Element};
 ghost use mathlib.Core.Path.{_≡_};
-ghost use mathlib.Core.Bool.{true};
+ghost use mathlib.Core.Bool.{true, cond};
+ghost use Rattle.process_list.specs.declared.RangeStyle.the-variants.{Clamp, NoClamp};
 ghost use Prim.Native.Nat.{_+_, _≤_};
 ghost use lib.ListN.{length, set};
 ghost use Rattle.xml.specs.Elements.{held};
@@ -13,6 +14,7 @@ ghost use Rattle.range_node.specs.Code as Code;
 use markup::Item;
 use node_parts::NodeStep;
 use process_list::Kind;
+use process_list::RangeStyle;
 use tags::TagKind;
 use values::Rule;
 use xml::Scan;
@@ -225,6 +227,16 @@ fn range_content(s: &[u8], at: usize, coefficients: &mut [i64], powers: &mut [i8
     range_with(state, Scan::Cut)
 }
 
+// The style, by whether its text is "noClamp".
+fn range_style(unclamped: bool) -> RangeStyle
+    ensures { λ r. ⌜ r ≡ cond unclamped NoClamp Clamp ⌝ }
+{
+    if unclamped {
+        return RangeStyle::NoClamp;
+    }
+    RangeStyle::Clamp
+}
+
 // A Range, behind its name.
 pub fn read_range(
     s: &[u8],
@@ -250,6 +262,6 @@ pub fn read_range(
         return node_parts::failed(scan, coefficients, powers, base);
     };
     node_parts::store_all(&small, &small_powers, coefficients, powers, base);
-    let clamp = !node_parts::style_is(s, attributes, b"noClamp");
-    node_parts::finished(s, attributes, scan, Kind::Range { clamp })
+    let style = range_style(node_parts::style_is(s, attributes, b"noClamp"));
+    node_parts::finished(s, attributes, scan, Kind::Range { style })
 }

@@ -14,7 +14,7 @@ use Rattle.process_list.proofs.Laws.{capped-exact}
 use Rattle.process_list.proofs.Lists.{list-nodes, list-count, total-place, placed-length, heads-length, Fine, accepted-fine}
 use Rattle.grammar.specs.Parse.{Out, done, fault, cut}
 use Rattle.clf.specs.List.{Document, document, tail}
-use Rattle.clf.specs.Reading.{Reading, accepted, faulty, unfit, byVerdict, listReading, tailReading, textReading, readText, read, mostBytes}
+use Rattle.clf.specs.Reading.{Reading, accepted, faulty, unfit, readingBy, listReading, tailReading, textReading, readText, read, mostBytes}
 use Rattle.reading.specs.declared.Answer.{Answer}
 use Rattle.reading.specs.Code.{readingAnswer}
 use Rattle.reading.specs.Counts.{nodeCount, numberCount}
@@ -25,7 +25,7 @@ Judged room (accepted l) = verdict room l ≡ Accepted
 Judged room (faulty k p) = Unit {0}
 Judged room (unfit k p) = Unit {0}
 
-by-verdict : (room : ℕ) (l : List Element) (v : Verdict) → verdict room l ≡ v → Judged room (byVerdict l v)
+by-verdict : (room : ℕ) (l : List Element) (v : Verdict) → verdict room l ≡ v → Judged room (readingBy l v)
 by-verdict room l Accepted e = e
 by-verdict room l NoNode e = tt
 by-verdict room l TooManyNodes e = tt

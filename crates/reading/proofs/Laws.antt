@@ -26,7 +26,7 @@ use Rattle.xml.specs.declared.Scan.the-variants as Scans
 use Rattle.xml.specs.Code.{scanOut, Inside}
 use Rattle.clf.specs.List.{Document, document, tail}
 use Rattle.clf.specs.Places.{nodeSpan}
-use Rattle.clf.specs.Reading.{Reading, accepted, faulty, unfit, mostBytes, nodesIn, nodesAmong, placeIn, byVerdict, listReading, tailReading, textReading, readText, read, readAlone, askedFor, descriptionAsked}
+use Rattle.clf.specs.Reading.{Reading, accepted, faulty, unfit, mostBytes, nodesIn, nodesAmong, placeIn, readingBy, listReading, tailReading, textReading, readText, read, readAlone, askedFor, descriptionAsked}
 use Rattle.clf.specs.Whole.{wholeNodes, wholePlace}
 use Rattle.clf.specs.Description.{noPart, partFrom, partAsked, descriptionPart}
 use Rattle.clf.proofs.Whole.{document-whole, place-whole}
@@ -68,7 +68,7 @@ place-back s p h = omega (arith, length-drop p s)
 
 -- ---- the verdict over the list
 
-list-judged : (l : List Element) (v : Verdict) → judgedOf (byVerdict l v) ≡ Code.byVerdict v
+list-judged : (l : List Element) (v : Verdict) → judgedOf (readingBy l v) ≡ Code.judgedBy v
 list-judged l Verdicts.Accepted = refl
 list-judged l Verdicts.NoNode = refl
 list-judged l Verdicts.TooManyNodes = refl
@@ -101,10 +101,10 @@ module _ (wanted : ℕ) (s : List ℕ) (st : ListState) (e : st ≡ stateOf want
 
 module _ (wanted : ℕ) (s : List ℕ) (r : ListStep) (m₀ m₁ : Room) (h : ListReads wanted s r m₀ m₁) (room : ℕ) where
   judged-go : (x : Scan) → scanOut (λ e. wholeNodes s) s x ≡ textNodes s → Inside 0 s 0 x
-      → judgedScan (length s) x (Code.byVerdict (cond (r .state .over) Verdicts.TooManyNodes (Lists.judged room (Lists.nodesOf (r .state .list))))) ≡ judgedOf (readText room s)
+      → judgedScan (length s) x (Code.judgedBy (cond (r .state .over) Verdicts.TooManyNodes (Lists.judged room (Lists.nodesOf (r .state .list))))) ≡ judgedOf (readText room s)
   unfolding listReading
   judged-go (Scans.At e) q b =
-      ap Code.byVerdict (seen wanted s (r .state) (h .state) room)
+      ap Code.judgedBy (seen wanted s (r .state) (h .state) room)
       ∙ sym (ap judgedOf (text-by room s ∙ ap (byNodes room s) (sym q)) ∙ list-judged (wholeNodes s) (Lists.verdict room (wholeNodes s)))
   judged-go (Scans.Fault k p) q b = sym (ap judgedOf (text-by room s ∙ ap (byNodes room s) (sym q)) ∙ ap (Refused k) (place-back s p (b .1)))
   judged-go Scans.Cut q b = sym (ap judgedOf (text-by room s ∙ ap (byNodes room s) (sym q)))
@@ -115,7 +115,7 @@ module _ (wanted : ℕ) (s : List ℕ) (r : ListStep) (m₀ m₁ : Room) (h : Li
 
 -- ---- an accepted text
 
-verdict-accepted : (l : List Element) (v : Verdict) → judgedOf (byVerdict l v) ≡ Accepted → (byVerdict l v ≡ accepted l) × (v ≡ Verdicts.Accepted)
+verdict-accepted : (l : List Element) (v : Verdict) → judgedOf (readingBy l v) ≡ Accepted → (readingBy l v ≡ accepted l) × (v ≡ Verdicts.Accepted)
 verdict-accepted l Verdicts.Accepted q = (refl, refl)
 verdict-accepted l Verdicts.NoNode q = nope cc
 verdict-accepted l Verdicts.TooManyNodes q = nope cc
@@ -360,10 +360,10 @@ module _ (k : ℕ) (s : List ℕ) (r : ListStep) (t : TextAlone k s r) (small : 
       subst (λ (w : ℕ × ℕ). IsPlace s w d) e h
 
 -- the verdict as the code takes it apart
-pub verdict-fine : (v : Verdict) → Lists.verdictNumber v ≡ 0 → Accepted ≡ Code.byVerdict v
-verdict-fine v q = sym (ap Code.byVerdict (accepted-number v q))
+pub verdict-fine : (v : Verdict) → Lists.verdictNumber v ≡ 0 → Accepted ≡ Code.judgedBy v
+verdict-fine v q = sym (ap Code.judgedBy (accepted-number v q))
 
-pub verdict-refused : (v : Verdict) → (Lists.verdictNumber v ≡ 0 → ⊥) → Refused (Lists.verdictNumber v) (Lists.verdictPlace v) ≡ Code.byVerdict v
+pub verdict-refused : (v : Verdict) → (Lists.verdictNumber v ≡ 0 → ⊥) → Refused (Lists.verdictNumber v) (Lists.verdictPlace v) ≡ Code.judgedBy v
 verdict-refused Verdicts.Accepted q = absurd (q refl)
 verdict-refused Verdicts.NoNode q = refl
 verdict-refused Verdicts.TooManyNodes q = refl

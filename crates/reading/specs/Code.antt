@@ -37,12 +37,8 @@ pub record ReadsInto (reading : Reading) (r : Answer) (m₀ m₁ : Room) : Type 
 
 -- ---- what the small steps of the code do
 
-abbrev pub byVerdict : Verdict → Judged
-byVerdict Verdicts.Accepted = Accepted
-byVerdict Verdicts.NoNode = Refused (Lists.verdictNumber Verdicts.NoNode) (Lists.verdictPlace Verdicts.NoNode)
-byVerdict Verdicts.TooManyNodes = Refused (Lists.verdictNumber Verdicts.TooManyNodes) (Lists.verdictPlace Verdicts.TooManyNodes)
-byVerdict (Verdicts.DepthDiffers k) = Refused (Lists.verdictNumber (Verdicts.DepthDiffers k)) (Lists.verdictPlace (Verdicts.DepthDiffers k))
-byVerdict Verdicts.TooManyNumbers = Refused (Lists.verdictNumber Verdicts.TooManyNumbers) (Lists.verdictPlace Verdicts.TooManyNumbers)
+abbrev pub judgedBy : Verdict → Judged
+judgedBy = Lists.byVerdict Accepted Refused
 
 abbrev pub judgedScan : ℕ → Scan → Judged → Judged
 judgedScan length (Scans.At e) j = j
@@ -51,7 +47,7 @@ judgedScan length Scans.Cut j = Refused 1 length
 
 unfoldable pub judgedStep : ℕ → ListStep → ℕ → Judged
 judgedStep length r room =
-    judgedScan length (r .scan) (byVerdict (cond (r .state .over) Verdicts.TooManyNodes (Lists.judged room (Lists.nodesOf (r .state .list)))))
+    judgedScan length (r .scan) (judgedBy (cond (r .state .over) Verdicts.TooManyNodes (Lists.judged room (Lists.nodesOf (r .state .list)))))
 
 abbrev pub refusedAnswer : ℕ → ℕ → Answer
 refusedAnswer k p = record { number = k; place = p; list = Lists.listOf [] }

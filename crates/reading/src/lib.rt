@@ -6,7 +6,7 @@ ghost use Rattle.clf.specs.Description.{descriptionPart};
 ghost use Rattle.describing.specs.Code.{IsPlace, IsPart};
 ghost use lib.Dec.{ltb};
 ghost use lib.ListN.{length};
-ghost use Rattle.reading.specs.Code.{ReadsInto, checkedOf, TextAlone, byVerdict, judgedStep, refusedAnswer, acceptedAnswer, checkedBy, askedBy};
+ghost use Rattle.reading.specs.Code.{ReadsInto, checkedOf, TextAlone, judgedBy, judgedStep, refusedAnswer, acceptedAnswer, checkedBy, askedBy};
 use describing::Part;
 use file_text::ListState;
 use file_text::ListStep;
@@ -42,7 +42,7 @@ fn too_long(file: &[u8]) -> bool
 
 // What the verdict over the finished list says.
 fn by_verdict(v: Verdict) -> Judged
-    ensures { λ r. ⌜ r ≡ byVerdict v ⌝ }
+    ensures { λ r. ⌜ r ≡ judgedBy v ⌝ }
 {
     let number = process_list::refusal(v);
     if number == 0 {

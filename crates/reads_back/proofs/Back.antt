@@ -23,7 +23,7 @@ use Rattle.xml.specs.Bytes.{bytes, isSpace, isLetter}
 use Rattle.xml.specs.Xml.{Tag}
 use Rattle.xml.specs.Elements.{misc, between}
 use Rattle.clf.specs.List.{noFlags, Document, listContent, document, tail}
-use Rattle.clf.specs.Reading.{accepted, faulty, unfit, mostBytes, nodesAmong, nodesIn, byVerdict, listReading, tailReading, textReading, readText, read}
+use Rattle.clf.specs.Reading.{accepted, faulty, unfit, mostBytes, nodesAmong, nodesIn, readingBy, listReading, tailReading, textReading, readText, read}
 use Rattle.clf.specs.Reading as Reading
 use Rattle.look.specs.Look.{Look, roomOf, holding}
 use Rattle.claims.specs.LookRuns.{readInto}
@@ -78,7 +78,7 @@ allowed-verdict room es a =
 
 list-accepted : (room : ℕ) (es : List Element) → verdict room es ≡ Accepted → listReading room es ≡ accepted es
 unfolding listReading
-list-accepted room es v = ap (byVerdict es) v
+list-accepted room es v = ap (readingBy es) v
 
 text-accepted : (room : ℕ) (id : List ℕ) (es : List Element) → Id id → every sound es ≡ true → verdict room es ≡ Accepted → readText room (listText id es) ≡ accepted es
 unfolding readText

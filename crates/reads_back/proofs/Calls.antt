@@ -27,7 +27,7 @@ use Rattle.reading.specs.declared.Checked.{Checked}
 use Rattle.reading.specs.Code.{checkedOf, ReadsInto}
 use Rattle.reading.specs.Code as Reads
 use Rattle.look.specs.Look.{Look, roomOf, holding, replaceIn, lookAfter}
-use Rattle.look.specs.Replacing.{element, byVerdict, listed, byElement, replace}
+use Rattle.look.specs.Replacing.{element, replacingBy, listed, byElement, replace}
 use Rattle.look.specs.Replacing as Replacing
 use Rattle.replacing.specs.Code.{lookOf, Replaced}
 use Rattle.replacing.specs.Code as Replaces
@@ -192,7 +192,7 @@ run-refuses x p r xs ys e o = record {
     valid false b c v z = nope cc
 
 -- replacing by the list alone never answers 16
-verdict-not : (es : List Element) (v : Verdict) → Replaces.replacingNumber (byVerdict es v) ≡ 16 → ⊥
+verdict-not : (es : List Element) (v : Verdict) → Replaces.replacingNumber (replacingBy es v) ≡ 16 → ⊥
 verdict-not es Accepted z = omega arith
 verdict-not es NoNode z = omega arith
 verdict-not es TooManyNodes z = omega arith

@@ -1,4 +1,6 @@
 -- ASC_CDL in front of what follows it. Assumes nothing.
+use Rattle.process_list.specs.declared.CdlStyle.{CdlStyle}
+use Rattle.process_list.specs.declared.CdlStyle.the-variants.{Fwd, FwdNoClamp}
 use Rattle.process_list.specs.List.{Element}
 use mathlib.Core.Path.{_≡_, refl, ap, _∙_}
 use mathlib.Core.Bool.{Bool, true, false, cond, not}
@@ -13,7 +15,7 @@ use Rattle.xml.specs.Bytes.{bytes, same, isLetter, isDigit, isNameByte}
 use Rattle.xml.specs.Xml.{textOf, Tag}
 use Rattle.xml.specs.Elements.{held}
 use Rattle.clf.specs.Numbers.{anyNumber, notBelowZero, onlyOne}
-use Rattle.clf.specs.Nodes.{elementWith, holderRules, sopHolder, sopNode, satHolder, satNode, CdlState, noCdl, cdlHolder, cdlTexts, cdlNode, cdlRules, cdlContent, ascCdl}
+use Rattle.clf.specs.Nodes.{cdlStyle, elementWith, holderRules, sopHolder, sopNode, satHolder, satNode, CdlState, noCdl, cdlHolder, cdlTexts, cdlNode, cdlRules, cdlContent, ascCdl}
 use Rattle.claims.proofs.Numbers.{Each, Kept}
 use Rattle.valid.specs.Valid.{every}
 use Rattle.written_form.specs.Written.{valueText, sopText, satText, depthText}
@@ -125,18 +127,19 @@ unfolding same
 sat-body l s m r e = ap (λ (o : Out (List Decimal)). thenOut o (λ m. retP (withBoth l m))) e
 
 -- the style of an ASC_CDL
-abbrev pub fwdText : Bool → List ℕ
-fwdText clamp = cond clamp (bytes "Fwd") (bytes "FwdNoClamp")
+abbrev pub fwdText : CdlStyle → List ℕ
+fwdText Fwd = bytes "Fwd"
+fwdText FwdNoClamp = bytes "FwdNoClamp"
 
-style-quoted : (clamp : Bool) → quoted (fwdText clamp) ≡ true
+style-quoted : (style : CdlStyle) → quoted (fwdText style) ≡ true
 unfolding every
-style-quoted true = refl
-style-quoted false = refl
+style-quoted Fwd = refl
+style-quoted FwdNoClamp = refl
 
-style-right : (clamp : Bool) → cdlTexts (bytes "style") (fwdText clamp) ≡ 0
+style-right : (style : CdlStyle) → cdlTexts (bytes "style") (fwdText style) ≡ 0
 unfolding same
-style-right true = refl
-style-right false = refl
+style-right Fwd = refl
+style-right FwdNoClamp = refl
 
 abbrev cdl-rules : NodeRules cdlRules
 cdl-rules = record { rest = cdlTexts; texts = refl; opened = refl; in-free = refl; out-free = refl; style-free = refl }
@@ -173,21 +176,21 @@ module _ (s1 s2 s3 o1 o2 o3 p1 p2 p3 v : Decimal) (k : Ten s1 s2 s3 o1 o2 o3 p1 
       ∙ held-end cdlHolder (withBoth first-nine (v ∷ [])) t cdl-name refl
 
   module _ (i o : Depth) where
-    kind-said : (clamp : Bool) → not (same (textOf (bytes "style") (withDepths i o (record { name = bytes "style"; text = fwdText clamp } ∷ []))) (bytes "FwdNoClamp")) ≡ clamp
+    kind-said : (style : CdlStyle) → cdlStyle (textOf (bytes "style") (withDepths i o (record { name = bytes "style"; text = fwdText style } ∷ []))) ≡ style
     unfolding textOf same
-    kind-said true = refl
-    kind-said false = refl
+    kind-said Fwd = refl
+    kind-said FwdNoClamp = refl
 
-    pub cdl-reads : (clamp : Bool) (t : List ℕ)
-        → ascCdl .run (bytes " inBitDepth=\"" ++ (depthText i ++ (bytes "\" outBitDepth=\"" ++ (depthText o ++ (bytes "\"" ++ (bytes " style=\"" ++ (fwdText clamp ++ (bytes "\">\n" ++
+    pub cdl-reads : (style : CdlStyle) (t : List ℕ)
+        → ascCdl .run (bytes " inBitDepth=\"" ++ (depthText i ++ (bytes "\" outBitDepth=\"" ++ (depthText o ++ (bytes "\"" ++ (bytes " style=\"" ++ (fwdText style ++ (bytes "\">\n" ++
         sopText ten (satText ten (bytes "</ASC_CDL>" ++ t))))))))))
-        ≡ done (record { kind = Cdl clamp; input = i; output = o; numbers = ten }) t
+        ≡ done (record { kind = Cdl style; input = i; output = o; numbers = ten }) t
     unfolding ascCdl
-    cdl-reads clamp t =
+    cdl-reads style t =
         let r : List ℕ = 10 ∷ sopText ten (satText ten (bytes "</ASC_CDL>" ++ t)) in
-        let l = withDepths i o (record { name = bytes "style"; text = fwdText clamp } ∷ []) in
+        let l = withDepths i o (record { name = bytes "style"; text = fwdText style } ∷ []) in
         ap (λ (x : Out Tag). thenOut x (λ tag u. thenOut ((cdlContent tag) .run u) (λ st. retP (cdlNode (tag .attributes) st))))
-        (style-tag cdlRules cdl-rules i o (fwdText clamp) r (style-quoted clamp) (style-right clamp))
+        (style-tag cdlRules cdl-rules i o (fwdText style) r (style-quoted style) (style-right style))
         ∙ ap (λ (x : Out CdlState). thenOut x (λ st. retP (cdlNode l st))) (content-reads t)
-        ∙ ap (λ (u : Bool). done (elementWith l (Cdl u) ten) t) (kind-said clamp)
-        ∙ ap (λ (x : Element). done x t) (node-is i o (record { name = bytes "style"; text = fwdText clamp } ∷ []) (Cdl clamp) ten)
+        ∙ ap (λ (u : CdlStyle). done (elementWith l (Cdl u) ten) t) (kind-said style)
+        ∙ ap (λ (x : Element). done x t) (node-is i o (record { name = bytes "style"; text = fwdText style } ∷ []) (Cdl style) ten)

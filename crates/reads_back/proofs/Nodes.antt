@@ -1,4 +1,8 @@
 -- A node of ProcessList in front of what follows it. Assumes nothing.
+use Rattle.process_list.specs.declared.RangeStyle.{RangeStyle}
+use Rattle.process_list.specs.declared.RangeStyle.the-variants.{Clamp, NoClamp}
+use Rattle.process_list.specs.declared.CdlStyle.{CdlStyle}
+use Rattle.process_list.specs.declared.CdlStyle.the-variants.{Fwd, FwdNoClamp}
 use mathlib.Core.Path.{_≡_, refl, sym, ap, subst}
 use mathlib.Core.Bool.{Bool, true, false}
 use mathlib.Core.List.{List, [], _∷_, _++_}
@@ -31,15 +35,15 @@ use Rattle.reads_back.proofs.Sound.{any-kept, Four, four, range-order, 
 name-right : (k : Kind) → isName (nameText k) ≡ true
 name-right (Matrix wide) = matrix-name
 name-right (Lut1d entries columns) = lut-name
-name-right (Range clamp) = range-name
-name-right (Cdl clamp) = cdl-name
+name-right (Range style) = range-name
+name-right (Cdl style) = cdl-name
 
 fault-none : (st : Flags) (k : Kind) → childFault st (nameText k) ≡ 0
 unfolding childFault nodeName same
 fault-none st (Matrix wide) = refl
 fault-none st (Lut1d entries columns) = refl
-fault-none st (Range clamp) = refl
-fault-none st (Cdl clamp) = refl
+fault-none st (Range style) = refl
+fault-none st (Cdl style) = refl
 
 matrix-child : (s : List ℕ) (n : Element) (r : List ℕ) → matrix .run s ≡ done n r → (childBody (bytes "Matrix")) .run s ≡ done (node n) r
 unfolding childBody nodeName same
@@ -81,48 +85,48 @@ module _ (i o : Depth) (ds : List Decimal) (t : List ℕ) where
       (lut-reads i o n c ds (10 ∷ t) (p .shape) (any-kept ds (p .each)) (p .count) (sym (p .count)))
 
 module _ (i o : Depth) (t : List ℕ) where
-  range-four : (clamp : Bool) (a b c d : Decimal) → Parts (Range clamp) (a ∷ b ∷ c ∷ d ∷ [])
-      → (childBody (bytes "Range")) .run (32 ∷ behindName (made i o (a ∷ b ∷ c ∷ d ∷ []) t (Range clamp)) t) ≡ done (node (made i o (a ∷ b ∷ c ∷ d ∷ []) t (Range clamp))) (10 ∷ t)
+  range-four : (style : RangeStyle) (a b c d : Decimal) → Parts (Range style) (a ∷ b ∷ c ∷ d ∷ [])
+      → (childBody (bytes "Range")) .run (32 ∷ behindName (made i o (a ∷ b ∷ c ∷ d ∷ []) t (Range style)) t) ≡ done (node (made i o (a ∷ b ∷ c ∷ d ∷ []) t (Range style))) (10 ∷ t)
   unfolding contentText endText rulesHold
-  range-four true a b c d p = range-child (32 ∷ behindName (made i o (a ∷ b ∷ c ∷ d ∷ []) t (Range true)) t) (made i o (a ∷ b ∷ c ∷ d ∷ []) t (Range true)) (10 ∷ t)
-      (range-reads i o a b c d true (10 ∷ t) (any-kept (a ∷ b ∷ c ∷ d ∷ []) (p .each)) (range-order a b c d (p .rules)))
-  range-four false a b c d p = range-child (32 ∷ behindName (made i o (a ∷ b ∷ c ∷ d ∷ []) t (Range false)) t) (made i o (a ∷ b ∷ c ∷ d ∷ []) t (Range false)) (10 ∷ t)
-      (range-reads i o a b c d false (10 ∷ t) (any-kept (a ∷ b ∷ c ∷ d ∷ []) (p .each)) (range-order a b c d (p .rules)))
+  range-four Clamp a b c d p = range-child (32 ∷ behindName (made i o (a ∷ b ∷ c ∷ d ∷ []) t (Range Clamp)) t) (made i o (a ∷ b ∷ c ∷ d ∷ []) t (Range Clamp)) (10 ∷ t)
+      (range-reads i o a b c d Clamp (10 ∷ t) (any-kept (a ∷ b ∷ c ∷ d ∷ []) (p .each)) (range-order a b c d (p .rules)))
+  range-four NoClamp a b c d p = range-child (32 ∷ behindName (made i o (a ∷ b ∷ c ∷ d ∷ []) t (Range NoClamp)) t) (made i o (a ∷ b ∷ c ∷ d ∷ []) t (Range NoClamp)) (10 ∷ t)
+      (range-reads i o a b c d NoClamp (10 ∷ t) (any-kept (a ∷ b ∷ c ∷ d ∷ []) (p .each)) (range-order a b c d (p .rules)))
 
-  abbrev RangeBack : Bool → List Decimal → Type 0
-  RangeBack clamp ds = Parts (Range clamp) ds → (childBody (bytes "Range")) .run (32 ∷ behindName (made i o ds t (Range clamp)) t) ≡ done (node (made i o ds t (Range clamp))) (10 ∷ t)
+  abbrev RangeBack : RangeStyle → List Decimal → Type 0
+  RangeBack style ds = Parts (Range style) ds → (childBody (bytes "Range")) .run (32 ∷ behindName (made i o ds t (Range style)) t) ≡ done (node (made i o ds t (Range style))) (10 ∷ t)
 
-  range-body : (clamp : Bool) (ds : List Decimal) → RangeBack clamp ds
+  range-body : (style : RangeStyle) (ds : List Decimal) → RangeBack style ds
   unfolding numbersOf
-  range-body clamp ds p =
+  range-body style ds p =
       let f : Four ds = four ds (p .count) in
-      subst (RangeBack clamp) (sym (f .is)) (range-four clamp (f .a) (f .b) (f .c) (f .d)) p
+      subst (RangeBack style) (sym (f .is)) (range-four style (f .a) (f .b) (f .c) (f .d)) p
 
-  abbrev CdlBack : Bool → List Decimal → Type 0
-  CdlBack clamp ds = Parts (Cdl clamp) ds → (childBody (bytes "ASC_CDL")) .run (32 ∷ behindName (made i o ds t (Cdl clamp)) t) ≡ done (node (made i o ds t (Cdl clamp))) (10 ∷ t)
+  abbrev CdlBack : CdlStyle → List Decimal → Type 0
+  CdlBack style ds = Parts (Cdl style) ds → (childBody (bytes "ASC_CDL")) .run (32 ∷ behindName (made i o ds t (Cdl style)) t) ≡ done (node (made i o ds t (Cdl style))) (10 ∷ t)
 
-  cdl-ten : (clamp : Bool) (s1 s2 s3 o1 o2 o3 p1 p2 p3 v : Decimal) → CdlBack clamp (s1 ∷ s2 ∷ s3 ∷ o1 ∷ o2 ∷ o3 ∷ p1 ∷ p2 ∷ p3 ∷ v ∷ [])
+  cdl-ten : (style : CdlStyle) (s1 s2 s3 o1 o2 o3 p1 p2 p3 v : Decimal) → CdlBack style (s1 ∷ s2 ∷ s3 ∷ o1 ∷ o2 ∷ o3 ∷ p1 ∷ p2 ∷ p3 ∷ v ∷ [])
   unfolding contentText endText rulesHold
-  cdl-ten true s1 s2 s3 o1 o2 o3 p1 p2 p3 v p =
+  cdl-ten Fwd s1 s2 s3 o1 o2 o3 p1 p2 p3 v p =
       let ds : List Decimal = s1 ∷ s2 ∷ s3 ∷ o1 ∷ o2 ∷ o3 ∷ p1 ∷ p2 ∷ p3 ∷ v ∷ [] in
-      cdl-child (32 ∷ behindName (made i o ds t (Cdl true)) t) (made i o ds t (Cdl true)) (10 ∷ t)
-      (cdl-reads s1 s2 s3 o1 o2 o3 p1 p2 p3 v (ten-kept s1 s2 s3 o1 o2 o3 p1 p2 p3 v (p .each) (p .rules)) i o true (10 ∷ t))
-  cdl-ten false s1 s2 s3 o1 o2 o3 p1 p2 p3 v p =
+      cdl-child (32 ∷ behindName (made i o ds t (Cdl Fwd)) t) (made i o ds t (Cdl Fwd)) (10 ∷ t)
+      (cdl-reads s1 s2 s3 o1 o2 o3 p1 p2 p3 v (ten-kept s1 s2 s3 o1 o2 o3 p1 p2 p3 v (p .each) (p .rules)) i o Fwd (10 ∷ t))
+  cdl-ten FwdNoClamp s1 s2 s3 o1 o2 o3 p1 p2 p3 v p =
       let ds : List Decimal = s1 ∷ s2 ∷ s3 ∷ o1 ∷ o2 ∷ o3 ∷ p1 ∷ p2 ∷ p3 ∷ v ∷ [] in
-      cdl-child (32 ∷ behindName (made i o ds t (Cdl false)) t) (made i o ds t (Cdl false)) (10 ∷ t)
-      (cdl-reads s1 s2 s3 o1 o2 o3 p1 p2 p3 v (ten-kept s1 s2 s3 o1 o2 o3 p1 p2 p3 v (p .each) (p .rules)) i o false (10 ∷ t))
+      cdl-child (32 ∷ behindName (made i o ds t (Cdl FwdNoClamp)) t) (made i o ds t (Cdl FwdNoClamp)) (10 ∷ t)
+      (cdl-reads s1 s2 s3 o1 o2 o3 p1 p2 p3 v (ten-kept s1 s2 s3 o1 o2 o3 p1 p2 p3 v (p .each) (p .rules)) i o FwdNoClamp (10 ∷ t))
 
-  cdl-body : (clamp : Bool) (ds : List Decimal) → CdlBack clamp ds
+  cdl-body : (style : CdlStyle) (ds : List Decimal) → CdlBack style ds
   unfolding numbersOf
-  cdl-body clamp ds p =
+  cdl-body style ds p =
       let f : TenOf ds = ten-of ds (p .count) in
-      subst (CdlBack clamp) (sym (f .is)) (cdl-ten clamp (f .s1) (f .s2) (f .s3) (f .o1) (f .o2) (f .o3) (f .p1) (f .p2) (f .p3) (f .v)) p
+      subst (CdlBack style) (sym (f .is)) (cdl-ten style (f .s1) (f .s2) (f .s3) (f .o1) (f .o2) (f .o3) (f .p1) (f .p2) (f .p3) (f .v)) p
 
   node-body : (k : Kind) (ds : List Decimal) → Parts k ds → (childBody (nameText k)) .run (32 ∷ behindName (made i o ds t k) t) ≡ done (node (made i o ds t k)) (10 ∷ t)
   node-body (Matrix wide) ds p = matrix-body i o ds t wide p
   node-body (Lut1d n c) ds p = lut-body i o ds t n c p
-  node-body (Range clamp) ds p = range-body clamp ds p
-  node-body (Cdl clamp) ds p = cdl-body clamp ds p
+  node-body (Range style) ds p = range-body style ds p
+  node-body (Cdl style) ds p = cdl-body style ds p
 
 -- A WRITTEN NODE READS BACK, as an item of ProcessList; the LF behind it is left
 pub node-reads : (st : Flags) (e : Element) (t : List ℕ) → sound e ≡ true → (listItem st) .run (nodeText e t) ≡ done (child (node e)) (10 ∷ t)

@@ -1,4 +1,6 @@
 -- Range in front of what follows it. Assumes nothing.
+use Rattle.process_list.specs.declared.RangeStyle.{RangeStyle}
+use Rattle.process_list.specs.declared.RangeStyle.the-variants.{Clamp, NoClamp}
 use Rattle.process_list.specs.List.{Element}
 use mathlib.Core.Path.{_≡_, refl, ap, _∙_}
 use mathlib.Core.Bool.{Bool, true, false, cond, not, _&&_}
@@ -14,7 +16,7 @@ use Rattle.xml.specs.Bytes.{bytes, same, isLetter, isDigit, isNameByte}
 use Rattle.xml.specs.Xml.{textOf, Tag}
 use Rattle.xml.specs.Elements.{held}
 use Rattle.clf.specs.Numbers.{anyNumber, valueElement}
-use Rattle.clf.specs.Nodes.{elementWith, nodeRules, RangeState, noValues, rangeIndex, oneOf, rangeHolder, rangeTexts, rangeNode, range}
+use Rattle.clf.specs.Nodes.{rangeStyle, elementWith, nodeRules, RangeState, noValues, rangeIndex, oneOf, rangeHolder, rangeTexts, rangeNode, range}
 use Rattle.claims.proofs.Numbers.{Each, Kept}
 use Rattle.valid.specs.Valid.{every}
 use Rattle.written_form.specs.Written.{valueText, rangeText, depthText}
@@ -84,36 +86,37 @@ abbrev range-rules : NodeRules (nodeRules (λ w. 0) rangeTexts)
 range-rules = record { rest = rangeTexts; texts = refl; opened = refl; in-free = refl; out-free = refl; style-free = refl }
 
 -- the style of a Range
-abbrev clampText : Bool → List ℕ
-clampText clamp = cond clamp (bytes "Clamp") (bytes "noClamp")
+abbrev clampText : RangeStyle → List ℕ
+clampText Clamp = bytes "Clamp"
+clampText NoClamp = bytes "noClamp"
 
-style-quoted : (clamp : Bool) → quoted (clampText clamp) ≡ true
+style-quoted : (style : RangeStyle) → quoted (clampText style) ≡ true
 unfolding every
-style-quoted true = refl
-style-quoted false = refl
+style-quoted Clamp = refl
+style-quoted NoClamp = refl
 
-style-right : (clamp : Bool) → rangeTexts (bytes "style") (clampText clamp) ≡ 0
+style-right : (style : RangeStyle) → rangeTexts (bytes "style") (clampText style) ≡ 0
 unfolding same
-style-right true = refl
-style-right false = refl
+style-right Clamp = refl
+style-right NoClamp = refl
 
 module _ (i o : Depth) where
-  kind-said : (clamp : Bool) → not (same (textOf (bytes "style") (withDepths i o (record { name = bytes "style"; text = clampText clamp } ∷ []))) (bytes "noClamp")) ≡ clamp
+  kind-said : (style : RangeStyle) → rangeStyle (textOf (bytes "style") (withDepths i o (record { name = bytes "style"; text = clampText style } ∷ []))) ≡ style
   unfolding textOf same
-  kind-said true = refl
-  kind-said false = refl
+  kind-said Clamp = refl
+  kind-said NoClamp = refl
 
   module _ (a b c d : Decimal) where
-    pub range-reads : (clamp : Bool) (t : List ℕ) → Each (Kept anyNumber) (a ∷ b ∷ c ∷ d ∷ []) → (less a b && atMost c d) ≡ true
-        → range .run (bytes " inBitDepth=\"" ++ (depthText i ++ (bytes "\" outBitDepth=\"" ++ (depthText o ++ (bytes "\"" ++ (bytes " style=\"" ++ (clampText clamp ++ (bytes "\">\n" ++
+    pub range-reads : (style : RangeStyle) (t : List ℕ) → Each (Kept anyNumber) (a ∷ b ∷ c ∷ d ∷ []) → (less a b && atMost c d) ≡ true
+        → range .run (bytes " inBitDepth=\"" ++ (depthText i ++ (bytes "\" outBitDepth=\"" ++ (depthText o ++ (bytes "\"" ++ (bytes " style=\"" ++ (clampText style ++ (bytes "\">\n" ++
         rangeText (a ∷ b ∷ c ∷ d ∷ []) (bytes "</Range>" ++ t)))))))))
-        ≡ done (record { kind = Range clamp; input = i; output = o; numbers = a ∷ b ∷ c ∷ d ∷ [] }) t
+        ≡ done (record { kind = Range style; input = i; output = o; numbers = a ∷ b ∷ c ∷ d ∷ [] }) t
     unfolding range
-    range-reads clamp t k e =
+    range-reads style t k e =
         let r : List ℕ = 10 ∷ rangeText (a ∷ b ∷ c ∷ d ∷ []) (bytes "</Range>" ++ t) in
-        let l = withDepths i o (record { name = bytes "style"; text = clampText clamp } ∷ []) in
+        let l = withDepths i o (record { name = bytes "style"; text = clampText style } ∷ []) in
         ap (λ (x : Out Tag). thenOut x (λ tag u. thenOut ((held rangeHolder noValues) .run u) (λ st. retP (rangeNode (tag .attributes) st))))
-        (style-tag (nodeRules (λ w. 0) rangeTexts) range-rules i o (clampText clamp) r (style-quoted clamp) (style-right clamp))
+        (style-tag (nodeRules (λ w. 0) rangeTexts) range-rules i o (clampText style) r (style-quoted style) (style-right style))
         ∙ ap (λ (x : Out RangeState). thenOut x (λ st. retP (rangeNode l st))) (content-reads a b c d t k e)
-        ∙ ap (λ (v : Bool). done (elementWith l (Range v) (a ∷ b ∷ c ∷ d ∷ [])) t) (kind-said clamp)
-        ∙ ap (λ (x : Element). done x t) (node-is i o (record { name = bytes "style"; text = clampText clamp } ∷ []) (Range clamp) (a ∷ b ∷ c ∷ d ∷ []))
+        ∙ ap (λ (v : RangeStyle). done (elementWith l (Range v) (a ∷ b ∷ c ∷ d ∷ [])) t) (kind-said style)
+        ∙ ap (λ (x : Element). done x t) (node-is i o (record { name = bytes "style"; text = clampText style } ∷ []) (Range style) (a ∷ b ∷ c ∷ d ∷ []))

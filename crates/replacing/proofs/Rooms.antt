@@ -30,7 +30,7 @@ use Rattle.xml.specs.Code.{scanOut}
 use Rattle.node_parts.specs.declared.NodeStep.{NodeStep}
 use Rattle.values.specs.Code.{roomAfter}
 use Rattle.node_parts.specs.Code.{NodeReads}
-use Rattle.look.specs.Replacing.{element, byElement, byVerdict, listed}
+use Rattle.look.specs.Replacing.{element, byElement, replacingBy, listed}
 use Rattle.look.specs.Replacing as Replacing
 use Rattle.look.specs.Look.{Look, holding, replaceIn}
 use Rattle.replacing.specs.Code.{replacingAnswer, AnswersWith, lookOf, Replaced, refusedAnswer, madeWay, Stores, Fits}
@@ -64,7 +64,7 @@ part-few es k h =
 
 -- ---- the verdict
 
-verdict-refused : (es : List Element) (v : Verdict) → (verdictNumber v ≡ 0 → ⊥) → byVerdict es v ≡ Replacing.refused (verdictNumber v) (verdictPlace v)
+verdict-refused : (es : List Element) (v : Verdict) → (verdictNumber v ≡ 0 → ⊥) → replacingBy es v ≡ Replacing.refused (verdictNumber v) (verdictPlace v)
 verdict-refused es Accepted z = absurd (z refl)
 verdict-refused es NoNode z = refl
 verdict-refused es TooManyNodes z = refl
@@ -125,14 +125,14 @@ module _ (l : ProcessList) (m₀ : Room) (k : ℕ) (node : Node) (e : List ℕ) 
   verdict-is = ap (λ (a : ProcessList). judged room (nodesOf a)) next-is ∙ replaced-verdict es i el few inside room
 
   -- what the call answers: 10 or 13, or the new element is in its place
-  answer-is : replaceIn x k e ≡ byVerdict new (verdict room new)
+  answer-is : replaceIn x k e ≡ replacingBy new (verdict room new)
   unfolding listed
   answer-is = by-element l m₀ k e (f .callable) ∙ ap (byElement room es k e) (f .out)
 
   pub node-refused : (v : Verdict) → v ≡ judged room (nodesOf next) → (verdictNumber v ≡ 0 → ⊥) → Replaced l m₀ k e (refusedAnswer (verdictNumber v) (verdictPlace v) l) m₀
   node-refused v q z =
       leaves-refused l m₀ (replaceIn x k e) (verdictNumber v) (verdictPlace v)
-      (answer-is ∙ ap (byVerdict new) (sym (q ∙ verdict-is)) ∙ verdict-refused new v z)
+      (answer-is ∙ ap (replacingBy new) (sym (q ∙ verdict-is)) ∙ verdict-refused new v z)
 
   -- ---- accepted
 
@@ -201,7 +201,7 @@ module _ (l : ProcessList) (m₀ : Room) (k : ℕ) (node : Node) (e : List ℕ) 
       → Replaced l m₀ k e (record { number = 0; place = 0; list = r }) m₁
   node-replaced v q z m₁ h r t =
       let a : verdict room new ≡ Accepted = sym (q ∙ verdict-is) ∙ accepted-number v z in
-      let b : replaceIn x k e ≡ Replacing.replaced new = answer-is ∙ ap (byVerdict new) a in
+      let b : replaceIn x k e ≡ Replacing.replaced new = answer-is ∙ ap (replacingBy new) a in
       rw t (subst (λ (y : Replacing.Replacing). AnswersWith x y (record { number = 0; place = 0; list = placedList next }) m₁) (sym b) (held a m₁ h))
 
 -- ---- as the code goes

@@ -9,7 +9,7 @@ use Rattle.process_list.specs.declared.Kind.{Kind}
 use Rattle.process_list.specs.declared.Kind.the-variants.{Matrix, Lut1d, Range, Cdl}
 use Rattle.process_list.specs.declared.Node.{Node}
 use Rattle.process_list.specs.declared.ProcessList.{ProcessList}
-use Rattle.process_list.specs.List.{nodesOf, scaleOf}
+use Rattle.process_list.specs.List.{nodesOf, scaleOf, rangeClamps, cdlClamps}
 use Rattle.valid.specs.Valid.{isValid}
 use Rattle.pixel.specs.F64 as F64
 use Rattle.pixel_room.specs.Room.{rowsAt}
@@ -29,8 +29,8 @@ use Rattle.running.specs.declared.Ran.{Ran}
 unfoldable pub preparedAs : Room → ℕ → Kind → Prepared
 preparedAs m at (Matrix wide) = prepared.Matrix at wide
 preparedAs m at (Lut1d entries columns) = prepared.Lut1d at entries columns
-preparedAs m at (Range clamp) = rangeFrom m at clamp
-preparedAs m at (Cdl clamp) = cdlFrom m at clamp
+preparedAs m at (Range style) = rangeFrom m at (rangeClamps style)
+preparedAs m at (Cdl style) = cdlFrom m at (cdlClamps style)
 
 unfoldable pub preparedOf : Room → Node → Prepared
 preparedOf m n = preparedAs m (n .at) (n .kind)

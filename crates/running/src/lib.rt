@@ -25,8 +25,12 @@ fn prepared(kind: Kind, at: usize, coefficients: &[i64], powers: &[i8]) -> Prepa
             entries,
             columns,
         },
-        Kind::Range { clamp } => pixel_run::prepare_range(coefficients, powers, at, clamp),
-        Kind::Cdl { clamp } => pixel_run::prepare_cdl(coefficients, powers, at, clamp),
+        Kind::Range { style } => {
+            pixel_run::prepare_range(coefficients, powers, at, process_list::range_clamps(style))
+        }
+        Kind::Cdl { style } => {
+            pixel_run::prepare_cdl(coefficients, powers, at, process_list::cdl_clamps(style))
+        }
     }
 }
 

@@ -9,6 +9,7 @@ use Rattle.process_list.specs.declared.Depth.{Depth}
 use Rattle.process_list.specs.declared.Kind.{Kind}
 use Rattle.process_list.specs.declared.Kind.the-variants.{Matrix, Lut1d, Range, Cdl}
 use Rattle.process_list.specs.declared.Node.{Node}
+use Rattle.process_list.specs.List.{rangeClamps, cdlClamps}
 use Rattle.xml.specs.Bytes.{bytes}
 use Rattle.written_form.specs.Written.{depthText, nameText}
 
@@ -31,8 +32,8 @@ tableText entries columns t = bytes "-," ++ (digits entries ++ (bytes "x" ++ (di
 unfoldable pub formText : Kind → List ℕ → List ℕ
 formText (Matrix wide) t = oneOf wide (bytes "-,3x4") (bytes "-,3x3") ++ t
 formText (Lut1d entries columns) t = tableText entries columns t
-formText (Range clamp) t = oneOf clamp (bytes "Clamp,-") (bytes "noClamp,-") ++ t
-formText (Cdl clamp) t = oneOf clamp (bytes "Fwd,-") (bytes "FwdNoClamp,-") ++ t
+formText (Range style) t = oneOf (rangeClamps style) (bytes "Clamp,-") (bytes "noClamp,-") ++ t
+formText (Cdl style) t = oneOf (cdlClamps style) (bytes "Fwd,-") (bytes "FwdNoClamp,-") ++ t
 
 -- `;KIND,IN,OUT,STYLE,SHAPE,AT`: 'AT the index of its first number'
 unfoldable pub shownNode : Node → List ℕ → List ℕ

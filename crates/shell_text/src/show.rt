@@ -53,8 +53,8 @@ fn put_name(out: &mut [u8], at: usize, kind: Kind) -> usize
             entries: _,
             columns: _,
         } => put(out, at, b"LUT1D"),
-        Kind::Range { clamp: _ } => put(out, at, b"Range"),
-        Kind::Cdl { clamp: _ } => put(out, at, b"ASC_CDL"),
+        Kind::Range { style: _ } => put(out, at, b"Range"),
+        Kind::Cdl { style: _ } => put(out, at, b"ASC_CDL"),
     }
 }
 
@@ -85,8 +85,24 @@ fn put_form(out: &mut [u8], at: usize, kind: Kind) -> usize
     match kind {
         Kind::Matrix { wide } => put_either(out, at, wide, b"-,3x4", b"-,3x3"),
         Kind::Lut1d { entries, columns } => put_table(out, at, entries, columns),
-        Kind::Range { clamp } => put_either(out, at, clamp, b"Clamp,-", b"noClamp,-"),
-        Kind::Cdl { clamp } => put_either(out, at, clamp, b"Fwd,-", b"FwdNoClamp,-"),
+        Kind::Range { style } => {
+            put_either(
+                out,
+                at,
+                process_list::range_clamps(style),
+                b"Clamp,-",
+                b"noClamp,-",
+            )
+        }
+        Kind::Cdl { style } => {
+            put_either(
+                out,
+                at,
+                process_list::cdl_clamps(style),
+                b"Fwd,-",
+                b"FwdNoClamp,-",
+            )
+        }
     }
 }
 

@@ -54,8 +54,8 @@ fn is_small_matrix(kind: Kind) -> bool
             entries: _,
             columns: _,
         } => false,
-        Kind::Range { clamp: _ } => false,
-        Kind::Cdl { clamp: _ } => false,
+        Kind::Range { style: _ } => false,
+        Kind::Cdl { style: _ } => false,
     }
 }
 
@@ -130,8 +130,8 @@ fn shape_right(kind: Kind) -> bool
     match kind {
         Kind::Matrix { wide: _ } => true,
         Kind::Lut1d { entries, columns } => table_right(entries, columns),
-        Kind::Range { clamp: _ } => true,
-        Kind::Cdl { clamp: _ } => true,
+        Kind::Range { style: _ } => true,
+        Kind::Cdl { style: _ } => true,
     }
 }
 
@@ -246,8 +246,8 @@ fn rules_hold(coefficients: &[i64], powers: &[i8], kind: Kind, at: usize) -> boo
             entries: _,
             columns: _,
         } => true,
-        Kind::Range { clamp: _ } => range_holds(coefficients, powers, at),
-        Kind::Cdl { clamp: _ } => cdl_holds(coefficients, powers, at),
+        Kind::Range { style: _ } => range_holds(coefficients, powers, at),
+        Kind::Cdl { style: _ } => cdl_holds(coefficients, powers, at),
     }
 }
 

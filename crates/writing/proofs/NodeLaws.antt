@@ -1,4 +1,6 @@
 -- Laws of nodes: what stands between a node's tags, by its kind; a valid list's nodes, one after the other. Assumes nothing.
+use Rattle.process_list.specs.declared.RangeStyle.{RangeStyle}
+use Rattle.process_list.specs.declared.CdlStyle.{CdlStyle}
 use mathlib.Core.Path.{_≡_, refl, sym, ap, _∙_}
 use mathlib.Core.Bool.{Bool, true, false, false≢true}
 use mathlib.Core.List.{List, [], _∷_}
@@ -48,7 +50,7 @@ module _ (kind : Kind) (entries columns : ℕ) (e : kind ≡ Lut1d entries colum
   unfolding numbersOf contentText
   table-text m from t = rw e
 
-module _ (kind : Kind) (clamp : Bool) (e : kind ≡ Range clamp) where
+module _ (kind : Kind) (style : RangeStyle) (e : kind ≡ Range style) where
   pub range-asks : (from n : ℕ) → from + numbersOf kind ≤ n → from + 4 ≤ n
   unfolding numbersOf
   range-asks from n h = rw e at h
@@ -57,7 +59,7 @@ module _ (kind : Kind) (clamp : Bool) (e : kind ≡ Range clamp) where
   unfolding numbersOf contentText
   range-text m from t = rw e
 
-module _ (kind : Kind) (clamp : Bool) (e : kind ≡ Cdl clamp) where
+module _ (kind : Kind) (style : CdlStyle) (e : kind ≡ Cdl style) where
   pub cdl-asks : (from n : ℕ) → from + numbersOf kind ≤ n → from + 10 ≤ n
   unfolding numbersOf
   cdl-asks from n h = rw e at h

@@ -68,8 +68,8 @@ fn put_content(
         Kind::Lut1d { entries, columns } => {
             put_array(out, at, coefficients, powers, from, entries, columns)
         }
-        Kind::Range { clamp: _ } => put_range(out, at, coefficients, powers, from),
-        Kind::Cdl { clamp: _ } => {
+        Kind::Range { style: _ } => put_range(out, at, coefficients, powers, from),
+        Kind::Cdl { style: _ } => {
             let held = put_sop(out, at, coefficients, powers, from);
             put_sat(out, held, coefficients, powers, from)
         }

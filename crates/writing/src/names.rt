@@ -2,8 +2,10 @@
 ghost use mathlib.Core.List.{_++_};
 ghost use Rattle.text_out.specs.Output.{Puts};
 ghost use Rattle.written_form.specs.Written as Text;
+use process_list::CdlStyle;
 use process_list::Depth;
 use process_list::Kind;
+use process_list::RangeStyle;
 use text_out::put;
 
 fn put_depth(out: &mut [u8], at: usize, depth: Depth) -> usize
@@ -28,8 +30,26 @@ fn put_name(out: &mut [u8], at: usize, kind: Kind) -> usize
             entries: _,
             columns: _,
         } => put(out, at, b"LUT1D"),
-        Kind::Range { clamp: _ } => put(out, at, b"Range"),
-        Kind::Cdl { clamp: _ } => put(out, at, b"ASC_CDL"),
+        Kind::Range { style: _ } => put(out, at, b"Range"),
+        Kind::Cdl { style: _ } => put(out, at, b"ASC_CDL"),
+    }
+}
+
+fn put_range_style(out: &mut [u8], at: usize, style: RangeStyle) -> usize
+    ensures { λ r. ⌜ Puts (λ t. Text.rangeStyleText style ++ t) at (now (out .entry)) (now (out .exit)) r ⌝ }
+{
+    match style {
+        RangeStyle::Clamp => put(out, at, b" style=\"Clamp\""),
+        RangeStyle::NoClamp => put(out, at, b" style=\"noClamp\""),
+    }
+}
+
+fn put_cdl_style(out: &mut [u8], at: usize, style: CdlStyle) -> usize
+    ensures { λ r. ⌜ Puts (λ t. Text.cdlStyleText style ++ t) at (now (out .entry)) (now (out .exit)) r ⌝ }
+{
+    match style {
+        CdlStyle::Fwd => put(out, at, b" style=\"Fwd\""),
+        CdlStyle::FwdNoClamp => put(out, at, b" style=\"FwdNoClamp\""),
     }
 }
 
@@ -42,18 +62,8 @@ fn put_style(out: &mut [u8], at: usize, kind: Kind) -> usize
             entries: _,
             columns: _,
         } => at,
-        Kind::Range { clamp } => {
-            if clamp {
-                return put(out, at, b" style=\"Clamp\"");
-            }
-            put(out, at, b" style=\"noClamp\"")
-        }
-        Kind::Cdl { clamp } => {
-            if clamp {
-                return put(out, at, b" style=\"Fwd\"");
-            }
-            put(out, at, b" style=\"FwdNoClamp\"")
-        }
+        Kind::Range { style } => put_range_style(out, at, style),
+        Kind::Cdl { style } => put_cdl_style(out, at, style),
     }
 }
 

@@ -1,4 +1,6 @@
 -- Document 01's whole example, a list with each other form of node, and an output of exactly the text's length, computed. Assumes nothing.
+use Rattle.process_list.specs.declared.RangeStyle.the-variants.{Clamp, NoClamp}
+use Rattle.process_list.specs.declared.CdlStyle.the-variants.{FwdNoClamp}
 use mathlib.Core.Path.{_≡_, refl}
 use mathlib.Core.Bool.{true, false}
 use mathlib.Core.List.{List, [], _∷_, _++_}
@@ -26,7 +28,7 @@ abbrev large : Decimal
 large = record { coefficient = negsuc 24; power = pos 22 }
 
 -- 'Whole, for id `a`'
-pub whole-example : listText (bytes "a") (record { kind = Range true; input = F32; output = F32; numbers = zero ∷ one ∷ zero ∷ half ∷ [] } ∷ [])
+pub whole-example : listText (bytes "a") (record { kind = Range Clamp; input = F32; output = F32; numbers = zero ∷ one ∷ zero ∷ half ∷ [] } ∷ [])
     ≡ bytes "<?xml version=\"1.0\" encoding=\"UTF-8\"?>\n<ProcessList id=\"a\" compCLFversion=\"3.0\">\n<Range inBitDepth=\"32f\" outBitDepth=\"32f\" style=\"Clamp\">\n<minInValue>0</minInValue>\n<maxInValue>1</maxInValue>\n<minOutValue>0</minOutValue>\n<maxOutValue>5e-1</maxOutValue>\n</Range>\n</ProcessList>\n"
 unfolding listText headText nodesText nodeText startText endText contentText rangeText valueText rowText spacedText writtenOf whole exponent digits digitsWithin
 whole-example = refl
@@ -36,8 +38,8 @@ abbrev others : List Element
 others =
     record { kind = Matrix true; input = I10; output = F16; numbers = one ∷ zero ∷ zero ∷ large ∷ zero ∷ one ∷ zero ∷ zero ∷ zero ∷ zero ∷ one ∷ half ∷ [] }
     ∷ record { kind = Lut1d 2 3; input = F16; output = I8; numbers = zero ∷ zero ∷ zero ∷ one ∷ half ∷ one ∷ [] }
-    ∷ record { kind = Cdl false; input = I8; output = I12; numbers = one ∷ half ∷ one ∷ zero ∷ zero ∷ half ∷ one ∷ one ∷ one ∷ half ∷ [] }
-    ∷ record { kind = Range false; input = I12; output = I16; numbers = zero ∷ one ∷ zero ∷ one ∷ [] }
+    ∷ record { kind = Cdl FwdNoClamp; input = I8; output = I12; numbers = one ∷ half ∷ one ∷ zero ∷ zero ∷ half ∷ one ∷ one ∷ one ∷ half ∷ [] }
+    ∷ record { kind = Range NoClamp; input = I12; output = I16; numbers = zero ∷ one ∷ zero ∷ one ∷ [] }
     ∷ []
 
 pub other-nodes : nodesText others []

@@ -1,4 +1,6 @@
 -- A valid list's text is shorter than 16 MiB, so that it can be read back. Assumes nothing.
+use Rattle.process_list.specs.declared.RangeStyle.the-variants.{Clamp, NoClamp}
+use Rattle.process_list.specs.declared.CdlStyle.the-variants.{Fwd, FwdNoClamp}
 use mathlib.Core.Path.{_≡_, refl}
 use mathlib.Core.Bool.{Bool, true, false, _&&_, _||_, false≢true}
 use mathlib.Core.List.{List, [], _∷_, _++_}
@@ -107,14 +109,14 @@ unfolding contentText shapeRight
 content-short (Matrix true) ds t h = omega (arith, array-short 3 4 ds t (omega arith) (omega arith))
 content-short (Matrix false) ds t h = omega (arith, array-short 3 3 ds t (omega arith) (omega arith))
 content-short (Lut1d n c) ds t h = let m = table-most n c h in omega (arith, array-short n c ds t (m .0) (m .1))
-content-short (Range clamp) ds t h = omega (arith, range-short ds t)
-content-short (Cdl clamp) ds t h = omega (arith, sop-short ds (satText ds t), sat-short ds t)
+content-short (Range style) ds t h = omega (arith, range-short ds t)
+content-short (Cdl style) ds t h = omega (arith, sop-short ds (satText ds t), sat-short ds t)
 
 name-short : (k : Kind) → length (nameText k) ≤ 10
 name-short (Matrix wide) = omega arith
 name-short (Lut1d n c) = omega arith
-name-short (Range clamp) = omega arith
-name-short (Cdl clamp) = omega arith
+name-short (Range style) = omega arith
+name-short (Cdl style) = omega arith
 
 depth-short : (d : Depth) → length (depthText d) ≤ 3
 depth-short I8 = omega arith
@@ -127,10 +129,10 @@ depth-short F32 = omega arith
 style-short : (k : Kind) → length (styleText k) ≤ 20
 style-short (Matrix wide) = omega arith
 style-short (Lut1d n c) = omega arith
-style-short (Range true) = omega arith
-style-short (Range false) = omega arith
-style-short (Cdl true) = omega arith
-style-short (Cdl false) = omega arith
+style-short (Range Clamp) = omega arith
+style-short (Range NoClamp) = omega arith
+style-short (Cdl Fwd) = omega arith
+style-short (Cdl FwdNoClamp) = omega arith
 
 start-short : (k : Kind) (i o : Depth) (t : List ℕ) → length (startText k i o t) ≤ 100 + length t
 unfolding startText

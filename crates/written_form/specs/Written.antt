@@ -9,6 +9,10 @@ use Rattle.decimal.specs.declared.Decimal.{Decimal}
 use Rattle.decimal_write.specs.Written.{digits, writtenOf}
 use Rattle.process_list.specs.declared.Depth.{Depth}
 use Rattle.process_list.specs.declared.Depth.the-variants.{I8, I10, I12, I16, F16, F32}
+use Rattle.process_list.specs.declared.RangeStyle.{RangeStyle}
+use Rattle.process_list.specs.declared.RangeStyle.the-variants.{Clamp, NoClamp}
+use Rattle.process_list.specs.declared.CdlStyle.{CdlStyle}
+use Rattle.process_list.specs.declared.CdlStyle.the-variants.{Fwd, FwdNoClamp}
 use Rattle.process_list.specs.declared.Kind.{Kind}
 use Rattle.process_list.specs.declared.Kind.the-variants.{Matrix, Lut1d, Range, Cdl}
 use Rattle.process_list.specs.declared.ProcessList.{ProcessList}
@@ -75,15 +79,15 @@ satText ds t = bytes "<SatNode>\n" ++ valueText (bytes "Saturation") (some 9 1 d
 unfoldable pub contentText : Kind → List Decimal → List ℕ → List ℕ
 contentText (Matrix wide) ds t = arrayText 3 (cond wide 4 3) ds t
 contentText (Lut1d entries columns) ds t = arrayText entries columns ds t
-contentText (Range clamp) ds t = rangeText ds t
-contentText (Cdl clamp) ds t = sopText ds (satText ds t)
+contentText (Range style) ds t = rangeText ds t
+contentText (Cdl style) ds t = sopText ds (satText ds t)
 
 -- a node's name
 abbrev pub nameText : Kind → List ℕ
 nameText (Matrix wide) = bytes "Matrix"
 nameText (Lut1d entries columns) = bytes "LUT1D"
-nameText (Range clamp) = bytes "Range"
-nameText (Cdl clamp) = bytes "ASC_CDL"
+nameText (Range style) = bytes "Range"
+nameText (Cdl style) = bytes "ASC_CDL"
 
 -- '`inBitDepth`, `outBitDepth` from 8i, 10i, 12i, 16i, 16f, 32f'
 abbrev pub depthText : Depth → List ℕ
@@ -95,11 +99,19 @@ depthText F16 = bytes "16f"
 depthText F32 = bytes "32f"
 
 -- 'style always written', of the kinds that have one: Range `style` "Clamp" or "noClamp", ASC_CDL `style` "Fwd" or "FwdNoClamp"
+abbrev pub rangeStyleText : RangeStyle → List ℕ
+rangeStyleText Clamp = bytes " style=\"Clamp\""
+rangeStyleText NoClamp = bytes " style=\"noClamp\""
+
+abbrev pub cdlStyleText : CdlStyle → List ℕ
+cdlStyleText Fwd = bytes " style=\"Fwd\""
+cdlStyleText FwdNoClamp = bytes " style=\"FwdNoClamp\""
+
 abbrev pub styleText : Kind → List ℕ
 styleText (Matrix wide) = []
 styleText (Lut1d entries columns) = []
-styleText (Range clamp) = cond clamp (bytes " style=\"Clamp\"") (bytes " style=\"noClamp\"")
-styleText (Cdl clamp) = cond clamp (bytes " style=\"Fwd\"") (bytes " style=\"FwdNoClamp\"")
+styleText (Range style) = rangeStyleText style
+styleText (Cdl style) = cdlStyleText style
 
 -- 'attributes in the order in, out, style'
 abbrev pub depthsText : Depth → Depth → List ℕ → List ℕ

@@ -1,5 +1,6 @@
-use mathlib.Core.Path.{ap}
-use mathlib.Core.Bool.{not}
+use mathlib.Core.Path.{ap, _∙_}
+use mathlib.Core.Bool.{Bool, cond}
+use Rattle.process_list.specs.declared.CdlStyle.the-variants.{Fwd, FwdNoClamp}
 use Rattle.markup.proofs.Answers.{failed}
 use Rattle.cdl_node.proofs.Cdls.{cdl-failed, cdl-node}
 use borrow.Author.Needs.{needs}
@@ -18,12 +19,12 @@ returns c =
 
 returns-2 : tie.Need-returns-2
 returns-2 c =
-    let stored = c .before .before .before .before .before in
+    let stored = c .before .before .before .before .before .before in
     let next = stored .before .before .before .before .before .before in
     let read = next .before .before .before .before in
     let content = read .cdl-followed in
     let tag = read .before .before .before .before .start-tag in
-    cdl-node _ _ _ (tag .result) _ _ _ (content .result) _ (tag .ensures) (content .ensures) _ (next .scan .given .1) _ (ap not (c .before .style-is .ensures))
+    cdl-node _ _ _ (tag .result) _ _ _ (content .result) _ (tag .ensures) (content .ensures) _ (next .scan .given .1) _ (c .before .cdl-style .ensures ∙ ap (λ (b : Bool). cond b FwdNoClamp Fwd) (c .before .before .style-is .ensures))
     (stored .store-all .ensures) (c .finished .ensures)
 
 pub read-cdl-spec : {M : Type 1} → statement M
@@ -43,6 +44,7 @@ read-cdl-spec =
     (λ c. search needs)
     (λ c κs. search needs)
     (λ c. search needs)
+    (λ c κs. search needs)
     (λ c κs. search needs)
     (λ c κs. search needs)
     (λ c. search needs)

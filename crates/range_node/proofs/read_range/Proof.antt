@@ -1,5 +1,6 @@
 use mathlib.Core.Path.{refl, sym, ap, _∙_}
-use mathlib.Core.Bool.{not}
+use mathlib.Core.Bool.{Bool, cond}
+use Rattle.process_list.specs.declared.RangeStyle.the-variants.{Clamp, NoClamp}
 use Rattle.tags.specs.Rules.{rulesOf}
 use Rattle.tags.specs.declared.TagKind.the-variants.{Range}
 use Rattle.markup.proofs.Answers.{failed}
@@ -36,7 +37,7 @@ returns-2 c =
 returns-3 : tie.Need-returns-3
 unfolding rulesOf
 returns-3 c =
-    let stored = c .before .before .before .before .before in
+    let stored = c .before .before .before .before .before .before in
     let next = stored .before .before .before .before .before .before in
     let read = next .before .before .before .before in
     let content = read .range-content in
@@ -45,7 +46,8 @@ returns-3 c =
     let tag = behind .before .before .start-tag in
     range-node _ _ _ (tag .result) _ _ _ (content .result) _ _
     (tag-reads _ Range refl _ _ (tag .result) (tag .ensures) _ (sym (known .r .given .1) ∙ behind .behind .ensures))
-    (content .ensures) _ (next .scan .given .1) _ (ap not (c .before .style-is .ensures)) (stored .store-all .ensures) (c .finished .ensures)
+    (content .ensures) _ (next .scan .given .1) _ (c .before .range-style .ensures ∙ ap (λ (b : Bool). cond b NoClamp Clamp) (c .before .before .style-is .ensures))
+    (stored .store-all .ensures) (c .finished .ensures)
 
 pub read-range-spec : {M : Type 1} → statement M
 read-range-spec =
@@ -70,6 +72,7 @@ read-range-spec =
     (λ c. search needs)
     (λ c κs. search needs)
     (λ c. search needs)
+    (λ c κs. search needs)
     (λ c κs. search needs)
     (λ c κs. search needs)
     (λ c. search needs)

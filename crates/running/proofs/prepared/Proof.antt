@@ -14,11 +14,11 @@ returns-2 c = simp (c .before .kind2 .given .1)
 
 returns-3 : tie.Need-returns-3
 unfolding preparedAs
-returns-3 c = simp (c .before .before .kind3 .given .1) (c .prepare-range .ensures)
+returns-3 c = simp (c .before .before .before .kind3 .given .1, ← c .before .range-clamps .ensures) (c .prepare-range .ensures)
 
 returns-4 : tie.Need-returns-4
 unfolding preparedAs
-returns-4 c = simp (c .before .before .kind4 .given .1) (c .prepare-cdl .ensures)
+returns-4 c = simp (c .before .before .before .kind4 .given .1, ← c .before .cdl-clamps .ensures) (c .prepare-cdl .ensures)
 
 pub prepared-spec : {M : Type 1} → statement M
 prepared-spec =
@@ -28,7 +28,9 @@ prepared-spec =
     (λ c. search needs)
     (λ c. search needs)
     (λ c κs. search needs)
+    (λ c κs. search needs)
     (λ c. search needs)
+    (λ c κs. search needs)
     (λ c κs. search needs)
     returns
     returns-2

@@ -15,11 +15,15 @@ returns-2 c = puts-by formText (c .before .before .before .before .before .kind2
 
 returns-3 : tie.Need-returns-3
 unfolding formText
-returns-3 c = puts-by formText (c .before .before .before .before .before .before .before .kind3 .given .1) (c .before .before .put-either2 .ensures)
+returns-3 c =
+    let called = c .before .before in
+    puts-by formText (called .before .before .before .before .before .before .kind3 .given .1) (rw (called .before .before .before .range-clamps .ensures) at (called .put-either2 .ensures))
 
 returns-4 : tie.Need-returns-4
 unfolding formText
-returns-4 c = puts-by formText (c .before .before .before .before .before .before .before .kind4 .given .1) (c .before .before .put-either3 .ensures)
+returns-4 c =
+    let called = c .before .before in
+    puts-by formText (called .before .before .before .before .before .before .kind4 .given .1) (rw (called .before .before .before .cdl-clamps .ensures) at (called .put-either3 .ensures))
 
 pub put-form-spec : {M : Type 1} → statement M
 put-form-spec =
@@ -32,10 +36,12 @@ put-form-spec =
     (λ c. search needs)
     (λ c κs. search needs)
     (λ c. search needs)
+    (λ c κs. search needs)
     (λ c. search needs)
     (λ c. search needs)
     (λ c κs. search needs)
     (λ c. search needs)
+    (λ c κs. search needs)
     (λ c. search needs)
     (λ c. search needs)
     (λ c κs. search needs)

@@ -1,0 +1,37 @@
+-- The theorems on the definitions, each as a named type. Their proofs are in proofs/; the demands of the code itself are contracts (docs/THEOREMS.md).
+use mathlib.Core.Path.{_≡_}
+use mathlib.Core.Bool.{true}
+use mathlib.Core.List.{List}
+use Prim.Native.Nat.{ℕ}
+use lib.ListN.{length}
+use Rattle.process_list.specs.List.{Element, placed, allNumbers, listOf}
+use Rattle.room.specs.Room.{Room, roomLength, filledWith}
+use Rattle.valid.specs.Valid.{isValid}
+use Rattle.clf.specs.Reading.{accepted, read, readText}
+use Rattle.look.specs.Look.{Look, roomOf}
+use Rattle.claims.specs.Cut.{Longer}
+use Rattle.claims.specs.Refusals.{Answered}
+use Rattle.claims.specs.Rules.{Allowed}
+use Rattle.claims.specs.TriedFile.{Small}
+use Rattle.claims.specs.LookRuns.{SameLook}
+
+-- a cut text answers 1 at its length, or what every longer text answers (`proofs/Cut`: `cut-law`)
+abbrev pub CutLaw : Type 0
+CutLaw = (room : ℕ) (s : List ℕ) → Longer room s
+
+-- demand 1, 'the refusal number that document 01 names': which numbers and places a reading can answer (`proofs/Refusals`: `answered`)
+abbrev pub AnswersNumbered : Type 0
+AnswersNumbered = (room : ℕ) (s : List ℕ) → Answered (length s) (readText room s)
+
+-- demand 2, 'accepted exactly when the carried part of CLF 3.0 allows it and the room holds it': what is accepted keeps the rules (`proofs/Rules`: `accepted-rules`).
+-- The other way, that every list which keeps them is read from some file, is `ExactlyAllowed` of `reads_back`
+abbrev pub AcceptedKeepsRules : Type 0
+AcceptedKeepsRules = (room : ℕ) (s : List ℕ) (l : List Element) → read room s ≡ accepted l → Allowed room l
+
+-- list and room as an accepted reading leaves them are valid: 16 is not given for them (`proofs/Rules`: `accepted-valid`)
+abbrev pub AcceptedIsValid : Type 0
+AcceptedIsValid = (m : Room) (s : List ℕ) (l : List Element) → read (roomLength m) s ≡ accepted l → isValid (listOf (placed l)) (filledWith (allNumbers l) m) ≡ true
+
+-- demand 3 on the definitions, from a look x into which any accepted file s is read, for any run of calls (`proofs/Look`: `demand3-look`). Premise: each tried file is at most 16 MiB
+abbrev pub Demand3OfLooks : Type 0
+Demand3OfLooks = (x : Look) (s : List ℕ) (l : List Element) (calls : List (ℕ × List ℕ)) → read (roomOf x) s ≡ accepted l → Small (read (roomOf x)) s calls → SameLook x s calls
