@@ -29,7 +29,8 @@ use Rattle.look.specs.Look.{Look, roomOf, holding}
 use Rattle.claims.specs.LookRuns.{readInto}
 use Rattle.claims.proofs.Rules.{WholeElements, whole-rules, accepted-rules, read-short, text-elements}
 use Rattle.claims.proofs.Look.{held-valid}
-use Rattle.written_form.specs.Written.{refused, written, isIdByte, idRight, nodesText, headText, listText, fitting, writeOf}
+use Rattle.written_form.specs.Written.{joined, listLines, refused, written, isIdByte, idRight, fitting, writeOf}
+use Rattle.written_form.proofs.Tail.{nodesText, headText, listText, list-text}
 use Rattle.written_form.proofs.Short.{elements-short}
 use Rattle.claims.specs.Rules.{Allowed}
 use Rattle.reads_back.specs.Back.{ReadAs, HasPlaces, Valid, held, writing, EqualRoom, asRead, ReadingLeaves, ReadingLeavesIn, WrittenReadsBack, WrittenReadsIn, Refusal16, ExactlyAllowed}
@@ -80,27 +81,28 @@ list-accepted : (room : ℕ) (es : List Element) → verdict room es ≡ Accepte
 unfolding listReading
 list-accepted room es v = ap (readingBy es) v
 
-text-accepted : (room : ℕ) (id : List ℕ) (es : List Element) → Id id → every sound es ≡ true → verdict room es ≡ Accepted → readText room (listText id es) ≡ accepted es
+text-accepted : (room : ℕ) (id : List ℕ) (es : List Element) → Id id → every sound es ≡ true → verdict room es ≡ Accepted → readText room (joined (listLines id es)) ≡ accepted es
 unfolding readText
 text-accepted room id es k h v =
     let s : List ℕ = listText id es in
     let d : Documented id es = document-reads id es k h in
     let x : Document = record { start = d .start; parts = d .items } in
-    ap (textReading room s) (d .reads)
+    ap (readText room) (sym (list-text id es))
+    ∙ ap (textReading room s) (d .reads)
     ∙ ap (tailReading room s x) tail-reads
     ∙ ap (listReading room) (d .nodes)
     ∙ list-accepted room es v
 
 -- at most 16 MiB: '4 first'
-text-small : (room : ℕ) (id : List ℕ) (es : List Element) → idRight id ≡ true → Allowed room es → length (listText id es) ≤ mostBytes
+text-small : (room : ℕ) (id : List ℕ) (es : List Element) → idRight id ≡ true → Allowed room es → length (joined (listLines id es)) ≤ mostBytes
 text-small room id es i a = elements-short id es i (a .nodes) (a .few) (omega (arith, a .holds))
 
 -- over the elements: 'a list written out reads back as that list'
-pub list-reads-back : (room : ℕ) (id : List ℕ) (es : List Element) → idRight id ≡ true → Allowed room es → ReadAs room (listText id es) es
+pub list-reads-back : (room : ℕ) (id : List ℕ) (es : List Element) → idRight id ≡ true → Allowed room es → ReadAs room (joined (listLines id es)) es
 unfolding read
 list-reads-back room id es i a =
     let k : Id id = id-parts id i in
-    ap (λ (v : Bool). cond v (faulty 4 0) (readText room (listText id es))) (le-ltb mostBytes (length (listText id es)) (text-small room id es i a))
+    ap (λ (v : Bool). cond v (faulty 4 0) (readText room (joined (listLines id es)))) (le-ltb mostBytes (length (joined (listLines id es))) (text-small room id es i a))
     ∙ text-accepted room id es k (a .nodes) (allowed-verdict room es a)
 
 -- ---- which lists are read
@@ -115,7 +117,7 @@ plain-id = refl
 
 -- a list is the list of some accepted file exactly if it keeps the rules (1 to 32 nodes, 10, 13, and each node's own)
 pub exactly-allowed : (room : ℕ) (es : List Element) → ExactlyAllowed room es
-exactly-allowed room es = (λ a. (listText (bytes "a") es, list-reads-back room (bytes "a") es plain-id a), λ f. back (f .0) (f .1))
+exactly-allowed room es = (λ a. (joined (listLines (bytes "a") es), list-reads-back room (bytes "a") es plain-id a), λ f. back (f .0) (f .1))
   where
     back : (file : List ℕ) → ReadAs room file es → Allowed room es
     back file r = accepted-rules room file es r
@@ -143,10 +145,10 @@ module _ (x : Look) (p : HasPlaces x) (v : Valid x) where
     unfolding holding
     holding-in = (sym (reading .list) ∙ sym (file-list (x .list)), refl)
 
-    pub valid-reads-in : (id : List ℕ) → idRight id ≡ true → ReadingLeavesIn y (listText id (held x)) x
+    pub valid-reads-in : (id : List ℕ) → idRight id ≡ true → ReadingLeavesIn y (joined (listLines id (held x))) x
     valid-reads-in id i =
-        let r : ReadAs (roomOf y) (listText id (held x)) (held x) = list-reads-back (roomOf y) id (held x) i allowed-in in
-        let q : readInto y (listText id (held x)) ≡ holding y (held x) = ap (λ (z : Reading.Reading). holding y (nodesIn z)) r in
+        let r : ReadAs (roomOf y) (joined (listLines id (held x))) (held x) = list-reads-back (roomOf y) id (held x) i allowed-in in
+        let q : readInto y (joined (listLines id (held x))) ≡ holding y (held x) = ap (λ (z : Reading.Reading). holding y (nodesIn z)) r in
         record {
           nodes = held x;
           accepted = r;
@@ -161,10 +163,10 @@ module _ (x : Look) (p : HasPlaces x) (v : Valid x) where
     holding-equal es = rw (filled-equal (allNumbers es) (x .room) (y .room) (e .room) (e .behind)) refl
 
     -- the text of a valid list and room, under any right id
-    pub valid-reads-back : (id : List ℕ) → idRight id ≡ true → ReadingLeaves y (listText id (held x)) x
+    pub valid-reads-back : (id : List ℕ) → idRight id ≡ true → ReadingLeaves y (joined (listLines id (held x))) x
     valid-reads-back id i =
-        let r : ReadAs (roomOf x) (listText id (held x)) (held x) = list-reads-back (roomOf x) id (held x) i held-allowed in
-        let q : read (roomOf y) (listText id (held x)) ≡ accepted (held x) = ap (λ (n : ℕ). read n (listText id (held x))) (e .room) ∙ r in
+        let r : ReadAs (roomOf x) (joined (listLines id (held x))) (held x) = list-reads-back (roomOf x) id (held x) i held-allowed in
+        let q : read (roomOf y) (joined (listLines id (held x))) ≡ accepted (held x) = ap (λ (n : ℕ). read n (joined (listLines id (held x)))) (e .room) ∙ r in
         record {
           nodes = held x;
           accepted = q;
@@ -175,14 +177,14 @@ module _ (x : Look) (p : HasPlaces x) (v : Valid x) where
 record Wrote (x : Look) (id text : List ℕ) : Type 0 where
   valid : Valid x
   right : idRight id ≡ true
-  is : listText id (held x) ≡ text
+  is : joined (listLines id (held x)) ≡ text
 
 wrote : (x : Look) (id : List ℕ) (out : ℕ) (text : List ℕ) → writing x id out ≡ written text → Wrote x id text
 unfolding writeOf fitting
-wrote x id out text e = go (isValid (x .list) (x .room)) (idRight id) (ltb out (length (listText id (held x)))) refl refl e
+wrote x id out text e = go (isValid (x .list) (x .room)) (idRight id) (ltb out (length (joined (listLines id (held x))))) refl refl e
   where
     go : (a b c : Bool) → isValid (x .list) (x .room) ≡ a → idRight id ≡ b
-        → cond a (cond b (cond c (refused 17) (written (listText id (held x)))) (refused 18)) (refused 16) ≡ written text → Wrote x id text
+        → cond a (cond b (cond c (refused 17) (written (joined (listLines id (held x))))) (refused 18)) (refused 16) ≡ written text → Wrote x id text
     go true true true q r z = nope cc
     go true true false q r z = record { valid = q; right = r; is = cc }
     go true false c q r z = nope cc
@@ -219,7 +221,7 @@ itself x = record { room = refl; behind = refl }
 
 -- REFUSAL 16: 'list and room are no accepted reading of any file into that room'
 pub refusal-16 : (x : Look) → HasPlaces x → Refusal16 x
-refusal-16 x p = (λ v. (listText (bytes "a") (held x), valid-reads-back x p v x (itself x) (bytes "a") plain-id), λ f. left-valid x (f .0) x (f .1))
+refusal-16 x p = (λ v. (joined (listLines (bytes "a") (held x)), valid-reads-back x p v x (itself x) (bytes "a") plain-id), λ f. left-valid x (f .0) x (f .1))
 
 -- ---- which lists have 32 places, and which rooms are equal
 

@@ -37,7 +37,7 @@ use Rattle.claims.proofs.Refusals.{element-faults}
 use Rattle.pixel_run.specs.Finite.{firstNotFinite}
 use Rattle.running.specs.declared.Ran.{Ran}
 use Rattle.running.specs.Running.{notThrees, notFinite, ran, ranOf, pixelsOf}
-use Rattle.written_form.specs.Written.{Writing, refused, written, idRight, listText, fitting, writeOf, outputOf}
+use Rattle.written_form.specs.Written.{joined, listLines, Writing, refused, written, idRight, fitting, writeOf, outputOf}
 use Rattle.written_form.specs.Written as Text
 use Rattle.writing.specs.declared.Written.{Written}
 use Rattle.writing.specs.Writing.{writingAnswer}
@@ -57,10 +57,10 @@ record Zero (w : Writing) : Type 0 where
 -- the refusals of writing are 16, 18 and 17
 zero-written : (x : Look) (id : List ℕ) (n : ℕ) → Text.writingNumber (writing x id n) ≡ 0 → Zero (writing x id n)
 unfolding writeOf fitting
-zero-written x id n z = go (isValid (x .list) (x .room)) (idRight id) (ltb n (length (listText id (elementsOf (x .list) (x .room))))) z
+zero-written x id n z = go (isValid (x .list) (x .room)) (idRight id) (ltb n (length (joined (listLines id (elementsOf (x .list) (x .room)))))) z
   where
     text : List ℕ
-    text = listText id (elementsOf (x .list) (x .room))
+    text = joined (listLines id (elementsOf (x .list) (x .room)))
 
     go : (a b c : Bool) → Text.writingNumber (cond a (cond b (cond c (refused 17) (written text)) (refused 18)) (refused 16)) ≡ 0
         → Zero (cond a (cond b (cond c (refused 17) (written text)) (refused 18)) (refused 16))
@@ -120,7 +120,7 @@ unfolding writeOf fitting
 written-fits x id n = go (isValid (x .list) (x .room)) (idRight id) (ltb n (length text)) refl
   where
     text : List ℕ
-    text = listText id (elementsOf (x .list) (x .room))
+    text = joined (listLines id (elementsOf (x .list) (x .room)))
 
     go : (a b c : Bool) → ltb n (length text) ≡ c → Text.writingLength (cond a (cond b (cond c (refused 17) (written text)) (refused 18)) (refused 16)) ≤ n
     go true true true e = omega arith
@@ -164,7 +164,7 @@ write-refuses x p id r out₀ out₁ e o = record {
 }
   where
     text : List ℕ
-    text = listText id (elementsOf (x .list) (x .room))
+    text = joined (listLines id (elementsOf (x .list) (x .room)))
 
     valid : (a b c : Bool) → a ≡ true → Text.writingNumber (cond a (cond b (cond c (refused 17) (written text)) (refused 18)) (refused 16)) ≡ 16 → ⊥
     valid true true true v z = omega arith

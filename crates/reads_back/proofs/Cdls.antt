@@ -18,7 +18,8 @@ use Rattle.clf.specs.Numbers.{anyNumber, notBelowZero, onlyOne}
 use Rattle.clf.specs.Nodes.{cdlStyle, elementWith, holderRules, sopHolder, sopNode, satHolder, satNode, CdlState, noCdl, cdlHolder, cdlTexts, cdlNode, cdlRules, cdlContent, ascCdl}
 use Rattle.claims.proofs.Numbers.{Each, Kept}
 use Rattle.valid.specs.Valid.{every}
-use Rattle.written_form.specs.Written.{valueText, sopText, satText, depthText}
+use Rattle.written_form.specs.Written.{depthText}
+use Rattle.written_form.proofs.Tail.{valueText, sopText, satText}
 use Rattle.reads_back.proofs.Texts.{isName}
 use Rattle.reads_back.proofs.Tags.{quoted, greater-name, tag-from, tag-ends}
 use Rattle.reads_back.proofs.Held.{heldFrom, held-from, held-line, held-child, held-end}

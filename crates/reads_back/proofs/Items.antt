@@ -17,7 +17,7 @@ use Rattle.xml.specs.Xml.{endTag}
 use Rattle.xml.specs.Elements.{Part, misc, child, close}
 use Rattle.clf.specs.List.{Child, node, Flags, noFlags, childFault, childBody, listItem, nextFlags}
 use Rattle.clf.specs.Reading.{nodesAmong}
-use Rattle.written_form.specs.Written.{nodeText, nodesText}
+use Rattle.written_form.proofs.Tail.{nodeText, nodesText}
 use Rattle.reads_back.proofs.Texts.{isName}
 use Rattle.reads_back.proofs.Held.{between-line, between-end}
 use Rattle.reads_back.proofs.Nodes.{node-reads, node-shorter}

@@ -21,7 +21,8 @@ use Rattle.xml.specs.Xml.{endTag}
 use Rattle.xml.specs.Elements.{child}
 use Rattle.clf.specs.Nodes.{nodeName, matrix, lut1d, range, ascCdl}
 use Rattle.clf.specs.List.{node, Flags, childFault, childBody, listItem}
-use Rattle.written_form.specs.Written.{depthText, nameText, styleText, contentText, startText, endText, nodeText}
+use Rattle.written_form.specs.Written.{depthText, nameText, styleText}
+use Rattle.written_form.proofs.Tail.{contentText, startText, endText, nodeText}
 use Rattle.reads_back.proofs.Texts.{rest-short, isName}
 use Rattle.reads_back.proofs.Held.{between-child}
 use Rattle.reads_back.proofs.Tables.{space-name, matrix-name, lut-name, matrix-reads, lut-reads}

@@ -23,7 +23,7 @@ use Rattle.grammar.specs.Grammar.{look}
 use Rattle.xml.specs.Bytes.{isSpace}
 use Rattle.clf.specs.Numbers.{endsToken, token, saidBy, faultOf, numberByte, numbers}
 use Rattle.claims.proofs.Numbers.{Each, Kept}
-use Rattle.written_form.specs.Written.{spacedText, rowText, rowsText}
+use Rattle.written_form.proofs.Tail.{spacedText, rowText, rowsText}
 use Rattle.reads_back.proofs.Texts.{skip, isName, plainByte, text-reads}
 use Rattle.reads_back.proofs.Tags.{judge-reads, no-space, onlyEnd-reads}
 

@@ -19,7 +19,8 @@ use Rattle.clf.specs.Numbers.{anyNumber, valueElement}
 use Rattle.clf.specs.Nodes.{rangeStyle, elementWith, nodeRules, RangeState, noValues, rangeIndex, oneOf, rangeHolder, rangeTexts, rangeNode, range}
 use Rattle.claims.proofs.Numbers.{Each, Kept}
 use Rattle.valid.specs.Valid.{every}
-use Rattle.written_form.specs.Written.{valueText, rangeText, depthText}
+use Rattle.written_form.specs.Written.{depthText}
+use Rattle.written_form.proofs.Tail.{valueText, rangeText}
 use Rattle.reads_back.proofs.Texts.{isName}
 use Rattle.reads_back.proofs.Tags.{quoted}
 use Rattle.reads_back.proofs.Held.{heldFrom, held-from, held-line, held-end}

@@ -19,7 +19,8 @@ use Rattle.clf.specs.Numbers.{anyNumber}
 use Rattle.clf.specs.Nodes.{nodeRules, matrixShape, lutShape, array, Table, ArrayState, noArray, arrayHolder, tableNode, matrix, lutNames, lutTexts, lut1d}
 use Rattle.claims.proofs.Numbers.{Each, Kept}
 use Rattle.valid.specs.Valid.{every, tableRight}
-use Rattle.written_form.specs.Written.{rowsText, arrayText, depthText}
+use Rattle.written_form.specs.Written.{depthText}
+use Rattle.written_form.proofs.Tail.{rowsText, arrayText}
 use Rattle.reads_back.proofs.Texts.{isName}
 use Rattle.reads_back.proofs.Held.{held-from, held-line, held-child, held-end}
 use Rattle.reads_back.proofs.Shapes.{dimText, matrix-shape, lut-shape}

@@ -18,7 +18,7 @@ use Rattle.clf.specs.Numbers.{anyNumber, numbers, valueRules, valueElement}
 use Rattle.clf.specs.Nodes.{arrayRules, arrayOf, array}
 use Rattle.claims.proofs.Numbers.{Each, Kept}
 use Rattle.valid.specs.Valid.{every}
-use Rattle.written_form.specs.Written.{rowText, rowsText, valueText}
+use Rattle.written_form.proofs.Tail.{rowText, rowsText, valueText}
 use Rattle.reads_back.proofs.Texts.{isName}
 use Rattle.reads_back.proofs.Tags.{greater-name, tagFrom, tag-from, tag-ends, tag-more}
 use Rattle.reads_back.proofs.Held.{heldFrom, held-line, held-child}

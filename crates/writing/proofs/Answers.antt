@@ -14,7 +14,7 @@ use Rattle.valid.specs.Valid.{every, isValid, elementsOf}
 use Rattle.xml.specs.Bytes.{isLetter, isDigit, isNameByte}
 use Rattle.text_out.specs.Output.{counted, Puts}
 use Rattle.text_out.proofs.Laws.{counted-in, puts-is}
-use Rattle.written_form.specs.Written.{isIdByte, idRight, listText, Writing, refused, written, fitting, writeOf, outputOf}
+use Rattle.written_form.specs.Written.{joined, listLines, isIdByte, idRight, Writing, refused, written, fitting, writeOf, outputOf}
 use Rattle.written_form.proofs.Short.{list-short}
 use Rattle.written_form.proofs.Order.{list-first, id-second, output-last}
 use Rattle.writing.specs.Writing.{writingAnswer, Wrote}
@@ -65,7 +65,7 @@ module _ (l : ProcessList) (m : Room) (id out : List ℕ) where
 
     module _ (i : idRight id ≡ true) where
       abbrev text : List ℕ
-      text = listText id (elementsOf l m)
+      text = joined (listLines id (elementsOf l m))
 
       -- the count is the text's length
       exact : counted (length text) ≡ length text

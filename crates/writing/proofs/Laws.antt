@@ -13,7 +13,7 @@ use Rattle.valid.specs.Valid.{pairs, decimalAt, numbersAt}
 use Rattle.text_out.specs.Output.{Goes, Puts}
 use Rattle.text_out.proofs.Laws.{puts-as, goes-start}
 use Rattle.xml.specs.Bytes.{bytes}
-use Rattle.written_form.specs.Written.{spacedText, rowText, rowsText, valueText, rangeText, sopText, satText}
+use Rattle.written_form.proofs.Tail.{spacedText, rowText, rowsText, valueText, rangeText, sopText, satText}
 
 -- the text of a case that a match found
 pub puts-by : {A : Type 0} (f : A → List ℕ) {x y : A} {at r : ℕ} {s s' : List ℕ} → x ≡ y → Puts (λ t. f y ++ t) at s s' r → Puts (λ t. f x ++ t) at s s' r

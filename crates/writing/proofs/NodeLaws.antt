@@ -20,7 +20,7 @@ use Rattle.room.specs.Room.{Room, roomLength}
 use Rattle.valid.specs.Valid.{every, sound, shapeRight, isValid, numbersAt, elementOf, elementsOf}
 use Rattle.valid.proofs.Laws.{elements-at, elements-length}
 use Rattle.valid.proofs.Elements.{both-true, sound-shape, sound-short}
-use Rattle.written_form.specs.Written.{arrayText, rangeText, sopText, satText, contentText, nodeText, nodesText}
+use Rattle.written_form.proofs.Tail.{arrayText, rangeText, sopText, satText, contentText, nodeText, nodesText}
 use Rattle.written_form.proofs.Short.{valid-sound}
 
 -- ---- a node of each kind, and where its numbers stand

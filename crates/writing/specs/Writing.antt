@@ -12,7 +12,8 @@ use Rattle.writing.specs.declared.Written.{Written}
 abbrev pub writingAnswer : Writing → Written
 writingAnswer w = record { number = writingNumber w; length = writingLength w }
 
--- the text x stands in s from its start on, as far as s goes: that is s'; and r is the text's length
+-- the text x stands in s from its start on, as far as s goes: that is s'; and r is the text's length.
+-- (`counted` holds it within a usize. The text of a valid list under a right id is shorter than 16 MiB, so that its length is never cut)
 pub record Wrote (x s s' : List ℕ) (r : ℕ) : Type 0 where
   pub bytes : s' ≡ laid (length s) 0 x s
   pub size : r ≡ counted (length x)

@@ -6,7 +6,7 @@ ghost use Rattle.process_list.specs.List.{numbersOf};
 ghost use Rattle.room.specs.Room.{lent, roomLength};
 ghost use Rattle.valid.specs.Valid.{numbersAt, elementOf, elementsOf, isValid};
 ghost use Rattle.text_out.specs.Output.{Puts};
-ghost use Rattle.written_form.specs.Written as Text;
+ghost use Rattle.written_form.proofs.Tail as Tail;
 use crate::names::put_end;
 use crate::names::put_start;
 use crate::numbers::put_array;
@@ -18,7 +18,7 @@ use text_out::put;
 
 fn put_range(out: &mut [u8], at: usize, coefficients: &[i64], powers: &[i8], from: usize) -> usize
     requires { ⌜ from + 4 ≤ roomLength (lent (now coefficients) (now powers)) ⌝ }
-    ensures { λ r. ⌜ Puts (Text.rangeText (numbersAt (lent (now (coefficients .entry)) (now (powers .entry))) from 4)) at (now (out .entry)) (now (out .exit)) r ⌝ }
+    ensures { λ r. ⌜ Puts (Tail.rangeText (numbersAt (lent (now (coefficients .entry)) (now (powers .entry))) from 4)) at (now (out .entry)) (now (out .exit)) r ⌝ }
 {
     let a = put_value(out, at, b"minInValue", coefficients, powers, from, 1);
     let b = put_value(out, a, b"maxInValue", coefficients, powers, from + 1, 1);
@@ -28,7 +28,7 @@ fn put_range(out: &mut [u8], at: usize, coefficients: &[i64], powers: &[i8], fro
 
 fn put_sop(out: &mut [u8], at: usize, coefficients: &[i64], powers: &[i8], from: usize) -> usize
     requires { ⌜ from + 10 ≤ roomLength (lent (now coefficients) (now powers)) ⌝ }
-    ensures { λ r. ⌜ Puts (Text.sopText (numbersAt (lent (now (coefficients .entry)) (now (powers .entry))) from 10)) at (now (out .entry)) (now (out .exit)) r ⌝ }
+    ensures { λ r. ⌜ Puts (Tail.sopText (numbersAt (lent (now (coefficients .entry)) (now (powers .entry))) from 10)) at (now (out .entry)) (now (out .exit)) r ⌝ }
 {
     let a = put(out, at, b"<SOPNode>\n");
     let b = put_value(out, a, b"Slope", coefficients, powers, from, 3);
@@ -39,7 +39,7 @@ fn put_sop(out: &mut [u8], at: usize, coefficients: &[i64], powers: &[i8], from:
 
 fn put_sat(out: &mut [u8], at: usize, coefficients: &[i64], powers: &[i8], from: usize) -> usize
     requires { ⌜ from + 10 ≤ roomLength (lent (now coefficients) (now powers)) ⌝ }
-    ensures { λ r. ⌜ Puts (Text.satText (numbersAt (lent (now (coefficients .entry)) (now (powers .entry))) from 10)) at (now (out .entry)) (now (out .exit)) r ⌝ }
+    ensures { λ r. ⌜ Puts (Tail.satText (numbersAt (lent (now (coefficients .entry)) (now (powers .entry))) from 10)) at (now (out .entry)) (now (out .exit)) r ⌝ }
 {
     let a = put(out, at, b"<SatNode>\n");
     let b = put_value(out, a, b"Saturation", coefficients, powers, from + 9, 1);
@@ -56,7 +56,7 @@ fn put_content(
     from: usize,
 ) -> usize
     requires { ⌜ from + numbersOf kind ≤ roomLength (lent (now coefficients) (now powers)) ⌝ }
-    ensures { λ r. ⌜ Puts (Text.contentText kind (numbersAt (lent (now (coefficients .entry)) (now (powers .entry))) from (numbersOf kind))) at (now (out .entry)) (now (out .exit)) r ⌝ }
+    ensures { λ r. ⌜ Puts (Tail.contentText kind (numbersAt (lent (now (coefficients .entry)) (now (powers .entry))) from (numbersOf kind))) at (now (out .entry)) (now (out .exit)) r ⌝ }
 {
     match kind {
         Kind::Matrix { wide } => {
@@ -78,7 +78,7 @@ fn put_content(
 
 fn put_node(out: &mut [u8], at: usize, node: Node, coefficients: &[i64], powers: &[i8]) -> usize
     requires { ⌜ node .at + numbersOf (node .kind) ≤ roomLength (lent (now coefficients) (now powers)) ⌝ }
-    ensures { λ r. ⌜ Puts (Text.nodeText (elementOf (lent (now (coefficients .entry)) (now (powers .entry))) node)) at (now (out .entry)) (now (out .exit)) r ⌝ }
+    ensures { λ r. ⌜ Puts (Tail.nodeText (elementOf (lent (now (coefficients .entry)) (now (powers .entry))) node)) at (now (out .entry)) (now (out .exit)) r ⌝ }
 {
     let kind = node.kind;
     let input = node.input;
@@ -98,7 +98,7 @@ pub fn put_nodes(
     powers: &[i8],
 ) -> usize
     requires { ⌜ isValid list (lent (now coefficients) (now powers)) ≡ true ⌝ }
-    ensures { λ r. ⌜ Puts (Text.nodesText (elementsOf list (lent (now (coefficients .entry)) (now (powers .entry))))) at (now (out .entry)) (now (out .exit)) r ⌝ }
+    ensures { λ r. ⌜ Puts (Tail.nodesText (elementsOf list (lent (now (coefficients .entry)) (now (powers .entry))))) at (now (out .entry)) (now (out .exit)) r ⌝ }
 {
     let count = process_list::held(list);
     let mut held = at;

@@ -65,7 +65,7 @@ fn put_list(
     id: &[u8],
 ) -> usize
     requires { ⌜ isValid list (lent (now coefficients) (now powers)) ≡ true ⌝ }
-    ensures { λ r. ⌜ Wrote (Text.listText (now (id .entry)) (elementsOf list (lent (now (coefficients .entry)) (now (powers .entry))))) (now (out .entry)) (now (out .exit)) r ⌝ }
+    ensures { λ r. ⌜ Wrote (Text.joined (Text.listLines (now (id .entry)) (elementsOf list (lent (now (coefficients .entry)) (now (powers .entry)))))) (now (out .entry)) (now (out .exit)) r ⌝ }
 {
     let a = text_out::put(
         out,
@@ -81,7 +81,7 @@ fn put_list(
 // The length of the text: it is put into an output that is thrown away.
 fn text_length(list: ProcessList, coefficients: &[i64], powers: &[i8], id: &[u8]) -> usize
     requires { ⌜ isValid list (lent (now coefficients) (now powers)) ≡ true ⌝ }
-    ensures { λ r. ⌜ r ≡ counted (length (Text.listText (now (id .entry)) (elementsOf list (lent (now (coefficients .entry)) (now (powers .entry)))))) ⌝ }
+    ensures { λ r. ⌜ r ≡ counted (length (Text.joined (Text.listLines (now (id .entry)) (elementsOf list (lent (now (coefficients .entry)) (now (powers .entry))))))) ⌝ }
 {
     let mut none = [0u8; 1];
     put_list(&mut none, list, coefficients, powers, id)

@@ -2,6 +2,7 @@
 ghost use mathlib.Core.List.{_++_};
 ghost use Rattle.text_out.specs.Output.{Puts};
 ghost use Rattle.written_form.specs.Written as Text;
+ghost use Rattle.written_form.proofs.Tail as Tail;
 use process_list::CdlStyle;
 use process_list::Depth;
 use process_list::Kind;
@@ -68,7 +69,7 @@ fn put_style(out: &mut [u8], at: usize, kind: Kind) -> usize
 }
 
 fn put_depths(out: &mut [u8], at: usize, input: Depth, output: Depth) -> usize
-    ensures { λ r. ⌜ Puts (Text.depthsText input output) at (now (out .entry)) (now (out .exit)) r ⌝ }
+    ensures { λ r. ⌜ Puts (Tail.depthsText input output) at (now (out .entry)) (now (out .exit)) r ⌝ }
 {
     let a = put(out, at, b" inBitDepth=\"");
     let b = put_depth(out, a, input);
@@ -78,7 +79,7 @@ fn put_depths(out: &mut [u8], at: usize, input: Depth, output: Depth) -> usize
 }
 
 pub fn put_start(out: &mut [u8], at: usize, kind: Kind, input: Depth, output: Depth) -> usize
-    ensures { λ r. ⌜ Puts (Text.startText kind input output) at (now (out .entry)) (now (out .exit)) r ⌝ }
+    ensures { λ r. ⌜ Puts (Tail.startText kind input output) at (now (out .entry)) (now (out .exit)) r ⌝ }
 {
     let a = put(out, at, b"<");
     let b = put_name(out, a, kind);
@@ -88,7 +89,7 @@ pub fn put_start(out: &mut [u8], at: usize, kind: Kind, input: Depth, output: De
 }
 
 pub fn put_end(out: &mut [u8], at: usize, kind: Kind) -> usize
-    ensures { λ r. ⌜ Puts (Text.endText kind) at (now (out .entry)) (now (out .exit)) r ⌝ }
+    ensures { λ r. ⌜ Puts (Tail.endText kind) at (now (out .entry)) (now (out .exit)) r ⌝ }
 {
     let a = put(out, at, b"</");
     let b = put_name(out, a, kind);

@@ -5,7 +5,7 @@ ghost use Rattle.decimal_write.specs.Written.{writtenOf};
 ghost use Rattle.room.specs.Room.{lent, roomLength};
 ghost use Rattle.valid.specs.Valid.{decimalAt, numbersAt};
 ghost use Rattle.text_out.specs.Output.{Puts};
-ghost use Rattle.written_form.specs.Written as Text;
+ghost use Rattle.written_form.proofs.Tail as Tail;
 use decimal::Decimal;
 
 // The number of index k.
@@ -28,7 +28,7 @@ fn put_spaced(
     count: usize,
 ) -> usize
     requires { ⌜ from + count ≤ roomLength (lent (now coefficients) (now powers)) ⌝ }
-    ensures { λ r. ⌜ Puts (Text.spacedText (numbersAt (lent (now (coefficients .entry)) (now (powers .entry))) from count)) at (now (out .entry)) (now (out .exit)) r ⌝ }
+    ensures { λ r. ⌜ Puts (Tail.spacedText (numbersAt (lent (now (coefficients .entry)) (now (powers .entry))) from count)) at (now (out .entry)) (now (out .exit)) r ⌝ }
 {
     let mut held = at;
     let mut i = 0;
@@ -50,7 +50,7 @@ pub fn put_row(
     count: usize,
 ) -> usize
     requires { ⌜ from + count ≤ roomLength (lent (now coefficients) (now powers)) ⌝ }
-    ensures { λ r. ⌜ Puts (Text.rowText (numbersAt (lent (now (coefficients .entry)) (now (powers .entry))) from count)) at (now (out .entry)) (now (out .exit)) r ⌝ }
+    ensures { λ r. ⌜ Puts (Tail.rowText (numbersAt (lent (now (coefficients .entry)) (now (powers .entry))) from count)) at (now (out .entry)) (now (out .exit)) r ⌝ }
 {
     if count == 0 {
         return at;
@@ -70,7 +70,7 @@ fn put_rows(
     columns: usize,
 ) -> usize
     requires { ⌜ from + rows * columns ≤ roomLength (lent (now coefficients) (now powers)) ⌝ }
-    ensures { λ r. ⌜ Puts (Text.rowsText rows columns (numbersAt (lent (now (coefficients .entry)) (now (powers .entry))) from (rows * columns))) at (now (out .entry)) (now (out .exit)) r ⌝ }
+    ensures { λ r. ⌜ Puts (Tail.rowsText rows columns (numbersAt (lent (now (coefficients .entry)) (now (powers .entry))) from (rows * columns))) at (now (out .entry)) (now (out .exit)) r ⌝ }
 {
     let mut held = at;
     let mut k = from;
@@ -95,7 +95,7 @@ pub fn put_array(
     columns: usize,
 ) -> usize
     requires { ⌜ from + rows * columns ≤ roomLength (lent (now coefficients) (now powers)) ⌝ }
-    ensures { λ r. ⌜ Puts (Text.arrayText rows columns (numbersAt (lent (now (coefficients .entry)) (now (powers .entry))) from (rows * columns))) at (now (out .entry)) (now (out .exit)) r ⌝ }
+    ensures { λ r. ⌜ Puts (Tail.arrayText rows columns (numbersAt (lent (now (coefficients .entry)) (now (powers .entry))) from (rows * columns))) at (now (out .entry)) (now (out .exit)) r ⌝ }
 {
     let a = text_out::put(out, at, b"<Array dim=\"");
     let b = text_out::put_digits(out, a, rows);
@@ -117,7 +117,7 @@ pub fn put_value(
     count: usize,
 ) -> usize
     requires { ⌜ from + count ≤ roomLength (lent (now coefficients) (now powers)) ⌝ }
-    ensures { λ r. ⌜ Puts (Text.valueText (now (name .entry)) (numbersAt (lent (now (coefficients .entry)) (now (powers .entry))) from count)) at (now (out .entry)) (now (out .exit)) r ⌝ }
+    ensures { λ r. ⌜ Puts (Tail.valueText (now (name .entry)) (numbersAt (lent (now (coefficients .entry)) (now (powers .entry))) from count)) at (now (out .entry)) (now (out .exit)) r ⌝ }
 {
     let a = text_out::put(out, at, b"<");
     let b = text_out::put(out, a, name);

@@ -11,7 +11,8 @@ use Rattle.process_list.specs.declared.Kind.the-variants.{Matrix, Lut1d, Range,
 use Rattle.process_list.specs.List.{Element}
 use Rattle.xml.specs.Bytes.{bytes}
 use Rattle.decimal_write.specs.Written.{digitsWithin, digits, whole, exponent, writtenOf}
-use Rattle.written_form.specs.Written.{spacedText, rowText, rowsText, arrayText, valueText, rangeText, sopText, satText, contentText, startText, endText, nodeText, nodesText, headText, listText, refused, written, fitting, outputOf}
+use Rattle.written_form.specs.Written.{joined, opening, closing, attribute, row, valueLine, rowLines, arrayLine, arrayLines, rangeLines, cdlLines, contentLines}
+use Rattle.written_form.specs.Written.{startLine, nodeLines, nodesLines, rootLine, listLines, refused, written, fitting, outputOf}
 
 abbrev zero : Decimal
 zero = record { coefficient = pos 0; power = pos 0 }
@@ -28,9 +29,17 @@ abbrev large : Decimal
 large = record { coefficient = negsuc 24; power = pos 22 }
 
 -- 'Whole, for id `a`'
-pub whole-example : listText (bytes "a") (record { kind = Range Clamp; input = F32; output = F32; numbers = zero ∷ one ∷ zero ∷ half ∷ [] } ∷ [])
-    ≡ bytes "<?xml version=\"1.0\" encoding=\"UTF-8\"?>\n<ProcessList id=\"a\" compCLFversion=\"3.0\">\n<Range inBitDepth=\"32f\" outBitDepth=\"32f\" style=\"Clamp\">\n<minInValue>0</minInValue>\n<maxInValue>1</maxInValue>\n<minOutValue>0</minOutValue>\n<maxOutValue>5e-1</maxOutValue>\n</Range>\n</ProcessList>\n"
-unfolding listText headText nodesText nodeText startText endText contentText rangeText valueText rowText spacedText writtenOf whole exponent digits digitsWithin
+pub whole-example : joined (listLines (bytes "a") (record { kind = Range Clamp; input = F32; output = F32; numbers = zero ∷ one ∷ zero ∷ half ∷ [] } ∷ []))
+    ≡ bytes "<?xml version=\"1.0\" encoding=\"UTF-8\"?>\n"
+    ++ bytes "<ProcessList id=\"a\" compCLFversion=\"3.0\">\n"
+    ++ bytes "<Range inBitDepth=\"32f\" outBitDepth=\"32f\" style=\"Clamp\">\n"
+    ++ bytes "<minInValue>0</minInValue>\n"
+    ++ bytes "<maxInValue>1</maxInValue>\n"
+    ++ bytes "<minOutValue>0</minOutValue>\n"
+    ++ bytes "<maxOutValue>5e-1</maxOutValue>\n"
+    ++ bytes "</Range>\n"
+    ++ bytes "</ProcessList>\n"
+unfolding joined listLines rootLine nodesLines nodeLines startLine contentLines rangeLines valueLine opening closing attribute row writtenOf whole exponent digits digitsWithin
 whole-example = refl
 
 -- a Matrix 3x4, a LUT1D of two entries of three columns, an ASC_CDL of style FwdNoClamp, a Range of style noClamp
@@ -42,12 +51,37 @@ others =
     ∷ record { kind = Range NoClamp; input = I12; output = I16; numbers = zero ∷ one ∷ zero ∷ one ∷ [] }
     ∷ []
 
-pub other-nodes : nodesText others []
-    ≡ bytes "<Matrix inBitDepth=\"10i\" outBitDepth=\"16f\">\n<Array dim=\"3 4\">\n1 0 0 -25e22\n0 1 0 0\n0 0 1 5e-1\n</Array>\n</Matrix>\n"
-    ++ (bytes "<LUT1D inBitDepth=\"16f\" outBitDepth=\"8i\">\n<Array dim=\"2 3\">\n0 0 0\n1 5e-1 1\n</Array>\n</LUT1D>\n"
-    ++ (bytes "<ASC_CDL inBitDepth=\"8i\" outBitDepth=\"12i\" style=\"FwdNoClamp\">\n<SOPNode>\n<Slope>1 5e-1 1</Slope>\n<Offset>0 0 5e-1</Offset>\n<Power>1 1 1</Power>\n</SOPNode>\n<SatNode>\n<Saturation>5e-1</Saturation>\n</SatNode>\n</ASC_CDL>\n"
-    ++ bytes "<Range inBitDepth=\"12i\" outBitDepth=\"16i\" style=\"noClamp\">\n<minInValue>0</minInValue>\n<maxInValue>1</maxInValue>\n<minOutValue>0</minOutValue>\n<maxOutValue>1</maxOutValue>\n</Range>\n"))
-unfolding nodesText nodeText startText endText contentText arrayText rowsText rangeText sopText satText valueText rowText spacedText writtenOf whole exponent digits digitsWithin
+pub other-nodes : joined (nodesLines others)
+    ≡ bytes "<Matrix inBitDepth=\"10i\" outBitDepth=\"16f\">\n"
+    ++ bytes "<Array dim=\"3 4\">\n"
+    ++ bytes "1 0 0 -25e22\n"
+    ++ bytes "0 1 0 0\n"
+    ++ bytes "0 0 1 5e-1\n"
+    ++ bytes "</Array>\n"
+    ++ bytes "</Matrix>\n"
+    ++ bytes "<LUT1D inBitDepth=\"16f\" outBitDepth=\"8i\">\n"
+    ++ bytes "<Array dim=\"2 3\">\n"
+    ++ bytes "0 0 0\n"
+    ++ bytes "1 5e-1 1\n"
+    ++ bytes "</Array>\n"
+    ++ bytes "</LUT1D>\n"
+    ++ bytes "<ASC_CDL inBitDepth=\"8i\" outBitDepth=\"12i\" style=\"FwdNoClamp\">\n"
+    ++ bytes "<SOPNode>\n"
+    ++ bytes "<Slope>1 5e-1 1</Slope>\n"
+    ++ bytes "<Offset>0 0 5e-1</Offset>\n"
+    ++ bytes "<Power>1 1 1</Power>\n"
+    ++ bytes "</SOPNode>\n"
+    ++ bytes "<SatNode>\n"
+    ++ bytes "<Saturation>5e-1</Saturation>\n"
+    ++ bytes "</SatNode>\n"
+    ++ bytes "</ASC_CDL>\n"
+    ++ bytes "<Range inBitDepth=\"12i\" outBitDepth=\"16i\" style=\"noClamp\">\n"
+    ++ bytes "<minInValue>0</minInValue>\n"
+    ++ bytes "<maxInValue>1</maxInValue>\n"
+    ++ bytes "<minOutValue>0</minOutValue>\n"
+    ++ bytes "<maxOutValue>1</maxOutValue>\n"
+    ++ bytes "</Range>\n"
+unfolding joined nodesLines nodeLines startLine contentLines arrayLine arrayLines rowLines rangeLines cdlLines valueLine opening closing attribute row writtenOf whole exponent digits digitsWithin
 other-nodes = refl
 
 -- an output of the text's length is long enough, one of a byte less is 17

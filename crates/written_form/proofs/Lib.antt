@@ -1,3 +1,4 @@
 pub mod Example
 pub mod Order
 pub mod Short
+pub mod Tail

@@ -6,7 +6,7 @@ use Prim.Native.Nat.{ℕ}
 use Rattle.process_list.specs.declared.ProcessList.{ProcessList}
 use Rattle.room.specs.Room.{Room}
 use Rattle.valid.specs.Valid.{isValid, elementsOf}
-use Rattle.written_form.specs.Written.{idRight, listText, refused, fitting, writeOf}
+use Rattle.written_form.specs.Written.{joined, listLines, idRight, refused, fitting, writeOf}
 
 module _ (l : ProcessList) (m : Room) (id : List ℕ) (out : ℕ) where
   -- 16 first, whatever the id and the output are
@@ -20,6 +20,6 @@ module _ (l : ProcessList) (m : Room) (id : List ℕ) (out : ℕ) where
   id-second v i = simp (v, i)
 
   -- and 17 where nothing else is to be refused
-  pub output-last : isValid l m ≡ true → idRight id ≡ true → writeOf l m id out ≡ fitting out (listText id (elementsOf l m))
+  pub output-last : isValid l m ≡ true → idRight id ≡ true → writeOf l m id out ≡ fitting out (joined (listLines id (elementsOf l m)))
   unfolding writeOf
   output-last v i = simp (v, i)

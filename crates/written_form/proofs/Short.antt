@@ -25,7 +25,9 @@ use Rattle.valid.proofs.Laws.{elements-length}
 use Rattle.valid.proofs.Elements.{both-true, Right, right-few, valid-parts}
 use Rattle.valid.proofs.Readings.{used-is}
 use Rattle.xml.specs.Bytes.{bytes}
-use Rattle.written_form.specs.Written.{spacedText, rowText, rowsText, arrayText, valueText, rangeText, sopText, satText, contentText, nameText, depthText, styleText, startText, endText, nodeText, nodesText, headText, listText, isIdByte, idRight}
+use Rattle.written_form.specs.Written.{joined, nameText, depthText, styleText, listLines, isIdByte, idRight}
+use Rattle.written_form.proofs.Tail.{spacedText, rowText, rowsText, arrayText, valueText, rangeText, sopText, satText, contentText}
+use Rattle.written_form.proofs.Tail.{startText, endText, nodeText, nodesText, headText, listText, list-text}
 
 -- ---- numbers: at most 20 bytes each, and one byte to part them
 spaced-short : (ds : List Decimal) (t : List ℕ) → length (spacedText ds t) ≤ 21 * length ds + length t
@@ -191,11 +193,12 @@ id-short id h =
     leb-true (length id) 64 (both-true (leb 1 (length id)) (leb (length id) 64) (p .0) .1)
 
 -- the text of 32 sound elements at most, with 262,144 numbers at most
-pub elements-short : (id : List ℕ) (es : List Element) → idRight id ≡ true → every sound es ≡ true → length es ≤ 32 → length (allNumbers es) ≤ 262144 → length (listText id es) ≤ 16777216
+pub elements-short : (id : List ℕ) (es : List Element) → idRight id ≡ true → every sound es ≡ true → length es ≤ 32 → length (allNumbers es) ≤ 262144
+    → length (joined (listLines id es)) ≤ 16777216
 unfolding listText
 elements-short id es h s few n =
     let z : List ℕ = bytes "</ProcessList>\n" in
-    omega (arith, head-short id (nodesText es z), id-short id h, nodes-short es z s)
+    rw (← list-text id es) (omega (arith, head-short id (nodesText es z), id-short id h, nodes-short es z s))
 
 module _ (l : ProcessList) (m : Room) (v : isValid l m ≡ true) where
   -- what validity says of the list, and of its elements
@@ -205,7 +208,7 @@ module _ (l : ProcessList) (m : Room) (v : isValid l m ≡ true) where
   pub valid-sound : every sound (elementsOf l m) ≡ true
   valid-sound = valid-parts l m v .sounds
 
-  pub list-short : (id : List ℕ) → idRight id ≡ true → length (listText id (elementsOf l m)) ≤ 16777216
+  pub list-short : (id : List ℕ) → idRight id ≡ true → length (joined (listLines id (elementsOf l m))) ≤ 16777216
   unfolding nodesOf
   list-short id h =
       let r = valid-list in

@@ -1,5 +1,6 @@
--- The written form (document 01): the text of a list under an id, and what writing answers. Definitions only.
--- Each text is written in front of what follows it: `nodeText e t` is the text of the node e, then t.
+-- The written form (document 01): the lines of a list under an id, their text, and what writing answers. Definitions only.
+-- Only the lines of a valid list are written (`writeOf`: 16 first). Each of its nodes has a shape that is carried, as many numbers as its kind, and each number is of our form (`sound` of `valid`):
+-- so what is said below for every list of numbers, also of too few or of none, is written for just as many as the node's kind has.
 use mathlib.Core.Bool.{Bool, cond, _&&_, _||_}
 use mathlib.Core.List.{List, [], _∷_, _++_}
 use Prim.Native.Nat.{ℕ, zero, suc}
@@ -19,68 +20,100 @@ use Rattle.process_list.specs.declared.ProcessList.{ProcessList}
 use Rattle.process_list.specs.List.{Element}
 use Rattle.room.specs.Room.{Room}
 use Rattle.valid.specs.Valid.{every, isValid, elementsOf}
-use Rattle.xml.specs.Bytes.{bytes, isLetter, isDigit}
+use Rattle.xml.specs.Bytes.{bytes, isLetter, isDigit, dash}
 
--- ---- numbers: 'A number is its coefficient, then `e` and the power unless 0' (`writtenOf`)
+-- ---- lines, and pieces of a line
 
--- 'single spaces': one before each number but the first
-unfoldable pub spacedText : List Decimal → List ℕ → List ℕ
-spacedText [] t = t
-spacedText (d ∷ ds) t = bytes " " ++ (writtenOf d ++ spacedText ds t)
+-- 'LF', the byte that ends a line
+abbrev pub lineFeed : ℕ
+lineFeed = 10
 
--- the numbers of one line
-unfoldable pub rowText : List Decimal → List ℕ → List ℕ
-rowText [] t = t
-rowText (d ∷ ds) t = writtenOf d ++ spacedText ds t
+-- 'LF after each': the text of lines
+unfoldable pub joined : List (List ℕ) → List ℕ
+joined [] = []
+joined (line ∷ lines) = line ++ (lineFeed ∷ joined lines)
 
--- 'one entry or row a line', of so many columns, 'LF after each'
-unfoldable pub rowsText : ℕ → ℕ → List Decimal → List ℕ → List ℕ
-rowsText zero columns ds t = t
-rowsText (suc rows) columns ds t = rowText (take columns ds) (bytes "\n" ++ rowsText rows columns (drop columns ds) t)
+-- the tags `<name>` and `</name>`
+unfoldable pub opening : List ℕ → List ℕ
+opening name = bytes "<" ++ name ++ bytes ">"
 
--- 'Array: `<Array dim="n c">` (dims as held), one entry or row a line, single spaces, `</Array>`'
-unfoldable pub arrayText : ℕ → ℕ → List Decimal → List ℕ → List ℕ
-arrayText rows columns ds t =
-    bytes "<Array dim=\"" ++ (digits rows ++ (bytes " " ++ (digits columns ++ (bytes "\">\n" ++
-    rowsText rows columns ds
-    (bytes "</Array>\n" ++ t)))))
+unfoldable pub closing : List ℕ → List ℕ
+closing name = bytes "</" ++ name ++ bytes ">"
+
+-- an attribute in a tag: ` name="text"`
+unfoldable pub attribute : List ℕ → List ℕ → List ℕ
+attribute name text = bytes " " ++ name ++ bytes "=\"" ++ text ++ bytes "\""
+
+-- numbers with 'single spaces' between them, each 'its coefficient, then `e` and the power unless 0' (`writtenOf`).
+-- No line of a valid list has a row of no numbers: a value element holds 1 or 3, a row of an Array 1, 3 or 4. Nor has it a number out of range, of which `writtenOf` says no bytes
+unfoldable pub row : List Decimal → List ℕ
+row [] = []
+row (d ∷ []) = writtenOf d
+row (d ∷ (e ∷ ds)) = writtenOf d ++ bytes " " ++ row (e ∷ ds)
 
 -- 'one .. value element a line': an element of this name that holds these numbers
-unfoldable pub valueText : List ℕ → List Decimal → List ℕ → List ℕ
-valueText name ds t = bytes "<" ++ (name ++ (bytes ">" ++ rowText ds (bytes "</" ++ (name ++ (bytes ">\n" ++ t)))))
+unfoldable pub valueLine : List ℕ → List Decimal → List ℕ
+valueLine name ds = opening name ++ row ds ++ closing name
+
+-- ---- what stands between a node's tags
+
+-- 'one entry or row a line': so many rows of so many columns, 'row by row' and 'entry by entry'. In a valid list there are rows times columns numbers, so none is left out and no row is short
+unfoldable pub rowLines : ℕ → ℕ → List Decimal → List (List ℕ)
+rowLines zero columns ds = []
+rowLines (suc rows) columns ds = row (take columns ds) ∷ rowLines rows columns (drop columns ds)
+
+-- '`<Array dim="n c">` (dims as held)'
+unfoldable pub arrayLine : ℕ → ℕ → List ℕ
+arrayLine rows columns = bytes "<Array" ++ attribute (bytes "dim") (digits rows ++ bytes " " ++ digits columns) ++ bytes ">"
+
+-- 'Array: `<Array dim="n c">` .., one entry or row a line, .. `</Array>`'
+unfoldable pub arrayLines : ℕ → ℕ → List Decimal → List (List ℕ)
+arrayLines rows columns ds = arrayLine rows columns ∷ rowLines rows columns ds ++ (closing (bytes "Array") ∷ [])
+
+-- a Matrix: '`dim` "3 3" or "3 4"'
+abbrev pub matrixRows : ℕ
+matrixRows = 3
+
+abbrev pub matrixColumns : Bool → ℕ
+matrixColumns wide = cond wide 4 3
+
+-- one, or three, of a node's numbers, from number k on, counted from 0. A Range of a valid list has 4 and an ASC_CDL 10, so that each of these is there
+abbrev pub one : ℕ → List Decimal → List Decimal
+one k ds = take 1 (drop k ds)
+
+abbrev pub three : ℕ → List Decimal → List Decimal
+three k ds = take 3 (drop k ds)
+
+-- Range, whose numbers stand 'in the order above': minInValue, maxInValue, minOutValue, maxOutValue
+unfoldable pub rangeLines : List Decimal → List (List ℕ)
+rangeLines ds =
+    valueLine (bytes "minInValue") (one 0 ds)
+    ∷ valueLine (bytes "maxInValue") (one 1 ds)
+    ∷ valueLine (bytes "minOutValue") (one 2 ds)
+    ∷ valueLine (bytes "maxOutValue") (one 3 ds)
+    ∷ []
+
+-- 'ASC_CDL writes both parts': 'SOPNode (Slope, Offset, Power in this order, three numbers each), then .. SatNode (Saturation)'
+unfoldable pub cdlLines : List Decimal → List (List ℕ)
+cdlLines ds =
+    opening (bytes "SOPNode")
+    ∷ valueLine (bytes "Slope") (three 0 ds)
+    ∷ valueLine (bytes "Offset") (three 3 ds)
+    ∷ valueLine (bytes "Power") (three 6 ds)
+    ∷ closing (bytes "SOPNode")
+    ∷ opening (bytes "SatNode")
+    ∷ valueLine (bytes "Saturation") (one 9 ds)
+    ∷ closing (bytes "SatNode")
+    ∷ []
+
+-- 'Matrix: one Array, .. row by row', 'LUT1D: one Array, .. entry by entry', and the value elements of a Range or an ASC_CDL
+unfoldable pub contentLines : Kind → List Decimal → List (List ℕ)
+contentLines (Matrix wide) ds = arrayLines matrixRows (matrixColumns wide) ds
+contentLines (Lut1d entries columns) ds = arrayLines entries columns ds
+contentLines (Range style) ds = rangeLines ds
+contentLines (Cdl style) ds = cdlLines ds
 
 -- ---- nodes
-
--- `count` of a node's numbers, from number k on, counted from 0
-abbrev pub some : ℕ → ℕ → List Decimal → List Decimal
-some k count ds = take count (drop k ds)
-
--- Range (List: '4 (in the order above)'): minInValue, maxInValue, minOutValue, maxOutValue
-unfoldable pub rangeText : List Decimal → List ℕ → List ℕ
-rangeText ds t =
-    valueText (bytes "minInValue") (some 0 1 ds)
-    (valueText (bytes "maxInValue") (some 1 1 ds)
-    (valueText (bytes "minOutValue") (some 2 1 ds)
-    (valueText (bytes "maxOutValue") (some 3 1 ds) t)))
-
--- 'ASC_CDL writes both parts': SOPNode (Slope, Offset, Power in this order, three numbers each), then SatNode (Saturation)
-unfoldable pub sopText : List Decimal → List ℕ → List ℕ
-sopText ds t =
-    bytes "<SOPNode>\n" ++
-    valueText (bytes "Slope") (some 0 3 ds)
-    (valueText (bytes "Offset") (some 3 3 ds)
-    (valueText (bytes "Power") (some 6 3 ds)
-    (bytes "</SOPNode>\n" ++ t)))
-
-unfoldable pub satText : List Decimal → List ℕ → List ℕ
-satText ds t = bytes "<SatNode>\n" ++ valueText (bytes "Saturation") (some 9 1 ds) (bytes "</SatNode>\n" ++ t)
-
--- what stands between a node's tags: a Matrix has three rows of three or four numbers, a LUT1D one row for each entry
-unfoldable pub contentText : Kind → List Decimal → List ℕ → List ℕ
-contentText (Matrix wide) ds t = arrayText 3 (cond wide 4 3) ds t
-contentText (Lut1d entries columns) ds t = arrayText entries columns ds t
-contentText (Range style) ds t = rangeText ds t
-contentText (Cdl style) ds t = sopText ds (satText ds t)
 
 -- a node's name
 abbrev pub nameText : Kind → List ℕ
@@ -114,41 +147,56 @@ styleText (Range style) = rangeStyleText style
 styleText (Cdl style) = cdlStyleText style
 
 -- 'attributes in the order in, out, style'
-abbrev pub depthsText : Depth → Depth → List ℕ → List ℕ
-depthsText input output t = bytes " inBitDepth=\"" ++ (depthText input ++ (bytes "\" outBitDepth=\"" ++ (depthText output ++ (bytes "\"" ++ t))))
+unfoldable pub startLine : Kind → Depth → Depth → List ℕ
+startLine kind input output =
+    bytes "<" ++ nameText kind
+    ++ attribute (bytes "inBitDepth") (depthText input)
+    ++ attribute (bytes "outBitDepth") (depthText output)
+    ++ styleText kind
+    ++ bytes ">"
 
-unfoldable pub startText : Kind → Depth → Depth → List ℕ → List ℕ
-startText kind input output t = bytes "<" ++ (nameText kind ++ depthsText input output (styleText kind ++ (bytes ">\n" ++ t)))
+-- 'one tag or value element a line, .. no indents': a node's start tag, what it holds, its end tag
+unfoldable pub nodeLines : Element → List (List ℕ)
+nodeLines e = startLine (e .kind) (e .input) (e .output) ∷ contentLines (e .kind) (e .numbers) ++ (closing (nameText (e .kind)) ∷ [])
 
-unfoldable pub endText : Kind → List ℕ → List ℕ
-endText kind t = bytes "</" ++ (nameText kind ++ (bytes ">\n" ++ t))
+-- the nodes, in list order
+unfoldable pub nodesLines : List Element → List (List ℕ)
+nodesLines [] = []
+nodesLines (e ∷ es) = nodeLines e ++ nodesLines es
 
--- 'one tag or value element a line, LF after each, no indents'
-unfoldable pub nodeText : Element → List ℕ → List ℕ
-nodeText e t = startText (e .kind) (e .input) (e .output) (contentText (e .kind) (e .numbers) (endText (e .kind) t))
+-- ---- the whole, under an id
 
-unfoldable pub nodesText : List Element → List ℕ → List ℕ
-nodesText [] t = t
-nodesText (e ∷ es) t = nodeText e (nodesText es t)
+-- 'Declaration', the 38 bytes with which a file starts
+abbrev pub declaration : List ℕ
+declaration = bytes "<?xml version=\"1.0\" encoding=\"UTF-8\"?>"
 
--- ---- the whole text, under an id
+-- 'ProcessList: `id` .., `compCLFversion` "3.0"'
+unfoldable pub rootLine : List ℕ → List ℕ
+rootLine id = bytes "<ProcessList" ++ attribute (bytes "id") id ++ attribute (bytes "compCLFversion") (bytes "3.0") ++ bytes ">"
 
--- 'Declaration', and the start tag of ProcessList
-unfoldable pub headText : List ℕ → List ℕ → List ℕ
-headText id t =
-    bytes "<?xml version=\"1.0\" encoding=\"UTF-8\"?>\n<ProcessList id=\"" ++ (id ++ (bytes "\" compCLFversion=\"3.0\">\n" ++ t))
-
-unfoldable pub listText : List ℕ → List Element → List ℕ
-listText id es = headText id (nodesText es (bytes "</ProcessList>\n"))
+-- 'Declaration, then one tag or value element a line'
+unfoldable pub listLines : List ℕ → List Element → List (List ℕ)
+listLines id es = declaration ∷ rootLine id ∷ nodesLines es ++ (closing (bytes "ProcessList") ∷ [])
 
 -- ---- what writing answers
 
+-- the bytes `_` and `.`
+abbrev pub underscore : ℕ
+underscore = 95
+
+abbrev pub point : ℕ
+point = 46
+
 -- 18: 'id for writing not 1 to 64 of letters, digits, `-`, `_`, `.`'
 unfoldable pub isIdByte : ℕ → Bool
-isIdByte b = isLetter b || (isDigit b || (eqb b 95 || (eqb b 45 || eqb b 46)))
+isIdByte b = isLetter b || (isDigit b || (eqb b underscore || (eqb b dash || eqb b point)))
+
+-- '1 to 64'
+abbrev pub mostIdBytes : ℕ
+mostIdBytes = 64
 
 unfoldable pub idRight : List ℕ → Bool
-idRight id = leb 1 (length id) && leb (length id) 64 && every isIdByte id
+idRight id = leb 1 (length id) && leb (length id) mostIdBytes && every isIdByte id
 
 -- a refusal with its number, or the text
 pub data Writing : Type 0 where
@@ -163,7 +211,7 @@ fitting out t = cond (ltb out (length t)) (refused 17) (written t)
 unfoldable pub writeOf : ProcessList → Room → List ℕ → ℕ → Writing
 writeOf l m id out =
     cond (isValid l m)
-    (cond (idRight id) (fitting out (listText id (elementsOf l m))) (refused 18))
+    (cond (idRight id) (fitting out (joined (listLines id (elementsOf l m)))) (refused 18))
     (refused 16)
 
 -- the refusal number, 0 for accepted; its place is 0 ('of 0, 4, 14 and 16 to 19, 0')

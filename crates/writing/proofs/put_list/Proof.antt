@@ -1,6 +1,6 @@
 -- The head, the nodes, the end tag. Assumes nothing.
 use Rattle.text_out.proofs.Laws.{puts-then}
-use Rattle.written_form.specs.Written.{headText, listText}
+use Rattle.written_form.proofs.Tail.{headText, listText, list-text}
 use Rattle.writing.proofs.Answers.{wrote}
 use borrow.Author.Needs.{needs}
 use Rattle.writing.proofs.put_list.Statement.{statement}
@@ -8,7 +8,7 @@ use Rattle.writing.proofs.put_list.Tie as tie
 
 returns : tie.Need-returns
 unfolding headText listText
-returns c = wrote (puts-then (c .before .before .before .before .before .before .before .before .before .before .before .before .before .before .before .before .before .before .before .before .put .ensures) (puts-then (c .before .before .before .before .before .before .before .before .before .before .before .before .before .before .before .before .put2 .ensures) (puts-then (c .before .before .before .before .before .before .before .before .before .before .before .put3 .ensures) (puts-then (c .before .before .before .before .before .before .before .put-nodes .ensures) (c .before .before .put4 .ensures))))) (search needs)
+returns c = rw (← list-text) (wrote (puts-then (c .before .before .before .before .before .before .before .before .before .before .before .before .before .before .before .before .before .before .before .before .put .ensures) (puts-then (c .before .before .before .before .before .before .before .before .before .before .before .before .before .before .before .before .put2 .ensures) (puts-then (c .before .before .before .before .before .before .before .before .before .before .before .put3 .ensures) (puts-then (c .before .before .before .before .before .before .before .put-nodes .ensures) (c .before .before .put4 .ensures))))) (search needs))
 
 pub put-list-spec : {M : Type 1} → statement M
 put-list-spec =

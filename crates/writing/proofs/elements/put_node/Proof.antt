@@ -1,7 +1,7 @@
 -- Start tag, content, end tag. Assumes nothing.
 use Rattle.text_out.proofs.Laws.{puts-then}
 use Rattle.valid.specs.Valid.{elementOf}
-use Rattle.written_form.specs.Written.{nodeText}
+use Rattle.written_form.proofs.Tail.{nodeText}
 use borrow.Author.Needs.{needs}
 use Rattle.writing.proofs.elements.put_node.Statement.{statement}
 use Rattle.writing.proofs.elements.put_node.Tie as tie

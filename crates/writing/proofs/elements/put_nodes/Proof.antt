@@ -6,7 +6,7 @@ use Rattle.room.specs.Room.{lent}
 use Rattle.valid.specs.Valid.{elementsOf}
 use Rattle.text_out.specs.Output.{Goes}
 use Rattle.text_out.proofs.Laws.{goes-start, goes-then, goes-end}
-use Rattle.written_form.specs.Written.{nodesText}
+use Rattle.written_form.proofs.Tail.{nodesText}
 use Rattle.writing.proofs.NodeLaws.{node-asks, nodes-next, nodes-last}
 use borrow.Author.Needs.{needs}
 use Rattle.writing.proofs.elements.put_nodes.Statement.{statement}

@@ -1,6 +1,6 @@
 -- An end tag. Assumes nothing.
 use Rattle.text_out.proofs.Laws.{puts-then}
-use Rattle.written_form.specs.Written.{endText}
+use Rattle.written_form.proofs.Tail.{endText}
 use borrow.Author.Needs.{needs}
 use Rattle.writing.proofs.names.put_end.Statement.{statement}
 use Rattle.writing.proofs.names.put_end.Tie as tie

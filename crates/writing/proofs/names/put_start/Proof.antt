@@ -1,6 +1,6 @@
 -- Name, depths, style. Assumes nothing.
 use Rattle.text_out.proofs.Laws.{puts-then}
-use Rattle.written_form.specs.Written.{startText}
+use Rattle.written_form.proofs.Tail.{startText}
 use borrow.Author.Needs.{needs}
 use Rattle.writing.proofs.names.put_start.Statement.{statement}
 use Rattle.writing.proofs.names.put_start.Tie as tie

@@ -1,6 +1,6 @@
 -- An Array. Assumes nothing.
 use Rattle.text_out.proofs.Laws.{puts-then}
-use Rattle.written_form.specs.Written.{arrayText}
+use Rattle.written_form.proofs.Tail.{arrayText}
 use borrow.Author.Needs.{needs}
 use Rattle.writing.proofs.numbers.put_array.Statement.{statement}
 use Rattle.writing.proofs.numbers.put_array.Tie as tie

@@ -6,7 +6,7 @@ use Rattle.room.specs.Room.{lent, roomLength}
 use Rattle.valid.specs.Valid.{numbersAt}
 use Rattle.text_out.specs.Output.{Goes}
 use Rattle.text_out.proofs.Laws.{goes-then, goes-end, puts-then}
-use Rattle.written_form.specs.Written.{rowsText}
+use Rattle.written_form.proofs.Tail.{rowsText}
 use Rattle.writing.proofs.Laws.{rows-all, rows-start, rows-next, rows-last, rows-left}
 use borrow.Author.Needs.{needs}
 use Rattle.writing.proofs.numbers.put_rows.Statement.{statement}

@@ -5,7 +5,7 @@ use Rattle.room.specs.Room.{lent, roomLength}
 use Rattle.valid.specs.Valid.{numbersAt}
 use Rattle.text_out.specs.Output.{Goes}
 use Rattle.text_out.proofs.Laws.{goes-then, goes-end, puts-then}
-use Rattle.written_form.specs.Written.{spacedText}
+use Rattle.written_form.proofs.Tail.{spacedText}
 use Rattle.writing.proofs.Laws.{spaced-start, spaced-next, spaced-last}
 use borrow.Author.Needs.{needs}
 use Rattle.writing.proofs.numbers.put_spaced.Statement.{statement}

@@ -1,6 +1,6 @@
 -- A value element. Assumes nothing.
 use Rattle.text_out.proofs.Laws.{puts-then}
-use Rattle.written_form.specs.Written.{valueText}
+use Rattle.written_form.proofs.Tail.{valueText}
 use borrow.Author.Needs.{needs}
 use Rattle.writing.proofs.numbers.put_value.Statement.{statement}
 use Rattle.writing.proofs.numbers.put_value.Tie as tie
