@@ -5,7 +5,7 @@ ghost use lib.ListN.{length};
 ghost use Rattle.xml.specs.Code.{Reads, ReadsFrom, noValue};
 ghost use Rattle.clf.specs.List as List;
 ghost use Rattle.around_root.specs.Code.{rootScan, beforeRoot};
-use markup::Item;
+use markup::NextTag;
 use xml::Scan;
 
 // A start tag before the root: the root's own, or another.
@@ -23,64 +23,29 @@ fn root_name(s: &[u8], at: usize, e: usize) -> Scan
 fn prologue(s: &[u8], at: usize) -> Scan
     ensures { λ r. ⌜ Reads 1 (List.prologue .run) noValue (now (s .entry)) at r ⌝ }
 {
-    let mut i = at;
-    while i < s.len() {
-        let l = markup::item_at(s, i);
-        match l {
-            Item::Misc(e) => {
-                i = e;
-            }
-            Item::StartTag(e) => {
-                return root_name(s, i, e);
-            }
-            Item::EndTag => {
-                let r = markup::stray_end(s, i);
-                let Scan::At(e) = r else {
-                    return r;
-                };
-                i = e;
-            }
-            Item::Fault(k, p) => {
-                return Scan::Fault(k, p);
-            }
-            Item::Cut => {
-                return Scan::Cut;
-            }
-        }
+    let l = markup::next_tag(s, at);
+    match l {
+        NextTag::Start(a, e) => root_name(s, a, e),
+        NextTag::End(a) => markup::stray_end(s, a),
+        NextTag::Failed(a, r) => r,
     }
-    Scan::Cut
 }
 
 // What stands behind the root, to the end.
 pub fn epilogue(s: &[u8], at: usize) -> Scan
     ensures { λ r. ⌜ ReadsFrom 0 List.tail noValue (now (s .entry)) at r ⌝ }
 {
-    let mut i = at;
-    while i < s.len() {
-        let l = markup::item_at(s, i);
-        match l {
-            Item::Misc(e) => {
-                i = e;
+    let l = markup::next_tag(s, at);
+    match l {
+        NextTag::Start(a, e) => Scan::Fault(5, a),
+        NextTag::End(a) => markup::stray_end(s, a),
+        NextTag::Failed(a, r) => {
+            if s.len() <= a {
+                return Scan::At(a);
             }
-            Item::StartTag(e) => {
-                return Scan::Fault(5, i);
-            }
-            Item::EndTag => {
-                let r = markup::stray_end(s, i);
-                let Scan::At(e) = r else {
-                    return r;
-                };
-                i = e;
-            }
-            Item::Fault(k, p) => {
-                return Scan::Fault(k, p);
-            }
-            Item::Cut => {
-                return Scan::Cut;
-            }
+            r
         }
     }
-    Scan::At(i)
 }
 
 // The declaration, and all up to the end of the root's name.

@@ -19,7 +19,7 @@ use Rattle.xml.specs.Elements.{held, textElement}
 use Rattle.xml.specs.Code.{Reads, noValue, Failed}
 use Rattle.xml.specs.declared.Scan.{Scan}
 use Rattle.xml.specs.declared.Scan.the-variants.{At, Fault, Cut}
-use Rattle.markup.specs.Items.{ItemReads}
+use Rattle.markup.specs.Next.{Behind}
 use Rattle.markup.specs.declared.Item.the-variants as Items
 use Rattle.tags.specs.Code.{partIn, attributesOf}
 use Rattle.tags.specs.Ended.{tagOf}
@@ -173,7 +173,7 @@ module _ (table : TableKind) (s : List ℕ) (at i base : ℕ) (m₀ m : Room) (s
   kept-here = cleared-laid base (v .stands .xs) m₀ m (v .stands .room)
 
   -- the end tag
-  module _ (l : ItemReads s i Items.EndTag) (missing : ℕ) (r : Scan) (q : missing ≡ cond (state .found) 0 5) (w : Reads 1 ((endTag (nameOf table) missing) .run) noValue s i r) where
+  module _ (j : ℕ) (l : Behind s i Items.EndTag j) (missing : ℕ) (r : Scan) (q : missing ≡ cond (state .found) 0 5) (w : Reads 1 ((endTag (nameOf table) missing) .run) noValue s j r) where
     lacking : (st : ArrayState) → Stands st → (holderOf table) .missing st ≡ missing
     lacking st z = go (state .found) (z .table) q
       where
@@ -181,7 +181,7 @@ module _ (table : TableKind) (s : List ℕ) (at i base : ℕ) (m₀ m : Room) (s
         go true x y = rw (x, y) refl
         go false x y = rw (x, y) refl
 
-    whole : (r : Scan) (st : ArrayState) → Stands st → Reads 1 ((endTag (nameOf table) missing) .run) noValue s i r
+    whole : (r : Scan) (st : ArrayState) → Stands st → Reads 1 ((endTag (nameOf table) missing) .run) noValue s j r
         → Went r (ArrayWhole base m₀ m (withScan state r) st) (SameCleared base m₀ m)
     whole (At e) st z w = record { found = go (state .found) refl; stands = record { xs = z .xs; table = z .table; all = z .all; room = z .room } }
       where
@@ -189,13 +189,13 @@ module _ (table : TableKind) (s : List ℕ) (at i base : ℕ) (m₀ m : Room) (s
         go true x = x
         go false x =
             let y : missing ≡ 5 = q ∙ ap (λ (b : Bool). cond b 0 5) x in
-            absurd (end-lacks (nameOf table) missing 1 s i e (λ n. omega arith) w)
+            absurd (end-lacks (nameOf table) missing 1 s j e (λ n. omega arith) w)
     whole (Fault k e) st z w = kept-here
     whole Cut st z w = kept-here
 
     pub content-end : ReadsTo content s at r (ArrayWhole base m₀ m (withScan state r)) (SameCleared base m₀ m)
     content-end =
-        held-end (holderOf table) noArray s at i Stands v (ArrayWhole base m₀ m (withScan state r)) (SameCleared base m₀ m) r l
+        held-end (holderOf table) noArray s at i Stands v (ArrayWhole base m₀ m (withScan state r)) (SameCleared base m₀ m) j r l
         (λ st z. (rw (lacking st z) w, whole r st z w))
 
 -- ---- the node

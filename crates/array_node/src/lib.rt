@@ -15,7 +15,7 @@ ghost use Rattle.room.specs.Room.{Room, lent};
 ghost use Rattle.node_parts.specs.Code.{NodeReads};
 ghost use Rattle.node_parts.specs.Held.{Goes, ReadsTo};
 ghost use Rattle.array_node.specs.Code as Code;
-use markup::Item;
+use markup::NextTag;
 use node_parts::NodeStep;
 use process_list::Kind;
 use tags::Attributes;
@@ -223,33 +223,24 @@ fn array_content(
 {
     let mut state = no_array(at);
     let mut i = at;
-    while i < s.len() {
-        let l = markup::item_at(s, i);
+    loop {
+        let l = markup::next_tag(s, i);
         match l {
-            Item::Misc(e) => {
-                i = e;
-            }
-            Item::StartTag(e) => {
-                state = array_child(s, i, e, table, state, coefficients, powers, base);
+            NextTag::Start(a, e) => {
+                state = array_child(s, a, e, table, state, coefficients, powers, base);
                 let r = state.scan;
                 let Scan::At(q) = r else {
                     return state;
                 };
                 i = q;
             }
-            Item::EndTag => {
-                let r = node_end(s, i, table, array_missing(state.found));
+            NextTag::End(a) => {
+                let r = node_end(s, a, table, array_missing(state.found));
                 return array_with(state, r);
             }
-            Item::Fault(k, p) => {
-                return array_with(state, Scan::Fault(k, p));
-            }
-            Item::Cut => {
-                return array_with(state, Scan::Cut);
-            }
+            NextTag::Failed(a, r) => return array_with(state, r),
         }
     }
-    array_with(state, Scan::Cut)
 }
 
 fn node_tag(table: TableKind) -> TagKind

@@ -20,7 +20,7 @@ use Rattle.xml.specs.Elements.{held, textElement}
 use Rattle.xml.specs.Code.{Reads, noValue, Failed}
 use Rattle.xml.specs.declared.Scan.{Scan}
 use Rattle.xml.specs.declared.Scan.the-variants.{At, Fault, Cut}
-use Rattle.markup.specs.Items.{ItemReads}
+use Rattle.markup.specs.Next.{Behind}
 use Rattle.markup.specs.declared.Item.the-variants as Items
 use Rattle.tags.specs.Code.{partIn, attributesOf}
 use Rattle.tags.specs.Rules.{rulesOf}
@@ -32,10 +32,10 @@ use Rattle.tags.specs.declared.TagKind.the-variants as Tags
 use Rattle.values.specs.Code.{Laid}
 use Rattle.clf.specs.Nodes.{isSome, CdlState, noCdl, cdlBody, cdlFault, cdlHolder, cdlRules, cdlContent, cdlStyle, cdlNode, ascCdl, sopNode, satNode, sopNumbers, satNumbers}
 use Rattle.node_parts.specs.Code.{NumbersIn, finishedNode, noNode, smallNumbers, NodeReads}
-use Rattle.node_parts.specs.Held.{Went, Goes, HeldAt, ReadsTo}
+use Rattle.node_parts.specs.Held.{Goes, HeldAt, ReadsTo}
 use Rattle.node_parts.specs.declared.NodeStep.{NodeStep}
 use Rattle.node_parts.proofs.Smalls.{numbers-length}
-use Rattle.node_parts.proofs.Held.{child-refused, child-body, held-end}
+use Rattle.node_parts.proofs.Held.{went-either, child-refused, child-body, held-end}
 use Rattle.node_parts.proofs.Reading.{to-map, to-then, to-failed, text-to, node-reads, node-failed, finished-is, NodeIs}
 use Rattle.cdl_node.specs.Code.{innerNode, cdlFaultOf, absentParts, withScan, noneFound, CdlStands, Followed}
 use Rattle.cdl_node.specs.declared.CdlPart.the-variants.{Sop, Sat}
@@ -143,17 +143,12 @@ pub cdl-start : (scan : Scan) (m : Room) → smallNumbers m ≡ absentParts → 
 cdl-start scan m q = record { sop = refl; sat = refl; numbers = q; nine = refl; one = refl }
 
 module _ (s : List ℕ) (at i : ℕ) (m : Room) (state : CdlStep) (v : HeldAt cdlHolder noCdl s at i (CdlStands m state)) where
-  either : (r : Scan) (A : Type 0) → A → Went r A (Unit {0})
-  either (At e) A a = a
-  either (Fault k e) A a = tt
-  either Cut A a = tt
-
   -- the end tag
-  pub content-end : ItemReads s i Items.EndTag → (r : Scan) → Reads 1 ((endTag (bytes "ASC_CDL") 0) .run) noValue s i r
+  pub content-end : (j : ℕ) → Behind s i Items.EndTag j → (r : Scan) → Reads 1 ((endTag (bytes "ASC_CDL") 0) .run) noValue s j r
       → ReadsTo ((held cdlHolder noCdl) .run) s at r (CdlStands m (withScan state r)) (Unit {0})
-  content-end l r w =
-      held-end cdlHolder noCdl s at i (CdlStands m state) v (CdlStands m (withScan state r)) (Unit {0}) r l
-      (λ st z. (w, either r (CdlStands m (withScan state r) st) (kept m state r st z)))
+  content-end j l r w =
+      held-end cdlHolder noCdl s at i (CdlStands m state) v (CdlStands m (withScan state r)) (Unit {0}) j r l
+      (λ st z. (w, went-either r (CdlStands m (withScan state r) st) (kept m state r st z)))
 
 -- ---- the node
 

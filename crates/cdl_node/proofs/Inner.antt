@@ -16,7 +16,7 @@ use Rattle.xml.specs.Elements.{held}
 use Rattle.xml.specs.Code.{Reads, noValue, Failed}
 use Rattle.xml.specs.declared.Scan.{Scan}
 use Rattle.xml.specs.declared.Scan.the-variants.{At, Fault, Cut}
-use Rattle.markup.specs.Items.{ItemReads}
+use Rattle.markup.specs.Next.{Behind}
 use Rattle.markup.specs.declared.Item.the-variants as Items
 use Rattle.tags.specs.Code.{partIn}
 use Rattle.tags.proofs.Words.{part-in}
@@ -131,18 +131,18 @@ inner-start part m = record { counted = refl; few = omega arith; room = laid-non
 pub inner-few : (part : CdlPart) (m₀ m : Room) (count : ℕ) (l : List Decimal) → InnerStands part m₀ m count l → count ≤ 9
 inner-few part m₀ m count l v = omega (arith, v .counted, v .few, top-nine part)
 
-module _ (part : CdlPart) (s : List ℕ) (at i : ℕ) (m₀ m : Room) (count : ℕ) (v : HeldAt (innerHolder part) [] s at i (InnerStands part m₀ m count)) (l : ItemReads s i Items.EndTag)
-    (missing : ℕ) (q : missing ≡ cond (ltb count (topOf part)) 5 0) where
+module _ (part : CdlPart) (s : List ℕ) (at i : ℕ) (m₀ m : Room) (count : ℕ) (v : HeldAt (innerHolder part) [] s at i (InnerStands part m₀ m count))
+    (j : ℕ) (l : Behind s i Items.EndTag j) (missing : ℕ) (q : missing ≡ cond (ltb count (topOf part)) 5 0) where
   abbrev All : List Decimal → Type 0
   All = NumbersIn (topOf part) (baseOf part) m₀ m
 
-  whole : (r : Scan) (xs : List Decimal) → InnerStands part m₀ m count xs → Reads 1 ((endTag (nameOf part) missing) .run) noValue s i r → Went r (All xs) (Unit {0})
+  whole : (r : Scan) (xs : List Decimal) → InnerStands part m₀ m count xs → Reads 1 ((endTag (nameOf part) missing) .run) noValue s j r → Went r (All xs) (Unit {0})
   whole (At e) xs z w = go (ltb count (topOf part)) refl
     where
       go : (b : Bool) → ltb count (topOf part) ≡ b → All xs
       go true x =
           let y : missing ≡ 5 = q ∙ ap (λ (b : Bool). cond b 5 0) x in
-          absurd (end-lacks (nameOf part) missing 1 s i e (λ n. omega arith) w)
+          absurd (end-lacks (nameOf part) missing 1 s j e (λ n. omega arith) w)
       go false x = record { counted = omega (arith, ltb-false count (topOf part) x, z .counted, z .few); room = z .room }
   whole (Fault k e) xs z w = tt
   whole Cut xs z w = tt
@@ -151,10 +151,10 @@ module _ (part : CdlPart) (s : List ℕ) (at i : ℕ) (m₀ m : Room) (count : �
   lacking xs z = ap (λ (n : ℕ). cond (ltb n (topOf part)) 5 0) (sym (z .counted)) ∙ sym q
 
   -- the end tag
-  pub inner-ended : (r : Scan) → Reads 1 ((endTag (nameOf part) missing) .run) noValue s i r → ReadsTo ((held (innerHolder part) []) .run) s at r All (Unit {0})
+  pub inner-ended : (r : Scan) → Reads 1 ((endTag (nameOf part) missing) .run) noValue s j r → ReadsTo ((held (innerHolder part) []) .run) s at r All (Unit {0})
   inner-ended r w =
-      held-end (innerHolder part) [] s at i (InnerStands part m₀ m count) v All (Unit {0}) r l
-      (λ xs z. (subst (λ (n : ℕ). Reads 1 ((endTag (nameOf part) n) .run) noValue s i r) (sym (lacking xs z)) w, whole r xs z w))
+      held-end (innerHolder part) [] s at i (InnerStands part m₀ m count) v All (Unit {0}) j r l
+      (λ xs z. (subst (λ (n : ℕ). Reads 1 ((endTag (nameOf part) n) .run) noValue s j r) (sym (lacking xs z)) w, whole r xs z w))
 
 -- ---- the element itself
 

@@ -19,7 +19,7 @@ ghost use Rattle.clf.specs.Nodes as Nodes;
 ghost use Rattle.node_parts.specs.Code.{NodeReads, NumbersIn, smallNumbers};
 ghost use Rattle.node_parts.specs.Held.{Goes, ReadsTo};
 ghost use Rattle.cdl_node.specs.Code as Code;
-use markup::Item;
+use markup::NextTag;
 use node_parts::NodeStep;
 use process_list::CdlStyle;
 use process_list::Kind;
@@ -184,32 +184,21 @@ fn inner_content(
     let width = inner_width(part);
     let mut count: usize = 0;
     let mut i = at;
-    while i < s.len() {
-        let l = markup::item_at(s, i);
+    loop {
+        let l = markup::next_tag(s, i);
         match l {
-            Item::Misc(e) => {
-                i = e;
-            }
-            Item::StartTag(e) => {
-                let r = inner_child(s, i, e, part, count, coefficients, powers);
+            NextTag::Start(a, e) => {
+                let r = inner_child(s, a, e, part, count, coefficients, powers);
                 let Scan::At(q) = r else {
                     return r;
                 };
                 count += width;
                 i = q;
             }
-            Item::EndTag => {
-                return inner_end(s, i, part, inner_missing(part, count));
-            }
-            Item::Fault(k, p) => {
-                return Scan::Fault(k, p);
-            }
-            Item::Cut => {
-                return Scan::Cut;
-            }
+            NextTag::End(a) => return inner_end(s, a, part, inner_missing(part, count)),
+            NextTag::Failed(a, r) => return r,
         }
     }
-    Scan::Cut
 }
 
 // A part, behind its name.
@@ -343,33 +332,24 @@ fn cdl_content(s: &[u8], at: usize, coefficients: &mut [i64], powers: &mut [i8])
 {
     let mut state = no_cdl(Scan::At(at));
     let mut i = at;
-    while i < s.len() {
-        let l = markup::item_at(s, i);
+    loop {
+        let l = markup::next_tag(s, i);
         match l {
-            Item::Misc(e) => {
-                i = e;
-            }
-            Item::StartTag(e) => {
-                state = cdl_child(s, i, e, state, coefficients, powers);
+            NextTag::Start(a, e) => {
+                state = cdl_child(s, a, e, state, coefficients, powers);
                 let r = state.scan;
                 let Scan::At(q) = r else {
                     return state;
                 };
                 i = q;
             }
-            Item::EndTag => {
-                let r = markup::end_tag(s, i, b"ASC_CDL", 0);
+            NextTag::End(a) => {
+                let r = markup::end_tag(s, a, b"ASC_CDL", 0);
                 return cdl_with(state, r);
             }
-            Item::Fault(k, p) => {
-                return cdl_with(state, Scan::Fault(k, p));
-            }
-            Item::Cut => {
-                return cdl_with(state, Scan::Cut);
-            }
+            NextTag::Failed(a, r) => return cdl_with(state, r),
         }
     }
-    cdl_with(state, Scan::Cut)
 }
 
 // What follows the start tag of an ASC_CDL, which may be empty.

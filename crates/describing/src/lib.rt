@@ -6,7 +6,7 @@ ghost use lib.ListN.{length, drop};
 ghost use Rattle.tags.specs.Code.{partIn};
 ghost use Rattle.clf.specs.Description as Description;
 ghost use Rattle.describing.specs.Code.{noPlace, IsPlace, behindTag};
-use markup::Item;
+use markup::NextTag;
 use tags::TagEnd;
 use xml::Scan;
 
@@ -62,20 +62,12 @@ fn child_text(file: &[u8], a: usize, e: usize) -> Part
 fn first_text(file: &[u8], at: usize) -> Part
     ensures { λ r. ⌜ IsPlace (now (file .entry)) (Description.textPart (now (file .entry)) (behindTag (drop at (now (file .entry))))) r ⌝ }
 {
-    let mut i = at;
-    while i < file.len() {
-        let l = markup::item_at(file, i);
-        match l {
-            Item::Misc(e) => {
-                i = e;
-            }
-            Item::StartTag(e) => return child_text(file, i + 1, e),
-            Item::EndTag => return no_part(),
-            Item::Fault(k, p) => return no_part(),
-            Item::Cut => return no_part(),
-        }
+    let l = markup::next_tag(file, at);
+    match l {
+        NextTag::Start(a, e) => child_text(file, a + 1, e),
+        NextTag::End(a) => no_part(),
+        NextTag::Failed(a, r) => no_part(),
     }
-    no_part()
 }
 
 // The text of the first Description of the node whose `<` stands at `at`.

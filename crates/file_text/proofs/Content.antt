@@ -2,7 +2,7 @@
 use Rattle.process_list.specs.List.{Element, allNumbers}
 use mathlib.Core.Path.{_≡_, refl, sym, ap, _∙_, subst}
 use mathlib.Core.List.{List, [], _∷_, _++_}
-use Prim.Native.Nat.{ℕ, _+_, _-_, _≤_, _<_}
+use Prim.Native.Nat.{ℕ, _+_, _≤_, _<_}
 use native.Mathlib.Omega.{arith}
 use lib.ListN.{length, drop}
 use Rattle.grammar.specs.Parse.{done, fault, cut, again}
@@ -18,6 +18,9 @@ use Rattle.process_list.specs.List as Lists
 use Rattle.room.specs.Room.{Room, laidIn}
 use Rattle.room.proofs.Rooms.{RoomFrom, from-refl, from-trans}
 use Rattle.markup.specs.Items.{ItemReads}
+use Rattle.markup.specs.Next.{Passed, NextReads}
+use Rattle.markup.specs.declared.NextTag.the-variants as Nexts
+use Rattle.markup.proofs.Next.{passed-keeps}
 use Rattle.markup.specs.declared.Item.the-variants as Items
 use Rattle.markup.specs.Between.{between-misc, between-fault, between-cut, between-refused, between-child, between-child-fault, between-child-cut, between-end-reads}
 use Rattle.tags.specs.Code.{partIn}
@@ -32,7 +35,7 @@ use Rattle.file_text.proofs.Nodes.{counted-none, counted-both}
 use Rattle.file_text.proofs.Rooms.{from-less, holds-none, holds-more, holds-failed, holds-whole, holds-size}
 use Rattle.file_text.proofs.Places.{nodes-misc, nodes-child, state-none, state-misc, state-child, flags-child}
 use Rattle.file_text.proofs.Children.{child-room}
-use Rattle.file_text.proofs.Items.{onItems, wholeFrom, itemAt, items-on, items-end, items-bad, items-short, items-past, whole-on, whole-end, whole-bad, whole-short, whole-past, item-length, flat-more}
+use Rattle.file_text.proofs.Items.{onItems, wholeFrom, itemAt, items-on, items-end, items-bad, items-short, whole-on, whole-end, whole-bad, whole-short, item-length, flat-more}
 
 -- what has been read of the content up to i: the items, each with its bytes
 pub record ContentInv (wanted : ℕ) (s : List ℕ) (at i : ℕ) (st : ListState) (m₀ m : Room) : Type 0 where
@@ -110,111 +113,119 @@ module _ (wanted : ℕ) (s : List ℕ) (at i : ℕ) (st : ListState) (m₀ m : R
   same : RoomFrom (st .used) m m
   same = from-refl (st .used) m
 
-  pub content-past : length s ≤ i → ContentReads wanted s at (step Scans.Cut st) m₀ m
-  content-past h = ended [] Scans.Cut m (sym (items-past (v .parts) fl s i h)) (whole-past (v .parts) fl s i h) tt same
+  -- the item is at fault, or the bytes end in it
+  bad : (k q : ℕ) (m₁ : Room) → (listItem fl) .run (drop i s) ≡ fault k (drop q s) → Inside 0 s i (Scans.Fault k q)
+      → RoomFrom (st .used) m m₁ → ContentReads wanted s at (step (Scans.Fault k q) st) m₀ m₁
+  bad k q m₁ x b f =
+      ended [] (Scans.Fault k q) m₁ (sym (items-bad (v .parts) fl (drop i s) k (drop q s) x)) (whole-bad (v .parts) fl (drop i s) k (drop q s) x) (later (Scans.Fault k q) b) f
 
-  module _ (g : i < length s) where
-    -- the item is at fault, or the bytes end in it
-    bad : (k q : ℕ) (m₁ : Room) → (listItem fl) .run (drop i s) ≡ fault k (drop q s) → Inside 0 s i (Scans.Fault k q)
-        → RoomFrom (st .used) m m₁ → ContentReads wanted s at (step (Scans.Fault k q) st) m₀ m₁
-    bad k q m₁ x b f =
-        ended [] (Scans.Fault k q) m₁ (sym (items-bad (v .parts) fl (drop i s) k (drop q s) x)) (whole-bad (v .parts) fl (drop i s) k (drop q s) x) (later (Scans.Fault k q) b) f
+  short : (m₁ : Room) → (listItem fl) .run (drop i s) ≡ cut → RoomFrom (st .used) m m₁ → ContentReads wanted s at (step Scans.Cut st) m₀ m₁
+  short m₁ x f = ended [] Scans.Cut m₁ (sym (items-short (v .parts) fl (drop i s) x)) (whole-short (v .parts) fl (drop i s) x) tt f
 
-    short : (m₁ : Room) → (listItem fl) .run (drop i s) ≡ cut → RoomFrom (st .used) m m₁ → ContentReads wanted s at (step Scans.Cut st) m₀ m₁
-    short m₁ x f = ended [] Scans.Cut m₁ (sym (items-short (v .parts) fl (drop i s) x)) (whole-short (v .parts) fl (drop i s) x) tt f
+  -- one item more, up to e
+  longer : (e : ℕ) (p : Part Child) → i < e → e ≤ length s → e ≡ at + length (flat (v .parts ++ itemAt s i e p ∷ []))
+  longer e p h k = omega (arith, v .place, flat-more (v .parts) (itemAt s i e p), item-length (v .parts) fl s i e h k p)
 
-    -- one item more, up to e
-    longer : (e : ℕ) (p : Part Child) → i < e → e ≤ length s → e ≡ at + length (flat (v .parts ++ itemAt s i e p ∷ []))
-    longer e p h k = omega (arith, v .place, flat-more (v .parts) (itemAt s i e p), item-length (v .parts) fl s i e h k p)
+  pub content-misc : (e : ℕ) → ItemReads s i (Items.Misc e) → ContentInv wanted s at e st m₀ m
+  content-misc e l =
+      let h : i < e = omega (arith, l .inside .0) in
+      let x : (listItem fl) .run (drop i s) ≡ done misc (drop e s) = item-is fl (drop i s) ∙ between-misc (endTag (bytes "ProcessList") 0) (childFault fl) childBody s i e l in
+      let n : nodesAmong (v .parts ++ itemAt s i e misc ∷ []) ≡ nodesAmong (v .parts) = nodes-misc (v .parts) (itemAt s i e misc .1) in
+      record {
+        parts = v .parts ++ itemAt s i e misc ∷ [];
+        place = longer e misc h (l .inside .1);
+        run = v .run ∙ items-on (v .parts) fl s i e h (l .inside .1) misc fl x refl;
+        whole = v .whole ∙ whole-on (v .parts) fl s i e h (l .inside .1) misc fl x refl;
+        state = state-misc wanted at (v .parts) st (itemAt s i e misc .1) (v .state);
+        counted = subst (λ (ns : List Element). Counted ns) (sym n) (v .counted);
+        room = subst (λ (ns : List Element). RoomFrom Lists.mostNumbers (laidIn 0 (allNumbers ns) m₀) m) (sym n) (v .room);
+      }
 
-    pub content-misc : (e : ℕ) → ItemReads s i (Items.Misc e) → ContentInv wanted s at e st m₀ m
-    content-misc e l =
-        let h : i < e = omega (arith, l .inside .0) in
-        let x : (listItem fl) .run (drop i s) ≡ done misc (drop e s) = item-is fl (drop i s) ∙ between-misc (endTag (bytes "ProcessList") 0) (childFault fl) childBody s i e l in
-        let n : nodesAmong (v .parts ++ itemAt s i e misc ∷ []) ≡ nodesAmong (v .parts) = nodes-misc (v .parts) (itemAt s i e misc .1) in
+  pub content-fault : (k q : ℕ) → ItemReads s i (Items.Fault k q) → ContentReads wanted s at (step (Scans.Fault k q) st) m₀ m
+  content-fault k q l = bad k q m (item-is fl (drop i s) ∙ between-fault (endTag (bytes "ProcessList") 0) (childFault fl) childBody s i k q l) (l .inside) same
+
+  pub content-cut : ItemReads s i Items.Cut → ContentReads wanted s at (step Scans.Cut st) m₀ m
+  content-cut l = short m (item-is fl (drop i s) ∙ between-cut (endTag (bytes "ProcessList") 0) (childFault fl) childBody s i l) same
+
+  -- the end tag
+  pub content-end : (r : Scan) → ItemReads s i Items.EndTag → Reads 1 ((endTag (bytes "ProcessList") 0) .run) noValue s i r → ContentReads wanted s at (step r st) m₀ m
+  content-end (Scans.At e) l h =
+      let x : (listItem fl) .run (drop i s) ≡ done close (drop e s) =
+      item-is fl (drop i s) ∙ between-end-reads (endTag (bytes "ProcessList") 0) (childFault fl) childBody s i l (Scans.At e) h in
+      ended (v .parts ++ itemAt s i e close ∷ []) (Scans.At e) m
+      (sym (items-end (v .parts) fl s i e (omega (arith, h .inside .0)) (h .inside .1) x)) (whole-end (v .parts) fl s i e (omega (arith, h .inside .0)) (h .inside .1) x)
+      (omega (arith, low, h .inside .0), h .inside .1) same
+  content-end (Scans.Fault k q) l h =
+      bad k q m (item-is fl (drop i s) ∙ between-end-reads (endTag (bytes "ProcessList") 0) (childFault fl) childBody s i l (Scans.Fault k q) h) (h .inside) same
+  content-end Scans.Cut l h = short m (item-is fl (drop i s) ∙ between-end-reads (endTag (bytes "ProcessList") 0) (childFault fl) childBody s i l Scans.Cut h) same
+
+  -- a child, whose name ends at e
+  module _ (e : ℕ) (l : ItemReads s i (Items.StartTag e)) (m₁ : Room) where
+    abbrev w : List ℕ
+    w = part s (i + 1) e
+
+    -- what it may answer, by the name as the definition has it
+    named : (r : ListStep) → ChildReads wanted s (partIn s (i + 1) e) i e st r m m₁ → ChildReads wanted s w i e st r m m₁
+    named r h = subst (λ (x : List ℕ). ChildReads wanted s x i e st r m m₁) (sym (part-in s (i + 1) e (l .inside .1))) h
+
+    never : (q k : ℕ) → Scans.At q ≡ Scans.Fault k i → ⊥
+    never q k y = let n : _≡_ {A = ℕ} 0 1 = cc in omega arith
+
+    moved : (q : ℕ) (x : ListState) → ChildReads wanted s w i e st (step (Scans.At q) x) m m₁ → (i < q) × (q ≤ length s)
+    moved q x (refused k f z y o) = absurd (never q k y)
+    moved q x (read k f z b y) = (omega (arith, l .inside .0, b .0), b .1)
+
+    next : (q : ℕ) (x : ListState) → ChildReads wanted s w i e st (step (Scans.At q) x) m m₁ → ContentInv wanted s at q x m₀ m₁
+    next q x (refused k f z y o) = absurd (never q k y)
+    next q x (read c f z b y) =
+        let h : i < q = omega (arith, l .inside .0, b .0) in
+        let t : (listItem fl) .run (drop i s) ≡ done (child c) (drop q s) =
+        item-is fl (drop i s) ∙ between-child (endTag (bytes "ProcessList") 0) (childFault fl) childBody s i e l f c (drop q s) (sym z) in
+        let n : nodesAmong (v .parts ++ itemAt s i q (child c) ∷ []) ≡ nodesAmong (v .parts) ++ withChild c [] = nodes-child (v .parts) c (itemAt s i q (child c) .1) in
+        let g : nextFlags fl (child c) ≡ again (flagsOf x) = flags-child wanted i st c ∙ ap (λ (u : ListState). again (flagsOf u)) (sym (y .0)) in
         record {
-          parts = v .parts ++ itemAt s i e misc ∷ [];
-          place = longer e misc h (l .inside .1);
-          run = v .run ∙ items-on (v .parts) fl s i e h (l .inside .1) misc fl x refl;
-          whole = v .whole ∙ whole-on (v .parts) fl s i e h (l .inside .1) misc fl x refl;
-          state = state-misc wanted at (v .parts) st (itemAt s i e misc .1) (v .state);
-          counted = subst (λ (ns : List Element). Counted ns) (sym n) (v .counted);
-          room = subst (λ (ns : List Element). RoomFrom Lists.mostNumbers (laidIn 0 (allNumbers ns) m₀) m) (sym n) (v .room);
+          parts = v .parts ++ itemAt s i q (child c) ∷ [];
+          place = longer q (child c) h (b .1);
+          run = v .run ∙ items-on (v .parts) fl s i q h (b .1) (child c) (flagsOf x) t g;
+          whole = v .whole ∙ whole-on (v .parts) fl s i q h (b .1) (child c) (flagsOf x) t g;
+          state = y .0 ∙ state-child wanted at (v .parts) st i c (itemAt s i q (child c) .1) (v .place) (v .state)
+              ∙ ap (λ (u : ListState). stateFrom wanted at (flagsOf u, v .parts ++ itemAt s i q (child c) ∷ [])) (sym (y .0));
+          counted = subst (λ (ns : List Element). Counted ns) (sym n) (counted-both (nodesAmong (v .parts)) (withChild c []) (v .counted) (y .1));
+          room = subst (λ (ns : List Element). RoomFrom Lists.mostNumbers (laidIn 0 (allNumbers ns) m₀) m₁) (sym n)
+              (subst (λ (a : Room). RoomFrom Lists.mostNumbers (laidIn 0 (allNumbers (nodesAmong (v .parts) ++ withChild c [])) m₀) a) (sym (y .2))
+              (holds-more (nodesAmong (v .parts)) (withChild c []) (st .used) m₀ m (v .counted) used (v .room)));
         }
 
-    pub content-fault : (k q : ℕ) → ItemReads s i (Items.Fault k q) → ContentReads wanted s at (step (Scans.Fault k q) st) m₀ m
-    content-fault k q l = bad k q m (item-is fl (drop i s) ∙ between-fault (endTag (bytes "ProcessList") 0) (childFault fl) childBody s i k q l) (l .inside) same
+    failed : (r : Scan) (x : ListState) → Failed r → ChildReads wanted s w i e st (step r x) m m₁ → ContentReads wanted s at (step r st) m₀ m₁
+    failed r x a (refused k f z y o) =
+        subst (λ (d : Scan). ContentReads wanted s at (step d st) m₀ m₁) (sym y)
+        (bad k i m₁ (item-is fl (drop i s) ∙ between-refused (endTag (bytes "ProcessList") 0) (childFault fl) childBody s i e l k f z)
+        (omega arith, omega (arith, l .inside)) (subst (λ (d : Room). RoomFrom (st .used) m d) (sym o) same))
+    failed (Scans.Fault j q) x a (read k f z b y) =
+        bad j q m₁ (item-is fl (drop i s) ∙ between-child-fault (endTag (bytes "ProcessList") 0) (childFault fl) childBody s i e l f j (drop q s) (sym z))
+        (omega (arith, l .inside .0, b .0), b .1) y
+    failed Scans.Cut x a (read k f z b y) =
+        short m₁ (item-is fl (drop i s) ∙ between-child-cut (endTag (bytes "ProcessList") 0) (childFault fl) childBody s i e l f (sym z)) y
+    failed (Scans.At q) x a (read k f z b y) = absurd a
 
-    pub content-cut : ItemReads s i Items.Cut → ContentReads wanted s at (step Scans.Cut st) m₀ m
-    content-cut l = short m (item-is fl (drop i s) ∙ between-cut (endTag (bytes "ProcessList") 0) (childFault fl) childBody s i l) same
+    pub content-child : (q : ℕ) (r : ListStep) → r .scan ≡ Scans.At q → ChildReads wanted s (partIn s (i + 1) e) i e st r m m₁ → ContentInv wanted s at q (r .state) m₀ m₁
+    content-child q r z h = next q (r .state) (subst (λ (d : Scan). ChildReads wanted s w i e st (step d (r .state)) m m₁) z (named r h))
 
-    -- the end tag
-    pub content-end : (r : Scan) → ItemReads s i Items.EndTag → Reads 1 ((endTag (bytes "ProcessList") 0) .run) noValue s i r → ContentReads wanted s at (step r st) m₀ m
-    content-end (Scans.At e) l h =
-        let x : (listItem fl) .run (drop i s) ≡ done close (drop e s) =
-        item-is fl (drop i s) ∙ between-end-reads (endTag (bytes "ProcessList") 0) (childFault fl) childBody s i l (Scans.At e) h in
-        ended (v .parts ++ itemAt s i e close ∷ []) (Scans.At e) m
-        (sym (items-end (v .parts) fl s i e (omega (arith, h .inside .0)) (h .inside .1) x)) (whole-end (v .parts) fl s i e (omega (arith, h .inside .0)) (h .inside .1) x)
-        (omega (arith, low, h .inside .0), h .inside .1) same
-    content-end (Scans.Fault k q) l h =
-        bad k q m (item-is fl (drop i s) ∙ between-end-reads (endTag (bytes "ProcessList") 0) (childFault fl) childBody s i l (Scans.Fault k q) h) (h .inside) same
-    content-end Scans.Cut l h = short m (item-is fl (drop i s) ∙ between-end-reads (endTag (bytes "ProcessList") 0) (childFault fl) childBody s i l Scans.Cut h) same
+    -- behind a child there are fewer bytes
+    pub content-moves : (q : ℕ) (r : ListStep) → r .scan ≡ Scans.At q → ChildReads wanted s (partIn s (i + 1) e) i e st r m m₁ → (i < q) × (q ≤ length s)
+    content-moves q r z h = moved q (r .state) (subst (λ (d : Scan). ChildReads wanted s w i e st (step d (r .state)) m m₁) z (named r h))
 
-    -- a child, whose name ends at e
-    module _ (e : ℕ) (l : ItemReads s i (Items.StartTag e)) (m₁ : Room) where
-      abbrev w : List ℕ
-      w = part s (i + 1) e
+    pub content-failed : (r : ListStep) → Failed (r .scan) → ChildReads wanted s (partIn s (i + 1) e) i e st r m m₁ → ContentReads wanted s at (step (r .scan) st) m₀ m₁
+    content-failed r a h = failed (r .scan) (r .state) a (named r h)
 
-      -- what it may answer, by the name as the definition has it
-      named : (r : ListStep) → ChildReads wanted s (partIn s (i + 1) e) i e st r m m₁ → ChildReads wanted s w i e st r m m₁
-      named r h = subst (λ (x : List ℕ). ChildReads wanted s x i e st r m m₁) (sym (part-in s (i + 1) e (l .inside .1))) h
+-- ---- behind white space and comments
 
-      never : (q k : ℕ) → Scans.At q ≡ Scans.Fault k i → ⊥
-      never q k y = let n : _≡_ {A = ℕ} 0 1 = cc in omega arith
+module _ (wanted : ℕ) (s : List ℕ) (at i : ℕ) (st : ListState) (m₀ m : Room) (v : ContentInv wanted s at i st m₀ m) where
+  pub content-on : {j : ℕ} → Passed s i j → ContentInv wanted s at j st m₀ m
+  content-on w = passed-keeps s i (λ j. ContentInv wanted s at j st m₀ m) (λ j e x l. content-misc wanted s at j st m₀ m x e l) v w
 
-      moved : (q : ℕ) (x : ListState) → ChildReads wanted s w i e st (step (Scans.At q) x) m m₁ → (i < q) × (q ≤ length s)
-      moved q x (refused k f z y o) = absurd (never q k y)
-      moved q x (read k f z b y) = (omega (arith, l .inside .0, b .0), b .1)
-
-      next : (q : ℕ) (x : ListState) → ChildReads wanted s w i e st (step (Scans.At q) x) m m₁ → ContentInv wanted s at q x m₀ m₁
-      next q x (refused k f z y o) = absurd (never q k y)
-      next q x (read c f z b y) =
-          let h : i < q = omega (arith, l .inside .0, b .0) in
-          let t : (listItem fl) .run (drop i s) ≡ done (child c) (drop q s) =
-          item-is fl (drop i s) ∙ between-child (endTag (bytes "ProcessList") 0) (childFault fl) childBody s i e l f c (drop q s) (sym z) in
-          let n : nodesAmong (v .parts ++ itemAt s i q (child c) ∷ []) ≡ nodesAmong (v .parts) ++ withChild c [] = nodes-child (v .parts) c (itemAt s i q (child c) .1) in
-          let g : nextFlags fl (child c) ≡ again (flagsOf x) = flags-child wanted i st c ∙ ap (λ (u : ListState). again (flagsOf u)) (sym (y .0)) in
-          record {
-            parts = v .parts ++ itemAt s i q (child c) ∷ [];
-            place = longer q (child c) h (b .1);
-            run = v .run ∙ items-on (v .parts) fl s i q h (b .1) (child c) (flagsOf x) t g;
-            whole = v .whole ∙ whole-on (v .parts) fl s i q h (b .1) (child c) (flagsOf x) t g;
-            state = y .0 ∙ state-child wanted at (v .parts) st i c (itemAt s i q (child c) .1) (v .place) (v .state)
-                ∙ ap (λ (u : ListState). stateFrom wanted at (flagsOf u, v .parts ++ itemAt s i q (child c) ∷ [])) (sym (y .0));
-            counted = subst (λ (ns : List Element). Counted ns) (sym n) (counted-both (nodesAmong (v .parts)) (withChild c []) (v .counted) (y .1));
-            room = subst (λ (ns : List Element). RoomFrom Lists.mostNumbers (laidIn 0 (allNumbers ns) m₀) m₁) (sym n)
-                (subst (λ (a : Room). RoomFrom Lists.mostNumbers (laidIn 0 (allNumbers (nodesAmong (v .parts) ++ withChild c [])) m₀) a) (sym (y .2))
-                (holds-more (nodesAmong (v .parts)) (withChild c []) (st .used) m₀ m (v .counted) used (v .room)));
-          }
-
-      failed : (r : Scan) (x : ListState) → Failed r → ChildReads wanted s w i e st (step r x) m m₁ → ContentReads wanted s at (step r st) m₀ m₁
-      failed r x a (refused k f z y o) =
-          subst (λ (d : Scan). ContentReads wanted s at (step d st) m₀ m₁) (sym y)
-          (bad k i m₁ (item-is fl (drop i s) ∙ between-refused (endTag (bytes "ProcessList") 0) (childFault fl) childBody s i e l k f z)
-          (omega arith, omega arith) (subst (λ (d : Room). RoomFrom (st .used) m d) (sym o) same))
-      failed (Scans.Fault j q) x a (read k f z b y) =
-          bad j q m₁ (item-is fl (drop i s) ∙ between-child-fault (endTag (bytes "ProcessList") 0) (childFault fl) childBody s i e l f j (drop q s) (sym z))
-          (omega (arith, l .inside .0, b .0), b .1) y
-      failed Scans.Cut x a (read k f z b y) =
-          short m₁ (item-is fl (drop i s) ∙ between-child-cut (endTag (bytes "ProcessList") 0) (childFault fl) childBody s i e l f (sym z)) y
-      failed (Scans.At q) x a (read k f z b y) = absurd a
-
-      pub content-child : (q : ℕ) (r : ListStep) → r .scan ≡ Scans.At q → ChildReads wanted s (partIn s (i + 1) e) i e st r m m₁ → ContentInv wanted s at q (r .state) m₀ m₁
-      content-child q r z h = next q (r .state) (subst (λ (d : Scan). ChildReads wanted s w i e st (step d (r .state)) m m₁) z (named r h))
-
-      -- behind a child there are fewer bytes
-      pub content-moves : (q : ℕ) (r : ListStep) → r .scan ≡ Scans.At q → ChildReads wanted s (partIn s (i + 1) e) i e st r m m₁ → (i < q) × (q ≤ length s)
-      content-moves q r z h = moved q (r .state) (subst (λ (d : Scan). ChildReads wanted s w i e st (step d (r .state)) m m₁) z (named r h))
-
-      pub content-failed : (r : ListStep) → Failed (r .scan) → ChildReads wanted s (partIn s (i + 1) e) i e st r m m₁ → ContentReads wanted s at (step (r .scan) st) m₀ m₁
-      content-failed r a h = failed (r .scan) (r .state) a (named r h)
+  -- what stands there is no tag
+  pub content-none : (j : ℕ) (r : Scan) → NextReads s i (Nexts.Failed j r) → ContentReads wanted s at (step r st) m₀ m
+  content-none j (Scans.At e) n = absurd n
+  content-none j (Scans.Fault k q) n = content-fault wanted s at j st m₀ m (content-on (n .passed)) k q (n .reads)
+  content-none j Scans.Cut n = content-cut wanted s at j st m₀ m (content-on (n .passed)) (n .reads)

@@ -3,12 +3,12 @@ use mathlib.Core.Path.{_≡_, refl, ap, _∙_}
 use mathlib.Core.List.{List, [], _∷_, _++_}
 use Prim.Native.Nat.{ℕ, _+_, _-_, _≤_, _<_}
 use native.Mathlib.Omega.{arith}
-use lib.ListN.{length, drop, length-append, length-take, length-drop, drop-of-length-le}
+use lib.ListN.{length, drop, length-append, length-take, length-drop}
 use Rattle.grammar.specs.Parse.{Out, done, fault, cut, Parser, Turn, again, before, thenOut, retP, keptP, keptOut, strictP, strictOut, loopState}
 use Rattle.grammar.specs.Laws.{state-again, state-last, state-fault, state-cut}
 use Rattle.grammar.specs.Grammar.{added, oneItem}
 use Rattle.grammar.specs.Splice.{strict-done, flat, itemsAfter, items-again, items-last, items-fault, items-cut}
-use Rattle.xml.specs.Elements.{Part, close, between}
+use Rattle.xml.specs.Elements.{Part, close}
 use Rattle.clf.specs.List.{Child, Flags, listItem, nextFlags}
 use Rattle.clf.specs.Whole.{WholeText}
 
@@ -44,10 +44,6 @@ items-bad l st u k r q = items-fault listItem nextFlags l st u k r (ap (λ (o : 
 pub items-short : (l : List (Part Child × List ℕ)) (st : Flags) (u : List ℕ) → (listItem st) .run u ≡ cut → onItems l st u ≡ cut
 items-short l st u q = items-cut listItem nextFlags l st u (ap (λ (o : Out (Part Child)). strictOut (keptOut o u) u) q)
 
-pub items-past : (l : List (Part Child × List ℕ)) (st : Flags) (s : List ℕ) (i : ℕ) → length s ≤ i → onItems l st (drop i s) ≡ cut
-unfolding listItem between
-items-past l st s i h = items-short l st (drop i s) (ap ((listItem st) .run) (drop-of-length-le s h))
-
 -- ---- how far they came: what stands whole behind the items of a list
 
 abbrev pub wholeFrom : List (Part Child × List ℕ) → Flags → List ℕ → WholeText
@@ -76,10 +72,6 @@ whole-bad l st u k r q = state-fault (λ v. (oneItem listItem nextFlags v) .run)
 
 pub whole-short : (l : List (Part Child × List ℕ)) (st : Flags) (u : List ℕ) → (listItem st) .run u ≡ cut → wholeFrom l st u ≡ (st, l)
 whole-short l st u q = state-cut (λ v. (oneItem listItem nextFlags v) .run) (st, l) u (ap (λ (o : Out (Part Child)). turned l st (strictOut (keptOut o u) u)) q)
-
-pub whole-past : (l : List (Part Child × List ℕ)) (st : Flags) (s : List ℕ) (i : ℕ) → length s ≤ i → wholeFrom l st (drop i s) ≡ (st, l)
-unfolding listItem between
-whole-past l st s i h = whole-short l st (drop i s) (ap ((listItem st) .run) (drop-of-length-le s h))
 
 pub flat-more : (l : List (Part Child × List ℕ)) (x : Part Child × List ℕ) → length (flat (l ++ x ∷ [])) ≡ length (flat l) + length (x .1)
 flat-more [] x = length-append (x .1) [] ∙ omega arith

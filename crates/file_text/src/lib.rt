@@ -9,7 +9,7 @@ ghost use Rattle.tags.specs.Code.{partIn};
 ghost use Rattle.clf.specs.List as List;
 ghost use Rattle.clf.specs.Whole.{wholeBehind, behindHead};
 ghost use Rattle.file_text.specs.Code as Code;
-use markup::Item;
+use markup::NextTag;
 use nodes::CarriedNode;
 use nodes::NodeName;
 use process_list::Node;
@@ -229,14 +229,11 @@ fn list_content(
 {
     let mut state = no_list();
     let mut i = at;
-    while i < s.len() {
-        let l = markup::item_at(s, i);
+    loop {
+        let l = markup::next_tag(s, i);
         match l {
-            Item::Misc(e) => {
-                i = e;
-            }
-            Item::StartTag(e) => {
-                let step = list_child(s, i, e, state, wanted, coefficients, powers);
+            NextTag::Start(a, e) => {
+                let step = list_child(s, a, e, state, wanted, coefficients, powers);
                 let scan = step.scan;
                 let next = step.state;
                 let Scan::At(q) = scan else {
@@ -245,12 +242,10 @@ fn list_content(
                 state = next;
                 i = q;
             }
-            Item::EndTag => return step_of(markup::end_tag(s, i, b"ProcessList", 0), state),
-            Item::Fault(k, p) => return step_of(Scan::Fault(k, p), state),
-            Item::Cut => return step_of(Scan::Cut, state),
+            NextTag::End(a) => return step_of(markup::end_tag(s, a, b"ProcessList", 0), state),
+            NextTag::Failed(a, r) => return step_of(r, state),
         }
     }
-    step_of(Scan::Cut, state)
 }
 
 // ProcessList behind its name.

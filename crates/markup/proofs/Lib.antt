@@ -2,3 +2,4 @@ pub mod Answers
 pub mod Known
 pub mod Tags
 pub mod ItemLaws
+pub mod Next

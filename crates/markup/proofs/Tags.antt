@@ -10,6 +10,7 @@ use borrow.Author.Tests.{eq-eqb, ne-eqb}
 use Rattle.scanning.specs.Steps.{here, past}
 use Rattle.grammar.specs.Parse.{Out, done, fault, cut, Parser, thenOut, bindP, retP, badP, judgeOut, judgeP, strictP, lookTwoP}
 use Rattle.grammar.specs.Grammar.{G, bad, judge, settle, _>>_}
+use Rattle.grammar.specs.Laws.{nope}
 use Rattle.xml.specs.Bytes.{same, slash, greaterThan}
 use Rattle.xml.specs.Xml.{spaces, byte, comment, openName, closeName, endTag, strayEnd}
 use Rattle.xml.specs.Elements.{forbidden, onlyEnd}
@@ -87,6 +88,18 @@ module _ (s : List ℕ) (at : ℕ) where
   pub stray-end : (r : Scan) → Reads 3 (closeName .run) (part s (at + 2)) s at r → Reads 1 (strayEnd .run) noValue s at (refusedScan r 2 at)
   unfolding strayEnd
   stray-end r v = reads-refused (closeName .run) (part s (at + 2)) s at 3 (λ n. retP tt) noValue 1 2 r two v
+
+  -- it is never read to its end
+  pub stray-failed : (r : Scan) → Reads 1 (strayEnd .run) noValue s at r → Failed r
+  unfolding strayEnd
+  stray-failed (At e) v = go (closeName .run (drop at s)) (v .out)
+    where
+      go : (o : Out (List ℕ)) → done (tt {0}) (drop e s) ≡ thenOut (judgeOut (λ n. 2) o (drop at s)) (λ n. retP tt) → ⊥
+      go (done w r) q = nope cc
+      go (fault k r) q = nope cc
+      go cut q = nope cc
+  stray-failed (Fault k p) v = tt
+  stray-failed Cut v = tt
 
   -- ---- what may not stand there
 

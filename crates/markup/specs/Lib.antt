@@ -1,3 +1,4 @@
 pub mod Items
+pub mod Next
 pub mod Settled
 pub mod Between

@@ -7,6 +7,7 @@ ghost use Rattle.xml.specs.Elements as Elements;
 ghost use Rattle.xml.specs.Code.{Reads, part, noValue};
 ghost use Rattle.markup.specs.Settled.{settledScan, refusedScan, spacesByte, endAlone};
 ghost use Rattle.markup.specs.Items.{ItemReads, ItemReadsBy, itemByTwo, miscOf, startTagOf};
+ghost use Rattle.markup.specs.Next.{NextReads};
 use xml::Scan;
 
 // What stands between elements: white space or a comment up to a place; a start tag, whose name ends at a place; an end tag; or none of these.
@@ -16,6 +17,13 @@ pub enum Item {
     EndTag,
     Fault(u8, usize),
     Cut,
+}
+
+// The next tag behind white space and comments: a start tag, by its `<` and its name's end; an end tag, by its `<`; or what stands there and is at fault or cut short.
+pub enum NextTag {
+    Start(usize, usize),
+    End(usize),
+    Failed(usize, Scan),
 }
 
 // The answer r for what stands at `at`, where the fault v is known already; 0 is no fault.
@@ -134,7 +142,7 @@ fn markup_item(s: &[u8], at: usize) -> Item
 }
 
 // What stands between elements.
-pub fn item_at(s: &[u8], at: usize) -> Item
+fn item_at(s: &[u8], at: usize) -> Item
     ensures { λ r. ⌜ ItemReads (now (s .entry)) at r ⌝ }
 {
     if s.len() <= at {
@@ -151,6 +159,25 @@ pub fn item_at(s: &[u8], at: usize) -> Item
         return misc_of(settled(5, xml::entity(s, at), at));
     }
     Item::Fault(5, at)
+}
+
+// The next tag behind white space and comments.
+pub fn next_tag(s: &[u8], at: usize) -> NextTag
+    ensures { λ r. ⌜ NextReads (now (s .entry)) at r ⌝ }
+{
+    let mut i = at;
+    loop {
+        let l = item_at(s, i);
+        match l {
+            Item::Misc(e) => {
+                i = e;
+            }
+            Item::StartTag(e) => return NextTag::Start(i, e),
+            Item::EndTag => return NextTag::End(i),
+            Item::Fault(k, p) => return NextTag::Failed(i, Scan::Fault(k, p)),
+            Item::Cut => return NextTag::Failed(i, Scan::Cut),
+        }
+    }
 }
 
 // What a `<` begins where no element may stand, and no end tag stands: a fault, or cut short. The next byte is b.

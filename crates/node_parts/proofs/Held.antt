@@ -1,26 +1,27 @@
 -- The content of an element that holds elements, part by part: the turns of a loop that reads it, for any holder. Assumes nothing.
 use mathlib.Core.Path.{_≡_, refl, sym, ap, _∙_, subst}
 use mathlib.Core.Bool.{Bool, true, false, cond}
-use mathlib.Core.List.{List, [], _∷_}
+use mathlib.Core.List.{List}
 use Prim.Native.Nat.{ℕ, zero, suc, _+_, _≤_, _<_, min}
 use native.Mathlib.Omega.{arith}
 use lib.ListN.{length, drop, length-drop}
-use lib.Dec.{ltb}
 use borrow.Author.Tests.{lt-ltb}
-use Rattle.scanning.specs.Steps.{past}
-use Rattle.grammar.specs.Parse.{Out, done, fault, cut, Parser, Turn, again, last, thenOut, bindP, retP, strictOut, verdict, settleOut, samePlace, loopP}
+use Rattle.grammar.specs.Parse.{Out, done, fault, cut, Parser, Turn, thenOut, bindP, retP, strictOut, verdict, settleOut, samePlace, loopP}
 use Rattle.grammar.specs.Grammar.{G}
 use Rattle.grammar.specs.Laws.{loop-again, loop-last, loop-fault, loop-cut, nope}
 use Rattle.xml.specs.Xml.{endTag}
-use Rattle.xml.specs.Elements.{Part, misc, child, close, between, Holder, afterPart, heldPart, held}
+use Rattle.xml.specs.Elements.{Part, child, close, between, Holder, afterPart, heldPart, held}
 use Rattle.xml.specs.Code.{part, scanOut, Inside, Reads, noValue, Failed}
 use Rattle.xml.specs.declared.Scan.{Scan}
 use Rattle.xml.specs.declared.Scan.the-variants.{At, Fault, Cut}
 use Rattle.tags.specs.Code.{partIn}
 use Rattle.tags.proofs.Words.{part-in}
-use Rattle.markup.specs.Items.{ItemReads, itemOut}
+use Rattle.markup.specs.Items.{ItemReads}
 use Rattle.markup.specs.Settled.{endAlone}
-use Rattle.markup.specs.Between.{byLead, between-item}
+use Rattle.markup.specs.Between.{byLead, between-item, between-misc, between-fault, between-cut, between-end-reads}
+use Rattle.markup.specs.Next.{Behind, NextReads}
+use Rattle.markup.specs.declared.NextTag.the-variants as Nexts
+use Rattle.markup.proofs.Next.{passed-low, loop-passed}
 use Rattle.markup.specs.declared.Item.{Item}
 use Rattle.markup.specs.declared.Item.the-variants as Items
 use Rattle.node_parts.specs.Held.{Went, childOut, Child, Goes, HeldAt, ReadsTo}
@@ -40,6 +41,12 @@ pub end-lacks : (w : List ℕ) (k n : ℕ) (s : List ℕ) (at e : ℕ) → (k �
 unfolding endTag
 end-lacks w zero n s at e z v = z refl
 end-lacks w (suc k) n s at e z v = lacks k ((endAlone w) .run (drop at s)) (drop at s) (drop e s) (v .out)
+
+-- where nothing is said without a next place
+pub went-either : (r : Scan) (A : Type 0) → A → Went r A (Unit {0})
+went-either (At e) A a = a
+went-either (Fault k p) A a = tt
+went-either Cut A a = tt
 
 module _ {S : Type 0} (h : Holder S) where
   -- ---- a child of the name w
@@ -68,50 +75,33 @@ module _ {S : Type 0} (h : Holder S) where
   -- ---- a turn
 
   module _ (st : S) (s : List ℕ) (i : ℕ) where
-    abbrev next : List ℕ → Out (Part S)
-    next u = (between (endTag (h .name) (h .missing st)) (h .fault st) (h .body st)) .run u
+    abbrev end : G (Unit {0})
+    end = endTag (h .name) (h .missing st)
 
     abbrev parts : S → Parser (Turn S S)
     parts v = (heldPart h v) .run
-
-    turn : (r : Item) → ItemReads s i r → next (drop i s) ≡ byLead (endTag (h .name) (h .missing st)) (h .fault st) (h .body st) (drop i s) (itemOut s i r)
-    turn r v =
-        between-item (endTag (h .name) (h .missing st)) (h .fault st) (h .body st) (drop i s)
-        ∙ ap (byLead (endTag (h .name) (h .missing st)) (h .fault st) (h .body st) (drop i s)) (sym (v .out))
 
     -- the bytes from e on are fewer
     fewer : (e : ℕ) → i + 1 ≤ e → e ≤ length s → length (drop e s) < length (drop i s)
     fewer e l m = simp length-drop (omega arith)
 
-    strict : {A : Type 0} (a : A) (e : ℕ) → i + 1 ≤ e → e ≤ length s → strictOut (done a (drop e s)) (drop i s) ≡ done a (drop e s)
-    strict a e l m = ap (λ (t : Bool). cond t (done a (drop e s)) cut) (lt-ltb (length (drop e s)) (length (drop i s)) (fewer e l m))
-
     abbrev after : Out (Part S) → Out (Turn S S)
     after o = thenOut o (λ p. retP (afterPart st p))
 
-    turn-misc : (e : ℕ) → ItemReads s i (Items.Misc e) → loopP parts st (drop i s) ≡ loopP parts st (drop e s)
-    turn-misc e v =
-        loop-again parts st (drop i s) st (drop e s) (ap after (turn (Items.Misc e) v ∙ strict misc e (v .inside .0) (v .inside .1))) (fewer e (v .inside .0) (v .inside .1))
-
     turn-fault : (k p : ℕ) → ItemReads s i (Items.Fault k p) → loopP parts st (drop i s) ≡ fault k (drop p s)
-    turn-fault k p v = loop-fault parts st (drop i s) k (drop p s) (ap after (turn (Items.Fault k p) v))
+    turn-fault k p v = loop-fault parts st (drop i s) k (drop p s) (ap after (between-fault end (h .fault st) (h .body st) s i k p v))
 
     turn-cut : ItemReads s i Items.Cut → loopP parts st (drop i s) ≡ cut
-    turn-cut v = loop-cut parts st (drop i s) (ap after (turn Items.Cut v))
-
-    turn-ended : length s ≤ i → loopP parts st (drop i s) ≡ cut
-    unfolding between
-    turn-ended l = loop-cut parts st (drop i s) (ap (parts st) (past s i l))
+    turn-cut v = loop-cut parts st (drop i s) (ap after (between-cut end (h .fault st) (h .body st) s i v))
 
     -- at an end tag, which answers r
-    turn-end : (r : Scan) → ItemReads s i Items.EndTag → Reads 1 ((endTag (h .name) (h .missing st)) .run) noValue s i r → loopP parts st (drop i s) ≡ scanOut (λ q. st) s r
-    turn-end r v w = go r (w .inside) (turn Items.EndTag v ∙ ap (λ (o : Out (Unit {0})). strictOut (thenOut o (λ u. retP close)) (drop i s)) (sym (w .out)))
+    turn-end : (r : Scan) → ItemReads s i Items.EndTag → Reads 1 (end .run) noValue s i r → loopP parts st (drop i s) ≡ scanOut (λ q. st) s r
+    turn-end r v w = go r (between-end-reads end (h .fault st) (h .body st) s i v r w)
       where
-        go : (r : Scan) → Inside 1 s i r → next (drop i s) ≡ strictOut (thenOut (scanOut noValue s r) (λ u. retP close)) (drop i s)
-            → loopP parts st (drop i s) ≡ scanOut (λ q. st) s r
-        go (At e) n q = loop-last parts st (drop i s) st (drop e s) (ap after (q ∙ strict close e (n .0) (n .1)))
-        go (Fault k p) n q = loop-fault parts st (drop i s) k (drop p s) (ap after q)
-        go Cut n q = loop-cut parts st (drop i s) (ap after q)
+        go : (r : Scan) → (between end (h .fault st) (h .body st)) .run (drop i s) ≡ scanOut (λ e. close) s r → loopP parts st (drop i s) ≡ scanOut (λ q. st) s r
+        go (At e) q = loop-last parts st (drop i s) st (drop e s) (ap after q)
+        go (Fault k p) q = loop-fault parts st (drop i s) k (drop p s) (ap after q)
+        go Cut q = loop-cut parts st (drop i s) (ap after q)
 
     -- at a child, by its answer
     module _ (e : ℕ) (v : ItemReads s i (Items.StartTag e)) (st′ : S) where
@@ -123,14 +113,18 @@ module _ {S : Type 0} (h : Holder S) where
       same zero = refl
       same (suc k) = refl
 
-      opened : (r : Scan) → Child h st s i e st′ r → next (drop i s) ≡ strictOut (thenOut (scanOut (λ q. st′) s r) (λ v. retP (child v))) (drop i s)
+      opened : (r : Scan) → Child h st s i e st′ r
+          → (between end (h .fault st) (h .body st)) .run (drop i s) ≡ strictOut (thenOut (scanOut (λ q. st′) s r) (λ v. retP (child v))) (drop i s)
       opened r c =
-          turn (Items.StartTag e) v ∙ same (h .fault st w)
+          between-item end (h .fault st) (h .body st) (drop i s) ∙ ap (byLead end (h .fault st) (h .body st) (drop i s)) (sym (v .out)) ∙ same (h .fault st w)
           ∙ ap (λ (o : Out S). strictOut (thenOut o (λ v. retP (child v))) (drop i s)) (sym (c .out))
+
+      strict : (q : ℕ) → i + 1 ≤ q → q ≤ length s → strictOut (done (child st′) (drop q s)) (drop i s) ≡ done (child st′) (drop q s)
+      strict q l m = ap (λ (t : Bool). cond t (done (child st′) (drop q s)) cut) (lt-ltb (length (drop q s)) (length (drop i s)) (fewer q l m))
 
       turn-child : (q : ℕ) → Child h st s i e st′ (At q) → loopP parts st (drop i s) ≡ loopP parts st′ (drop q s)
       turn-child q c =
-          loop-again parts st (drop i s) st′ (drop q s) (ap after (opened (At q) c ∙ strict (child st′) q (c .inside .0) (c .inside .1))) (fewer q (c .inside .0) (c .inside .1))
+          loop-again parts st (drop i s) st′ (drop q s) (ap after (opened (At q) c ∙ strict q (c .inside .0) (c .inside .1))) (fewer q (c .inside .0) (c .inside .1))
 
       turn-failed : (value : ℕ → S) (r : Scan) → Failed r → Child h st s i e st′ r → loopP parts st (drop i s) ≡ scanOut value s r
       turn-failed value (At q) f c = absurd f
@@ -143,29 +137,34 @@ module _ {S : Type 0} (h : Holder S) where
   held-start st₀ s at R r = record { st = st₀; low = omega arith; same = refl; stands = r }
 
   module _ (st₀ : S) (s : List ℕ) (at i : ℕ) (R : S → Type 0) (v : HeldAt h st₀ s at i R) where
-    from : (n : ℕ) (r : Scan) → Inside n s i r → Inside n s at r
-    from n (At e) j = (omega (arith, v .low), j .1)
-    from n (Fault k p) j = (omega (arith, v .low), j .1)
-    from n Cut j = tt
+    -- behind white space and comments
+    on : {item : Item} {j : ℕ} → Behind s i item j → (held h st₀) .run (drop at s) ≡ (held h (v .st)) .run (drop j s)
+    on b =
+        v .same ∙ loop-passed s i (λ x. (heldPart h x) .run) (v .st)
+        (λ j e l. ap (after (v .st) s j) (between-misc (endTag (h .name) (h .missing (v .st))) (h .fault (v .st)) (h .body (v .st)) s j e l)) (b .passed)
 
-    pub held-misc : (e : ℕ) → ItemReads s i (Items.Misc e) → HeldAt h st₀ s at e R
-    held-misc e l = record { st = v .st; low = omega (arith, v .low, l .inside); same = v .same ∙ turn-misc (v .st) s i e l; stands = v .stands }
+    from : (n : ℕ) {item : Item} {j : ℕ} → Behind s i item j → (r : Scan) → Inside n s j r → Inside n s at r
+    from n b (At e) k = (omega (arith, v .low, passed-low s i (b .passed)), k .1)
+    from n b (Fault x p) k = (omega (arith, v .low, passed-low s i (b .passed)), k .1)
+    from n b Cut k = tt
 
     -- a child, with the answer r
-    module _ (e : ℕ) (l : ItemReads s i (Items.StartTag e)) (r : Scan) (R₂ : S → Type 0) (F : Type 0) (g : (st : S) → R st → Goes h st s i e r R₂ F) where
-      abbrev went : Goes h (v .st) s i e r R₂ F
+    module _ (j e : ℕ) (l : Behind s i (Items.StartTag e) j) (r : Scan) (R₂ : S → Type 0) (F : Type 0) (g : (st : S) → R st → Goes h st s j e r R₂ F) where
+      abbrev went : Goes h (v .st) s j e r R₂ F
       went = g (v .st) (v .stands)
 
+      inside : (q : ℕ) → r ≡ At q → (j + 1 ≤ q) × (q ≤ length s)
+      inside q z = subst (λ (x : Scan). Inside 1 s j x) z (went .child .inside)
+
       pub held-moves : (q : ℕ) → r ≡ At q → (i + 1 ≤ q) × (q ≤ length s)
-      held-moves q z = subst (λ (x : Scan). Inside 1 s i x) z (went .child .inside)
+      held-moves q z = (omega (arith, inside q z, passed-low s i (l .passed)), inside q z .1)
 
       pub held-child : (q : ℕ) → r ≡ At q → HeldAt h st₀ s at q R₂
       held-child q z =
-          let c : Child h (v .st) s i e (went .to) (At q) = subst (λ (x : Scan). Child h (v .st) s i e (went .to) x) z (went .child) in
           record {
             st = went .to;
-            low = omega (arith, v .low, c .inside);
-            same = v .same ∙ turn-child (v .st) s i e l (went .to) q c;
+            low = omega (arith, v .low, held-moves q z);
+            same = on l ∙ turn-child (v .st) s j e (l .reads) (went .to) q (subst (λ (x : Scan). Child h (v .st) s j e (went .to) x) z (went .child));
             stands = subst (λ (x : Scan). Went x (R₂ (went .to)) F) z (went .left);
           }
 
@@ -177,32 +176,28 @@ module _ {S : Type 0} (h : Holder S) where
       pub held-failed : (R₃ : S → Type 0) → Failed r → ReadsTo ((held h st₀) .run) s at r R₃ F
       held-failed R₃ f = record {
         value = v .st;
-        reads = record { out = sym (v .same ∙ turn-failed (v .st) s i e l (went .to) (λ q. v .st) r f (went .child)); inside = from 1 r (went .child .inside) };
+        reads = record { out = sym (on l ∙ turn-failed (v .st) s j e (l .reads) (went .to) (λ q. v .st) r f (went .child)); inside = from 1 l r (went .child .inside) };
         left = left-over r (R₂ (went .to)) f (went .left) (R₃ (v .st));
       }
 
     module _ (R₂ : S → Type 0) (F : Type 0) where
       -- the end tag
-      pub held-end : (r : Scan) → ItemReads s i Items.EndTag → ((st : S) → R st → Reads 1 ((endTag (h .name) (h .missing st)) .run) noValue s i r × Went r (R₂ st) F)
+      pub held-end : (j : ℕ) (r : Scan) → Behind s i Items.EndTag j → ((st : S) → R st → Reads 1 ((endTag (h .name) (h .missing st)) .run) noValue s j r × Went r (R₂ st) F)
           → ReadsTo ((held h st₀) .run) s at r R₂ F
-      held-end r l g =
-          let w : Reads 1 ((endTag (h .name) (h .missing (v .st))) .run) noValue s i r × Went r (R₂ (v .st)) F = g (v .st) (v .stands) in
+      held-end j r l g =
+          let w : Reads 1 ((endTag (h .name) (h .missing (v .st))) .run) noValue s j r × Went r (R₂ (v .st)) F = g (v .st) (v .stands) in
           record {
             value = v .st;
-            reads = record { out = sym (v .same ∙ turn-end (v .st) s i r l (w .0)); inside = from 1 r (w .0 .inside) };
+            reads = record { out = sym (on l ∙ turn-end (v .st) s j r (l .reads) (w .0)); inside = from 1 l r (w .0 .inside) };
             left = w .1;
           }
 
       -- none of these
-      pub held-fault : (k p : ℕ) → ItemReads s i (Items.Fault k p) → F → ReadsTo ((held h st₀) .run) s at (Fault k p) R₂ F
-      held-fault k p l f = record {
+      pub held-none : (j : ℕ) (r : Scan) → NextReads s i (Nexts.Failed j r) → F → ReadsTo ((held h st₀) .run) s at r R₂ F
+      held-none j (At e) l f = absurd l
+      held-none j (Fault k p) l f = record {
         value = v .st;
-        reads = record { out = sym (v .same ∙ turn-fault (v .st) s i k p l); inside = from 1 (Fault k p) (l .inside) };
+        reads = record { out = sym (on l ∙ turn-fault (v .st) s j k p (l .reads)); inside = from 1 l (Fault k p) (l .reads .inside) };
         left = f;
       }
-
-      pub held-cut : ItemReads s i Items.Cut → F → ReadsTo ((held h st₀) .run) s at Cut R₂ F
-      held-cut l f = record { value = v .st; reads = record { out = sym (v .same ∙ turn-cut (v .st) s i l); inside = tt }; left = f }
-
-      pub held-ended : length s ≤ i → F → ReadsTo ((held h st₀) .run) s at Cut R₂ F
-      held-ended l f = record { value = v .st; reads = record { out = sym (v .same ∙ turn-ended (v .st) s i l); inside = tt }; left = f }
+      held-none j Cut l f = record { value = v .st; reads = record { out = sym (on l ∙ turn-cut (v .st) s j (l .reads)); inside = tt }; left = f }

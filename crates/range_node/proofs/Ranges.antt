@@ -18,8 +18,8 @@ use Rattle.xml.specs.Xml.{Tag, textOf, startTag, endTag}
 use Rattle.xml.specs.Elements.{held, textElement}
 use Rattle.xml.specs.Code.{Reads, noValue, Failed}
 use Rattle.xml.specs.declared.Scan.{Scan}
-use Rattle.xml.specs.declared.Scan.the-variants.{At, Fault, Cut}
-use Rattle.markup.specs.Items.{ItemReads}
+use Rattle.xml.specs.declared.Scan.the-variants.{At, Fault}
+use Rattle.markup.specs.Next.{Behind}
 use Rattle.markup.specs.declared.Item.the-variants as Items
 use Rattle.tags.specs.Code.{partIn, attributesOf}
 use Rattle.tags.specs.Ended.{tagOf}
@@ -28,9 +28,9 @@ use Rattle.values.specs.Code.{Laid, NumbersRead}
 use Rattle.clf.specs.Numbers.{valueElement, anyNumber}
 use Rattle.clf.specs.Nodes.{isSome, orElse, oneOf, RangeState, noValues, rangeIndex, rangeBody, rangeFault, rangeHolder, rangeTexts, rangeStyle, rangeNode, nodeRules, range}
 use Rattle.node_parts.specs.Code.{NumbersIn, finishedNode, noNode, smallNumbers, NodeReads}
-use Rattle.node_parts.specs.Held.{Went, Goes, HeldAt, ReadsTo}
+use Rattle.node_parts.specs.Held.{Goes, HeldAt, ReadsTo}
 use Rattle.node_parts.specs.declared.NodeStep.{NodeStep}
-use Rattle.node_parts.proofs.Held.{child-refused, child-body, held-end}
+use Rattle.node_parts.proofs.Held.{went-either, child-refused, child-body, held-end}
 use Rattle.node_parts.proofs.Reading.{to-map, to-then, to-failed, to-part, numbers-to, text-to, node-reads, node-failed, finished-is, NodeIs}
 use Rattle.range_node.specs.Code.{faultOf, missingOf, fourZeros, RangeStands, withScan, noneFound}
 use Rattle.range_node.specs.declared.RangeStep.{RangeStep}
@@ -87,17 +87,12 @@ pub range-start : (at : ℕ) (m : Room) → smallNumbers m ≡ fourZeros → Ran
 range-start at m q = record { found = refl; numbers = q; four = refl }
 
 module _ (s : List ℕ) (at i : ℕ) (m : Room) (state : RangeStep) (v : HeldAt rangeHolder noValues s at i (RangeStands m state)) where
-  either : (r : Scan) (A : Type 0) → A → Went r A (Unit {0})
-  either (At e) A a = a
-  either (Fault k e) A a = tt
-  either Cut A a = tt
-
   -- the end tag
-  pub content-end : ItemReads s i Items.EndTag → (missing : ℕ) (r : Scan) → missing ≡ missingOf (state .found) m → Reads 1 ((endTag (bytes "Range") missing) .run) noValue s i r
+  pub content-end : (j : ℕ) → Behind s i Items.EndTag j → (missing : ℕ) (r : Scan) → missing ≡ missingOf (state .found) m → Reads 1 ((endTag (bytes "Range") missing) .run) noValue s j r
       → ReadsTo ((held rangeHolder noValues) .run) s at r (RangeStands m (withScan state r)) (Unit {0})
-  content-end l missing r q w =
-      held-end rangeHolder noValues s at i (RangeStands m state) v (RangeStands m (withScan state r)) (Unit {0}) r l
-      (λ st z. (rw (sym (lacking m state st z) ∙ sym q) w, either r (RangeStands m (withScan state r) st) (kept m state r st z)))
+  content-end j l missing r q w =
+      held-end rangeHolder noValues s at i (RangeStands m state) v (RangeStands m (withScan state r)) (Unit {0}) j r l
+      (λ st z. (rw (sym (lacking m state st z) ∙ sym q) w, went-either r (RangeStands m (withScan state r) st) (kept m state r st z)))
 
 -- ---- the node
 

@@ -11,7 +11,7 @@ ghost use Rattle.clf.specs.Nodes as Nodes;
 ghost use Rattle.node_parts.specs.Code.{smallNumbers, NodeReads};
 ghost use Rattle.node_parts.specs.Held.{Goes, ReadsTo};
 ghost use Rattle.range_node.specs.Code as Code;
-use markup::Item;
+use markup::NextTag;
 use node_parts::NodeStep;
 use process_list::Kind;
 use process_list::RangeStyle;
@@ -196,35 +196,26 @@ fn range_content(s: &[u8], at: usize, coefficients: &mut [i64], powers: &mut [i8
 {
     let mut state = no_values(at);
     let mut i = at;
-    while i < s.len() {
-        let l = markup::item_at(s, i);
+    loop {
+        let l = markup::next_tag(s, i);
         match l {
-            Item::Misc(e) => {
-                i = e;
-            }
-            Item::StartTag(e) => {
-                state = range_child(s, i, e, state, coefficients, powers);
+            NextTag::Start(a, e) => {
+                state = range_child(s, a, e, state, coefficients, powers);
                 let r = state.scan;
                 let Scan::At(q) = r else {
                     return state;
                 };
                 i = q;
             }
-            Item::EndTag => {
+            NextTag::End(a) => {
                 let found = state.found;
                 let missing = range_missing(found, coefficients, powers);
-                let r = markup::end_tag(s, i, b"Range", missing);
+                let r = markup::end_tag(s, a, b"Range", missing);
                 return range_with(state, r);
             }
-            Item::Fault(k, p) => {
-                return range_with(state, Scan::Fault(k, p));
-            }
-            Item::Cut => {
-                return range_with(state, Scan::Cut);
-            }
+            NextTag::Failed(a, r) => return range_with(state, r),
         }
     }
-    range_with(state, Scan::Cut)
 }
 
 // The style, by whether its text is "noClamp".

@@ -1,69 +1,31 @@
 use native.Mathlib.Omega.{arith}
-use Prim.Native.Nat.{_-_}
-use lib.ListN.{length}
-use Rattle.xml.proofs.Answers.{failed}
-use Rattle.around_root.proofs.Turns.{TailInv, tail-start, tail-misc, tail-open, tail-stray, tail-failed, tail-fault, tail-short, tail-end}
+use Rattle.around_root.proofs.Turns.{tail-open, tail-end, tail-none, tail-past}
 use borrow.Author.Needs.{needs}
 use Rattle.around_root.proofs.epilogue.Statement.{statement}
 use Rattle.around_root.proofs.epilogue.Tie as tie
 
-abbrev Inv-loop : tie.InvT-loop
-Inv-loop s at i₀ i = TailInv s at i
+returns : tie.Need-returns
+returns c = tail-past _ _ _ (c .before .before .l3 .given .0 .1 .0) (omega arith) (rw (c .before .before .l3 .given .1) at (c .before .before .before .before .next-tag .ensures))
 
-abbrev μ-loop : tie.MeasureT-loop
-μ-loop s at i₀ i = length s - i
+returns-2 : tie.Need-returns-2
+returns-2 c = tail-open _ _ _ _ (rw (c .before .l .given .1) at (c .before .before .before .next-tag .ensures))
 
-loop-holds : tie.Need-loop-holds Inv-loop μ-loop
-loop-holds c = tail-start _ _
+returns-3 : tie.Need-returns-3
+returns-3 c = tail-end _ _ _ (rw (c .before .before .l2 .given .1) at (c .before .before .before .before .next-tag .ensures)) _ (c .stray-end .ensures)
 
-loop-less : tie.Need-loop-less Inv-loop μ-loop
-loop-less c = omega (arith, (rw (c .before .l .given .1) at (c .before .before .before .item-at .ensures)) .inside)
-
-loop-again : tie.Need-loop-again Inv-loop μ-loop
-loop-again c = tail-misc _ _ _ (c .before .before .before .before .before .loop .inv) (omega arith) _ (rw (c .before .l .given .1) at (c .before .before .before .item-at .ensures))
-
-returns : tie.Need-returns Inv-loop μ-loop
-returns c = tail-open _ _ _ (c .before .before .before .before .before .loop .inv) (omega arith) _ (rw (c .before .l2 .given .1) at (c .before .before .before .item-at .ensures))
-
-returns-2 : tie.Need-returns-2 Inv-loop μ-loop
-returns-2 c = tail-failed _ _ _ (c .before .before .before .before .before .before .loop .inv) (omega arith) _ (rw (c .before .before .enum-told .given .1) at (c .before .before .before .before .item-at .ensures)) (failed (c .before .stray-end .result) (c .match2 .keys2)) (c .before .stray-end .ensures)
-
-loop-less-2 : tie.Need-loop-less-2 Inv-loop μ-loop
-loop-less-2 c = omega (arith, (rw (c .before .r .given .1) at (c .before .before .before .stray-end .ensures)) .inside)
-
-loop-again-2 : tie.Need-loop-again-2 Inv-loop μ-loop
-loop-again-2 c = tail-stray _ _ _ (c .before .before .before .before .before .before .before .before .loop .inv) (omega arith) _ (rw (c .before .before .before .before .enum-told .given .1) at (c .before .before .before .before .before .before .item-at .ensures)) (rw (c .before .r .given .1) at (c .before .before .before .stray-end .ensures))
-
-returns-3 : tie.Need-returns-3 Inv-loop μ-loop
-returns-3 c = tail-fault _ _ _ (c .before .before .before .before .before .loop .inv) (omega arith) _ _ (rw (c .before .l3 .given .1) at (c .before .before .before .item-at .ensures))
-
-returns-4 : tie.Need-returns-4 Inv-loop μ-loop
-returns-4 c = tail-short _ _ _ (c .before .before .before .before .loop .inv) (omega arith) (rw (c .enum-told2 .given .1) at (c .before .before .item-at .ensures))
-
-returns-5 : tie.Need-returns-5 Inv-loop μ-loop
-returns-5 c = tail-end _ _ _ (c .before .loop .inv) (omega arith)
+returns-4 : tie.Need-returns-4
+returns-4 c = tail-none _ _ _ _ (omega arith) (rw (c .before .before .l3 .given .1) at (c .before .before .before .before .next-tag .ensures))
 
 pub epilogue-spec : {M : Type 1} → statement M
 epilogue-spec =
     tie.close
     (tie.spec
-    Inv-loop
-    μ-loop
-    loop-holds
     (λ c κs. search needs)
     (λ c. search needs)
-    loop-less
-    loop-again
+    (λ c. search needs)
+    (λ c κs. search needs)
     (λ c. search needs)
     returns
-    (λ c. search needs)
-    (λ c κs. search needs)
-    (λ c. search needs)
     returns-2
-    loop-less-2
-    loop-again-2
-    (λ c. search needs)
     returns-3
-    (λ c. search needs)
-    returns-4
-    returns-5)
+    returns-4)

@@ -5,7 +5,7 @@ use lib.ListN.{length}
 use Rattle.room.specs.Room.{lent}
 use Rattle.clf.specs.Nodes.{noCdl, cdlHolder}
 use Rattle.node_parts.specs.Held.{HeldAt}
-use Rattle.node_parts.proofs.Held.{held-start, held-misc, held-child, held-moves, held-failed, held-fault, held-cut, held-ended}
+use Rattle.node_parts.proofs.Held.{held-start, held-child, held-moves, held-failed, held-none}
 use Rattle.markup.proofs.Answers.{failed}
 use Rattle.cdl_node.specs.Code.{CdlStands}
 use Rattle.cdl_node.proofs.Cdls.{cdl-start, content-end}
@@ -14,7 +14,9 @@ use Rattle.cdl_node.proofs.cdl_content.Statement.{statement}
 use Rattle.cdl_node.proofs.cdl_content.Tie as tie
 
 abbrev Inv-loop : tie.InvT-loop
-Inv-loop s at coefficients₀ powers₀ state₀ i₀ t15 coefficients powers state i = (length coefficients ≡ length coefficients₀) × (length powers ≡ length powers₀) × HeldAt cdlHolder noCdl s at i (CdlStands (lent coefficients powers) state)
+Inv-loop s at coefficients₀ powers₀ state₀ i₀ t15 coefficients powers state i =
+    (length coefficients ≡ length coefficients₀) × (length powers ≡ length powers₀) ×
+    HeldAt cdlHolder noCdl s at i (CdlStands (lent coefficients powers) state)
 
 abbrev μ-loop : tie.MeasureT-loop
 μ-loop s at coefficients₀ powers₀ state₀ i₀ t15 coefficients powers state i = length s - i
@@ -22,35 +24,46 @@ abbrev μ-loop : tie.MeasureT-loop
 loop-holds : tie.Need-loop-holds Inv-loop μ-loop
 loop-holds c = (refl, refl, held-start _ _ _ _ _ (rw (c .no-cdl .ensures) (cdl-start _ _ (c .before .before .pre))))
 
-loop-less : tie.Need-loop-less Inv-loop μ-loop
-loop-less c = omega (arith, (rw (c .before .l .given .1) at (c .before .before .before .item-at .ensures)) .inside)
-
-loop-again : tie.Need-loop-again Inv-loop μ-loop
-loop-again c = (c .before .before .before .before .before .loop .inv .0, c .before .before .before .before .before .loop .inv .1, held-misc _ _ _ _ _ _ (c .before .before .before .before .before .loop .inv .2) _ (rw (c .before .l .given .1) at (c .before .before .before .item-at .ensures)))
-
 cdl-child-requires : tie.Need-cdl-child-requires Inv-loop μ-loop
-cdl-child-requires c κs = (rw (c .before .before .before .l2 .given .1) at (c .before .before .before .before .before .item-at .ensures)) .inside
+cdl-child-requires c κs = (rw (c .before .before .before .l .given .1) at (c .before .before .before .before .before .next-tag .ensures)) .reads .inside
 
 returns : tie.Need-returns Inv-loop μ-loop
-returns c = held-failed _ _ _ _ _ _ (c .before .before .before .before .before .before .before .before .before .before .before .loop .inv .2) _ (rw (c .before .before .before .before .before .before .before .l2 .given .1) at (c .before .before .before .before .before .before .before .before .before .item-at .ensures)) _ _ _ (c .before .before .before .cdl-child .ensures) _ (failed (c .before .before .before .cdl-child .result .scan) (c .match2 .keys2))
+returns c =
+    let child = c .before .before .before in
+    let next = child .before .before .before .before in
+    held-failed _ _ _ _ _ _ (next .before .before .before .loop .inv .2) _ _ (rw (next .l .given .1) at (next .before .before .next-tag .ensures)) _ _ _ (child .cdl-child .ensures)
+    _ (failed (child .cdl-child .result .scan) (c .match2 .keys2))
 
-loop-less-2 : tie.Need-loop-less-2 Inv-loop μ-loop
-loop-less-2 c = omega (arith, held-moves _ _ _ _ _ _ (c .before .before .before .before .before .before .before .before .before .before .before .before .before .loop .inv .2) _ (rw (c .before .before .before .before .before .before .before .before .before .l2 .given .1) at (c .before .before .before .before .before .before .before .before .before .before .before .item-at .ensures)) _ _ _ (c .before .before .before .before .before .cdl-child .ensures) _ (c .before .r .given .1))
+loop-less : tie.Need-loop-less Inv-loop μ-loop
+loop-less c =
+    let child = c .before .before .before .before .before in
+    let next = child .before .before .before .before in
+    omega (
+      arith,
+      held-moves _ _ _ _ _ _ (next .before .before .before .loop .inv .2) _ _ (rw (next .l .given .1) at (next .before .before .next-tag .ensures)) _ _ _
+          (child .cdl-child .ensures) _ (c .before .r .given .1),
+    )
 
-loop-again-2 : tie.Need-loop-again-2 Inv-loop μ-loop
-loop-again-2 c = (search needs, search needs, held-child _ _ _ _ _ _ (c .before .before .before .before .before .before .before .before .before .before .before .before .before .loop .inv .2) _ (rw (c .before .before .before .before .before .before .before .before .before .l2 .given .1) at (c .before .before .before .before .before .before .before .before .before .before .before .item-at .ensures)) _ _ _ (c .before .before .before .before .before .cdl-child .ensures) _ (c .before .r .given .1))
+loop-again : tie.Need-loop-again Inv-loop μ-loop
+loop-again c =
+    let child = c .before .before .before .before .before in
+    let next = child .before .before .before .before in (
+      search needs,
+      search needs,
+      held-child _ _ _ _ _ _ (next .before .before .before .loop .inv .2) _ _ (rw (next .l .given .1) at (next .before .before .next-tag .ensures)) _ _ _
+          (child .cdl-child .ensures) _ (c .before .r .given .1),
+    )
 
 returns-2 : tie.Need-returns-2 Inv-loop μ-loop
-returns-2 c = rw (c .cdl-with .ensures) (content-end _ _ _ _ _ (c .before .before .before .before .before .before .before .loop .inv .2) (rw (c .before .before .before .enum-told .given .1) at (c .before .before .before .before .before .item-at .ensures)) _ (c .before .end-tag .ensures))
+returns-2 c =
+    let next = c .before .before .before .before in
+    rw (c .cdl-with .ensures) (content-end _ _ _ _ _ (next .before .before .before .loop .inv .2) _ (rw (next .l2 .given .1) at (next .before .before .next-tag .ensures)) _
+    (c .before .end-tag .ensures))
 
 returns-3 : tie.Need-returns-3 Inv-loop μ-loop
-returns-3 c = rw (c .cdl-with2 .ensures) (held-fault _ _ _ _ _ _ (c .before .before .before .before .before .before .loop .inv .2) _ _ _ _ (rw (c .before .before .l3 .given .1) at (c .before .before .before .before .item-at .ensures)) tt)
-
-returns-4 : tie.Need-returns-4 Inv-loop μ-loop
-returns-4 c = rw (c .cdl-with3 .ensures) (held-cut _ _ _ _ _ _ (c .before .before .before .before .before .loop .inv .2) _ _ (rw (c .before .enum-told2 .given .1) at (c .before .before .before .item-at .ensures)) tt)
-
-returns-5 : tie.Need-returns-5 Inv-loop μ-loop
-returns-5 c = rw (c .cdl-with4 .ensures) (held-ended _ _ _ _ _ _ (c .before .before .loop .inv .2) _ _ (omega arith) tt)
+returns-3 c =
+    let next = c .before .before in
+    rw (c .cdl-with2 .ensures) (held-none _ _ _ _ _ _ (next .before .before .before .loop .inv .2) _ _ _ _ (rw (next .l3 .given .1) at (next .before .before .next-tag .ensures)) tt)
 
 pub cdl-content-spec : {M : Type 1} → statement M
 cdl-content-spec =
@@ -62,16 +75,13 @@ cdl-content-spec =
     loop-holds
     (λ c κs. search needs)
     (λ c. search needs)
-    loop-less
-    loop-again
-    (λ c. search needs)
     cdl-child-requires
     (λ c. search needs)
     (λ c. search needs)
     (λ c. search needs)
     returns
-    loop-less-2
-    loop-again-2
+    loop-less
+    loop-again
     (λ c. search needs)
     (λ c. search needs)
     (λ c κs. search needs)
@@ -83,13 +93,4 @@ cdl-content-spec =
     (λ c κs. search needs)
     (λ c. search needs)
     (λ c. search needs)
-    returns-3
-    (λ c. search needs)
-    (λ c κs. search needs)
-    (λ c. search needs)
-    (λ c. search needs)
-    returns-4
-    (λ c κs. search needs)
-    (λ c. search needs)
-    (λ c. search needs)
-    returns-5)
+    returns-3)
