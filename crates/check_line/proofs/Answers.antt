@@ -1,6 +1,6 @@
 -- The line for what reading answers. Assumes nothing.
 use mathlib.Core.Path.{_≡_, ap, _∙_}
-use mathlib.Core.List.{List}
+use mathlib.Core.List.{List, [], _++_, append-assoc}
 use Prim.Native.Nat.{ℕ, _≤_, _<_}
 use borrow.Author.Tests.{eq-eqb, ne-eqb, lt-ltb, le-ltb}
 use lib.ListN.{length}
@@ -10,8 +10,11 @@ use Rattle.reading.specs.declared.Answer.{Answer}
 use Rattle.reading.specs.Code.{readingAnswer}
 use Rattle.reading.specs.Counts.{nodeCount, numberCount}
 use Rattle.reading.proofs.Counts.{answer-count, answer-numbers}
+use Rattle.xml.specs.Bytes.{bytes}
+use Rattle.text_out.specs.Output.{Puts}
+use Rattle.text_out.proofs.Laws.{puts-as}
 use Rattle.check_line.specs.declared.Line.{Line}
-use Rattle.check_line.specs.Line.{lineFrom, textOf, tooLong, answerText, readingText, checkText, acceptedText, refusalText}
+use Rattle.check_line.specs.Line.{lineFrom, twoNumbers, textOf, tooLong, answerText, readingText, checkText, acceptedText, refusalText}
 
 module _ (room : ℕ) (s : List ℕ) (a : Answer) (e : a ≡ readingAnswer (read room s)) where
   number-is : a .number ≡ readingNumber (read room s)
@@ -27,13 +30,18 @@ module _ (room : ℕ) (s : List ℕ) (a : Answer) (e : a ≡ readingAnswer (read
   answer-text = cc (number-is, place-is, answer-count room s a e, answer-numbers room s a e)
 
 -- ---- the branches of the code
-pub accepted-answer : (a : Answer) (u : ℕ) (x : Line) → a .number ≡ 0 → u ≡ capped (total (nodesOf (a .list))) → x ≡ lineFrom (acceptedText (a .list .count) u) → x ≡ lineFrom (answerText a)
-unfolding answerText textOf
-accepted-answer a u x n e h = rw (eq-eqb (a .number) 0 n, ← e) h
+two-front : (u v w : List ℕ) (m n : ℕ) (t : List ℕ) → twoNumbers u m v n w [] ++ t ≡ twoNumbers u m v n w t
+two-front u v w m n t = simp append-assoc
 
-pub refused-answer : (a : Answer) (x : Line) → (a .number ≡ 0 → ⊥) → x ≡ lineFrom (refusalText (a .number) (a .place)) → x ≡ lineFrom (answerText a)
-unfolding answerText textOf
-refused-answer a x n h = rw (ne-eqb (a .number) 0 n) h
+module _ {r : ℕ} {s s' : List ℕ} (a : Answer) where
+  pub accepted-answer : (u : ℕ) → a .number ≡ 0 → u ≡ capped (total (nodesOf (a .list)))
+      → Puts (twoNumbers (bytes "accepted ") (a .list .count) (bytes " nodes ") u (bytes " numbers\n")) 0 s s' r → Puts (λ t. answerText a ++ t) 0 s s' r
+  unfolding answerText textOf acceptedText
+  accepted-answer u n e p = puts-as (λ t. rw (eq-eqb (a .number) 0 n, ← e) (two-front (bytes "accepted ") (bytes " nodes ") (bytes " numbers\n") (a .list .count) u t)) p
+
+  pub refused-answer : (a .number ≡ 0 → ⊥) → Puts (twoNumbers (bytes "refusal ") (a .number) (bytes " at ") (a .place) (bytes "\n")) 0 s s' r → Puts (λ t. answerText a ++ t) 0 s s' r
+  unfolding answerText textOf refusalText
+  refused-answer n p = puts-as (λ t. rw (ne-eqb (a .number) 0 n) (two-front (bytes "refusal ") (bytes " at ") (bytes "\n") (a .number) (a .place) t)) p
 
 pub long-input : (s : List ℕ) (x : Line) → 65536 < length s → x ≡ lineFrom tooLong → x ≡ lineFrom (checkText s)
 unfolding checkText

@@ -1,65 +1,41 @@
--- Laws of a line that is made piece by piece. Assumes nothing.
-use mathlib.Core.Path.{_≡_, refl, sym, ap, _∙_}
-use mathlib.Core.List.{List, [], _∷_, _++_, append-assoc, append-nil}
-use Prim.Native.Nat.{ℕ, suc, _+_, _-_, _≤_, _<_, _^_, _/_, _%_}
+-- The line of a text, and how long a text can be. Assumes nothing.
+use mathlib.Core.Path.{_≡_}
+use mathlib.Core.Bool.{Bool, true, false, cond}
+use mathlib.Core.List.{List, [], _++_}
+use Prim.Native.Nat.{ℕ, _+_, _≤_, _<_, _^_}
 use native.Mathlib.Omega.{arith}
-use native.Mathlib.Numerals.{add-one}
-use lib.Dec.{lit≤}
-use lib.ListN.{length, set, replicate, take, getD, length-append}
-use lib.Seq.{set-append-seam, append-snoc, take-suc, take-length}
+use lib.Dec.{eqb, lit≤}
+use lib.ListN.{length, replicate, length-append}
 use Rattle.decimal_write.specs.Written.{digits}
-use Rattle.decimal_write.specs.Laws.{digits-one, digits-more, digits-short}
+use Rattle.decimal_write.specs.Laws.{digits-short}
+use Rattle.process_list.specs.List.{nodesOf, total, capped}
+use Rattle.reading.specs.declared.Answer.{Answer}
+use Rattle.text_out.specs.Output.{Puts}
+use Rattle.text_out.proofs.Laws.{puts-zeros}
+use Rattle.xml.specs.Bytes.{bytes}
 use Rattle.check_line.specs.declared.Line.{Line}
-use Rattle.check_line.specs.Line.{lineFrom, Adds}
+use Rattle.check_line.specs.Line.{lineFrom, twoNumbers, acceptedText, refusalText, textOf, answerText}
 
-pub adds-none : (x : Line) → Adds x [] x
-adds-none x = record { makes = λ l e h. e ∙ ap lineFrom (sym (append-nil l)) }
-
-pub adds-both : {x y z : Line} {t u : List ℕ} → Adds x t y → Adds y u z → Adds x (t ++ u) z
-adds-both {t = t} {u = u} p q = record {
-  makes = λ l e h.
-      q .makes (l ++ t) (p .makes l e (omega (arith, length-append t u))) (omega (arith, length-append t u, length-append l t)) ∙ ap lineFrom (append-assoc l t u);
-}
-
--- ---- one byte
-length-snoc : (l : List ℕ) (b : ℕ) → length (l ++ (b ∷ [])) ≡ length l + 1
-length-snoc l b = length-append l (b ∷ [])
-
-room-left : (n : ℕ) → n < 80 → 80 - n ≡ suc (80 - (n + 1))
-room-left n h = omega arith
-
-bytes-more : (l : List ℕ) (b : ℕ) → length l < 80 → set (l ++ replicate (80 - length l) 0) (length l) b ≡ (l ++ (b ∷ [])) ++ replicate (80 - length (l ++ (b ∷ []))) 0
-bytes-more l b h = rw (length-snoc, room-left (length l) h, set-append-seam, append-snoc)
-
-pub adds-byte : (x : Line) (b : ℕ) → Adds x (b ∷ []) (record { bytes = set (x .bytes) (x .length) b; length = x .length + 1 })
+-- the line of a text that has been put into 80 zeros
+pub line-put : {s : List ℕ} {r : ℕ} (x : List ℕ) → length x ≤ 80 → r < 2 ^ 64 → Puts (λ t. x ++ t) 0 (replicate 80 0) s r → record { bytes = s; length = r } ≡ lineFrom x
 unfolding lineFrom
-adds-byte x b = record { makes = λ l e h. rw (e, bytes-more l b (omega arith), length-snoc l b) }
+line-put x h k p = let z = puts-zeros 80 x h (lit≤ tt) k p in rw (z .0, z .1)
 
-pub full-adds : (x : Line) (b : ℕ) → 80 ≤ x .length → Adds x (b ∷ []) x
-unfolding lineFrom
-full-adds x b f = record { makes = λ l e h. absurd (let k : x .length ≡ length l = rw e in omega arith) }
-
--- ---- a word, byte by byte
-pub adds-next : {x y z : Line} (w : List ℕ) (i : ℕ) → i < length w → Adds x (take i w) y → Adds y (getD w i 0 ∷ []) z → Adds x (take (i + 1) w) z
-adds-next w i h p q = rw (add-one, take-suc w i 0) (adds-both p q)
-
-pub adds-whole : {x y : Line} (w : List ℕ) (i : ℕ) → length w ≤ i → i ≤ length w → Adds x (take i w) y → Adds x w y
-adds-whole w i h k p = let e : i ≡ length w = omega arith in rw (e, take-length) at p
-
--- ---- digits
-pub adds-digit : {x y : Line} (n : ℕ) → n < 10 → Adds x ((48 + n) ∷ []) y → Adds x (digits n) y
-adds-digit n h p = rw (digits-one n h) p
-
-pub adds-last : {x y z : Line} (n : ℕ) → 10 ≤ n → Adds x (digits (n / 10)) y → Adds y ((48 + n % 10) ∷ []) z → Adds x (digits n) z
-adds-last n h p q = rw (digits-more n h) (adds-both p q)
-
--- ---- a line of three words and two numbers between them
+-- ---- how long a line can be
 short : (n : ℕ) → n < 2 ^ 64 → length (digits n) ≤ 20
 short n h = digits-short n 19 (omega (arith, lit≤ {m = 2 ^ 64} {n = 10 ^ 20} tt))
 
-text-short : (u v w : List ℕ) (m n : ℕ) → m < 2 ^ 64 → n < 2 ^ 64 → length u + (length v + length w) ≤ 40 → length (u ++ (digits m ++ (v ++ (digits n ++ w)))) ≤ 80
+text-short : (u v w : List ℕ) (m n : ℕ) → m < 2 ^ 64 → n < 2 ^ 64 → length u + (length v + length w) ≤ 40 → length (twoNumbers u m v n w []) ≤ 80
 text-short u v w m n hm hn h = simp length-append (omega (arith, short m hm, short n hn))
 
-pub two-numbers : {a b c d e z : Line} (u v w : List ℕ) (m n : ℕ) → m < 2 ^ 64 → n < 2 ^ 64 → length u + (length v + length w) ≤ 40 → a ≡ lineFrom [] → Adds a u b → Adds b (digits m) c → Adds c v d → Adds d (digits n) e → Adds e w z → z ≡ lineFrom (u ++ (digits m ++ (v ++ (digits n ++ w))))
-two-numbers u v w m n hm hn h o p q r s t =
-    adds-both p (adds-both q (adds-both r (adds-both s t))) .makes [] o (omega (arith, text-short u v w m n hm hn h))
+capped-small : (n : ℕ) → capped n < 2 ^ 64
+unfolding capped
+capped-small n = omega arith
+
+pub answer-short : (a : Answer) → a .number < 2 ^ 64 → a .place < 2 ^ 64 → a .list .count < 2 ^ 64 → length (answerText a) ≤ 80
+unfolding answerText textOf acceptedText refusalText
+answer-short a h k l = go (eqb (a .number) 0)
+  where
+    go : (b : Bool) → length (cond b (acceptedText (a .list .count) (capped (total (nodesOf (a .list))))) (refusalText (a .number) (a .place))) ≤ 80
+    go true = text-short (bytes "accepted ") (bytes " nodes ") (bytes " numbers\n") (a .list .count) (capped (total (nodesOf (a .list)))) l (capped-small (total (nodesOf (a .list)))) (lit≤ tt)
+    go false = text-short (bytes "refusal ") (bytes " at ") (bytes "\n") (a .number) (a .place) h k (lit≤ tt)

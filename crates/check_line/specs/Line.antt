@@ -1,8 +1,7 @@
 -- The check program's line (document 01, The written form): 'it prints `accepted 1 nodes 4 numbers`; fed nothing, `refusal 1 at 0`; each with LF'.
-use mathlib.Core.Path.{_≡_}
 use mathlib.Core.Bool.{cond}
-use mathlib.Core.List.{List, _++_}
-use Prim.Native.Nat.{ℕ, _+_, _-_, _≤_}
+use mathlib.Core.List.{List, [], _++_}
+use Prim.Native.Nat.{ℕ, _-_}
 use lib.Dec.{eqb, ltb}
 use lib.ListN.{length, replicate}
 use Rattle.process_list.specs.List.{nodesOf, total, capped}
@@ -17,11 +16,15 @@ use Rattle.check_line.specs.declared.Line.{Line}
 unfoldable pub lineFrom : List ℕ → Line
 lineFrom l = record { bytes = l ++ replicate (80 - length l) 0; length = length l }
 
+-- three words and two numbers between them, then t
+abbrev pub twoNumbers : List ℕ → ℕ → List ℕ → ℕ → List ℕ → List ℕ → List ℕ
+twoNumbers first m middle n last t = first ++ (digits m ++ (middle ++ (digits n ++ (last ++ t))))
+
 unfoldable pub acceptedText : ℕ → ℕ → List ℕ
-acceptedText nodes numbers = bytes "accepted " ++ (digits nodes ++ (bytes " nodes " ++ (digits numbers ++ bytes " numbers\n")))
+acceptedText nodes numbers = twoNumbers (bytes "accepted ") nodes (bytes " nodes ") numbers (bytes " numbers\n") []
 
 unfoldable pub refusalText : ℕ → ℕ → List ℕ
-refusalText number place = bytes "refusal " ++ (digits number ++ (bytes " at " ++ (digits place ++ bytes "\n")))
+refusalText number place = twoNumbers (bytes "refusal ") number (bytes " at ") place (bytes "\n") []
 
 -- '(more prints `too long`)'
 unfoldable pub tooLong : List ℕ
@@ -42,7 +45,3 @@ answerText a = textOf (a .number) (a .place) (a .list .count) (capped (total (no
 -- 'The check program has room for 4,096 numbers and reads at most 65,536 bytes of standard input'
 unfoldable pub checkText : List ℕ → List ℕ
 checkText s = cond (ltb 65536 (length s)) tooLong (readingText (read 4096 s))
-
--- r is the line x with the bytes t more, where there is room for them
-pub record Adds (x : Line) (t : List ℕ) (r : Line) : Type 0 where
-  pub makes : (l : List ℕ) → x ≡ lineFrom l → length l + length t ≤ 80 → r ≡ lineFrom (l ++ t)

@@ -1,11 +1,13 @@
 // The line that the check program prints (document 01, The written form): `accepted N nodes M numbers`, `refusal K at P`, or
 // `too long` for more than 65,536 bytes of input.
 ghost use mathlib.Core.Path.{_≡_};
-ghost use mathlib.Core.List.{[], _∷_};
-ghost use Rattle.decimal_write.specs.Written.{digits};
+ghost use mathlib.Core.List.{_++_};
+ghost use Rattle.text_out.specs.Output.{Puts};
 ghost use Rattle.clf.specs.Reading as Reading;
-ghost use Rattle.check_line.specs.Line.{lineFrom, acceptedText, refusalText, tooLong, answerText, readingText, checkText, Adds};
+ghost use Rattle.check_line.specs.Line.{lineFrom, twoNumbers, tooLong, answerText, readingText, checkText};
 use reading::Answer;
+use text_out::put;
+use text_out::put_digits;
 
 // A line's bytes, then zeros, and how many bytes it has.
 pub struct Line {
@@ -13,85 +15,57 @@ pub struct Line {
     pub length: usize,
 }
 
-fn empty() -> Line
-    ensures { λ r. ⌜ r ≡ lineFrom [] ⌝ }
+// Three words, and two numbers between them.
+fn put_two(out: &mut [u8], first: &[u8], m: usize, middle: &[u8], n: usize, last: &[u8]) -> usize
+    ensures { λ r. ⌜ Puts (twoNumbers (now (first .entry)) m (now (middle .entry)) n (now (last .entry))) 0 (now (out .entry)) (now (out .exit)) r ⌝ }
 {
-    Line {
-        bytes: [0; 80],
-        length: 0,
+    let a = put(out, 0, first);
+    let b = put_digits(out, a, m);
+    let c = put(out, b, middle);
+    let d = put_digits(out, c, n);
+    put(out, d, last)
+}
+
+fn put_answer(out: &mut [u8], answer: Answer) -> usize
+    ensures { λ r. ⌜ Puts (λ t. answerText answer ++ t) 0 (now (out .entry)) (now (out .exit)) r ⌝ }
+{
+    let number = answer.number;
+    if number == 0 {
+        let list = answer.list;
+        let numbers = process_list::used(list);
+        return put_two(
+            out,
+            b"accepted ",
+            list.count,
+            b" nodes ",
+            numbers,
+            b" numbers\n",
+        );
     }
-}
-
-// The line with a byte more, if there is room for it.
-fn push(line: Line, b: u8) -> Line
-    ensures { λ r. ⌜ Adds line (b ∷ []) r ⌝ }
-{
-    let n = line.length;
-    if n < 80 {
-        let mut bytes = line.bytes;
-        bytes[n] = b;
-        return Line {
-            bytes,
-            length: n + 1,
-        };
-    }
-    line
-}
-
-// The line with the bytes of a word more.
-fn push_word(line: Line, word: &[u8]) -> Line
-    ensures { λ r. ⌜ Adds line (now (word .entry)) r ⌝ }
-{
-    let mut next = line;
-    let mut i = 0;
-    while i < word.len() {
-        next = push(next, word[i]);
-        i += 1;
-    }
-    next
-}
-
-// The line with the digits of n more.
-fn push_digits(line: Line, n: u64) -> Line
-    ensures { λ r. ⌜ Adds line (digits n) r ⌝ }
-{
-    if n < 10 {
-        return push(line, 48 + (n as u8));
-    }
-    push(push_digits(line, n / 10), 48 + ((n % 10) as u8))
-}
-
-fn accepted(nodes: usize, numbers: usize) -> Line
-    ensures { λ r. ⌜ r ≡ lineFrom (acceptedText nodes numbers) ⌝ }
-{
-    let a = push_digits(push_word(empty(), b"accepted "), nodes as u64);
-    let b = push_digits(push_word(a, b" nodes "), numbers as u64);
-    push_word(b, b" numbers\n")
-}
-
-fn refused(number: u8, place: usize) -> Line
-    ensures { λ r. ⌜ r ≡ lineFrom (refusalText number place) ⌝ }
-{
-    let a = push_digits(push_word(empty(), b"refusal "), number as u64);
-    let b = push_digits(push_word(a, b" at "), place as u64);
-    push_word(b, b"\n")
+    put_two(
+        out,
+        b"refusal ",
+        number as usize,
+        b" at ",
+        answer.place,
+        b"\n",
+    )
 }
 
 fn too_long() -> Line
     ensures { λ r. ⌜ r ≡ lineFrom tooLong ⌝ }
 {
-    push_word(empty(), b"too long\n")
+    let mut bytes = [0u8; 80];
+    let length = put(&mut bytes, 0, b"too long\n");
+    Line { bytes, length }
 }
 
 fn answered(answer: Answer) -> Line
     ensures { λ r. ⌜ r ≡ lineFrom (answerText answer) ⌝ }
 {
-    let number = answer.number;
-    if number == 0 {
-        let list = answer.list;
-        return accepted(list.count, process_list::used(list));
-    }
-    refused(number, answer.place)
+    let mut bytes = [0u8; 80];
+    let length = put_answer(&mut bytes, answer);
+    Line { bytes, length }
 }
 
 // The line for a file that is read into room for 4,096 numbers.

@@ -2,32 +2,18 @@
 // refusal number 9, and then how many tokens there were and how many of them are numbers.
 use decimal::Token;
 use libc::STDOUT_FILENO;
-ghost use mathlib.Core.Path.{_≡_};
-ghost use mathlib.Core.Bool.{true, false};
 ghost use Prim.Native.Nat.{_≤_};
-ghost use lib.IntN.{pos};
-ghost use lib.Signed.{ltZ};
 
 struct Counts {
     tokens: u64,
     numbers: u64,
 }
 
-// The size of a negative number.
-fn below(z: i64) -> u64
-    requires { ⌜ ltZ z (pos 0) ≡ true ⌝ }
-{
-    let m = -1 - z;
-    m as u64 + 1
-}
-
 fn print_signed(z: i64) {
     if z < 0 {
         io::write_all(STDOUT_FILENO, b"-");
-        io::print_decimal(STDOUT_FILENO, below(z));
-    } else {
-        io::print_decimal(STDOUT_FILENO, z as u64);
     }
+    io::print_decimal(STDOUT_FILENO, decimal_write::size(z));
 }
 
 // Answers how many numbers a token is: 1 or 0.
@@ -36,10 +22,9 @@ fn print_token(t: Token) -> u64
 {
     match t {
         Token::Number(d) => {
-            let p = d.power;
             print_signed(d.coefficient);
             io::write_all(STDOUT_FILENO, b":");
-            print_signed(p as i64);
+            print_signed(decimal_write::wide(d.power));
             io::write_all(STDOUT_FILENO, b"\n");
             1
         }

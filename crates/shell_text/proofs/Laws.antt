@@ -8,17 +8,13 @@ use native.Mathlib.Numerals.{add-one}
 use native.Mathlib.Nat.{add-assoc}
 use borrow.Author.Tests.{eq-eqb, ne-eqb, lt-ltb, le-ltb, le-leb, lt-leb}
 use lib.Dec.{T, eqb, ltb, leb}
-use lib.IntN.{ℤ}
 use lib.ListN.{length, take, drop, getD, set, length-set, length-drop, take-append-drop}
 use lib.Seq.{getD-drop, drop-drop, drop-set-lt, take-suc-set, length-take-le}
 use lib.Ieee.{Float, nan, inf, fin, binary64, ofBits, toBits, nanBits, isNan, eq, ne, level, up, down, div, ofFields}
 use Rattle.scanning.specs.Steps.{here, part-length}
 use Rattle.fields.specs.declared.Parsed.{Parsed}
 use Rattle.fields.specs.declared.Parsed.the-variants as Parses
-use Rattle.text_out.specs.Output.{Goes, Puts}
-use Rattle.text_out.proofs.Laws.{puts-as, puts-then}
-use Rattle.decimal.specs.Decimal.{size}
-use Rattle.decimal_write.specs.Written.{digits, whole}
+use Rattle.text_out.specs.Output.{Goes}
 use Rattle.fields.specs.declared.Field.{Field}
 use Rattle.fields.specs.Fields.{fieldFrom, wordNumber}
 use Rattle.tags.specs.Code.{partIn}
@@ -29,10 +25,6 @@ use Rattle.shell_text.specs.declared.Word.the-variants.{Bits, Malformed}
 use Rattle.shell_text.specs.Hex.{digitOf, glyphOf, joinedOf, bytesOf, Decodes, wordAt, isNone, partOf, partLeft, DecodesPart, isLast, lastOf, lastLeft, DecodesLast}
 use Rattle.shell_text.specs.Lines.{isRun, lastNumber, lineEnd}
 use Rattle.shell_text.specs.Words.{withDigit, bitsFrom, bitsOf, topDigits, bitsText}
-
--- the text of a case that a match found
-pub puts-by : {A : Type 0} (f : A → List ℕ → List ℕ) {x y : A} {at r : ℕ} {s s' : List ℕ} → x ≡ y → Puts (f y) at s s' r → Puts (f x) at s s' r
-puts-by f e p = puts-as (λ t. ap (λ a. f a t) e) p
 
 -- ---- the words of X
 
@@ -118,14 +110,6 @@ pub top-none : (i rest : ℕ) → i ≤ 0 → (t : List ℕ) → topDigits i res
 unfolding topDigits
 top-none zero rest h t = refl
 top-none (suc i) rest h t = absurd (omega arith)
-
--- ---- a whole number
-pub puts-negative : {at a r : ℕ} {s s1 s2 : List ℕ} (z : ℤ) (k : ℕ) → whole z ≡ 45 ∷ digits (size z) → k ≡ size z
-    → Puts (λ t. (45 ∷ []) ++ t) at s s1 a → Puts (λ t. digits k ++ t) a s1 s2 r → Puts (λ t. whole z ++ t) at s s2 r
-puts-negative z k e q p1 p2 = puts-as (λ t. rw (e, ← q)) (puts-then p1 p2)
-
-pub puts-other : {at r : ℕ} {s s' : List ℕ} (z : ℤ) (k : ℕ) → whole z ≡ digits (size z) → k ≡ size z → Puts (λ t. digits k ++ t) at s s' r → Puts (λ t. whole z ++ t) at s s' r
-puts-other z k e q p = puts-as (λ t. rw (e, ← q)) p
 
 -- ---- the command X
 pub run-none : (l : List ℕ) → length l ≡ 0 → false ≡ isRun l

@@ -1,20 +1,19 @@
 -- Laws of text put piece by piece: one byte, and pieces one after the other. Assumes nothing.
 use mathlib.Core.Path.{_≡_, refl, sym, ap, _∙_}
-use mathlib.Core.List.{List, [], _∷_, _++_, append-assoc}
-use Prim.Native.Nat.{ℕ, suc, _+_, _-_, _^_, _≤_, _<_, _/_, _%_}
+use mathlib.Core.List.{List, [], _∷_, _++_, append-assoc, append-nil}
+use Prim.Native.Nat.{ℕ, zero, suc, _+_, _-_, _^_, _≤_, _<_, _/_, _%_}
 use native.Mathlib.Omega.{arith}
 use native.Mathlib.Numerals.{add-one}
-use native.Mathlib.Nat.{add-zero}
-use lib.ListN.{length, set, take, drop, getD, length-set, length-append, replicate}
-use lib.Seq.{drop-cons, drop-length, take-at}
-use Rattle.decimal.specs.declared.Decimal.{Decimal}
-use Rattle.decimal_write.specs.Written.{digits, writtenOf}
+use native.Mathlib.Nat.{add-zero, zero-add}
+use lib.ListN.{length, set, drop, getD, replicate, length-set, length-replicate}
+use lib.Seq.{drop-cons, drop-length}
+use lib.IntN.{ℤ}
+use Rattle.decimal.specs.Decimal.{size}
+use Rattle.decimal_write.specs.Written.{digits, whole}
 use Rattle.decimal_write.specs.Laws.{digits-one, digits-more}
-use Rattle.decimal_write.specs.declared.Text.{Text}
-use Rattle.decimal_write.specs.Layout.{textFrom, textOf}
 use Rattle.room.specs.Room.{laid}
 use Rattle.room.proofs.Laws.{stored-in, stored-out}
-use Rattle.room.proofs.Contents.{laid-none}
+use Rattle.room.proofs.Contents.{laid-none, laid-fits}
 use Rattle.text_out.specs.Output.{counted, Goes, Puts}
 
 -- an index that a usize holds is counted as it is
@@ -44,6 +43,10 @@ goes-end {r = r} {s = s} {s' = s'} p e = record {
   size = p .size;
 }
 
+-- a piece without bytes
+pub puts-none : {f : List ℕ → List ℕ} {at : ℕ} {s : List ℕ} → ((t : List ℕ) → f t ≡ t) → Puts f at s s at
+puts-none {f = f} {at = at} {s = s} e = goes-end (goes-start f at s) e
+
 -- the same piece, said in another way
 pub puts-as : {f g : List ℕ → List ℕ} {at r : ℕ} {s s' : List ℕ} → ((t : List ℕ) → g t ≡ f t) → Puts f at s s' r → Puts g at s s' r
 puts-as {at = at} {s = s} e p = record {
@@ -51,6 +54,10 @@ puts-as {at = at} {s = s} e p = record {
   next = λ t. ap (λ (x : List ℕ). counted (at + length x)) (e t) ∙ p .next t;
   size = p .size;
 }
+
+-- the text of a case that a match found
+pub puts-by : {A : Type 0} (f : A → List ℕ → List ℕ) {x y : A} {at r : ℕ} {s s' : List ℕ} → x ≡ y → Puts (f y) at s s' r → Puts (f x) at s s' r
+puts-by f e p = puts-as (λ t. ap (λ a. f a t) e) p
 
 pub puts-then : {f g : List ℕ → List ℕ} {at a r : ℕ} {s s1 s2 : List ℕ} → Puts f at s s1 a → Puts g a s1 s2 r → Puts (λ t. f (g t)) at s s2 r
 puts-then {g = g} p q = record {
@@ -65,6 +72,21 @@ puts-is {r = r} {s = s} {s' = s'} p h = (
   sym (p .bytes [] ∙ laid-none (length s) r s'),
   sym (p .next [] ∙ ap counted (add-zero r) ∙ counted-in r h),
 )
+
+drop-zeros : (n k : ℕ) → drop {A = ℕ} k (replicate n 0) ≡ replicate (n - k) 0
+drop-zeros n zero = let e : n - zero ≡ n = omega arith in rw e
+drop-zeros zero (suc k) = let e : zero - suc k ≡ zero = omega arith in rw e
+drop-zeros (suc n) (suc k) = let e : suc n - suc k ≡ n - k = omega arith in rw e (drop-zeros n k)
+
+-- a text that has been put into n zeros, and fits: it stands in front of zeros
+pub puts-zeros : {s : List ℕ} {r : ℕ} (n : ℕ) (x : List ℕ) → length x ≤ n → n < 2 ^ 64 → r < 2 ^ 64 → Puts (λ t. x ++ t) 0 (replicate n 0) s r
+    → (s ≡ x ++ replicate (n - length x) 0) × (r ≡ length x)
+puts-zeros n x h m k p =
+    let w = puts-is p k in
+    let z : length {A = ℕ} (replicate n 0) ≡ n = length-replicate n 0 in (
+      w .0 ∙ (rw (append-nil, z) (laid-fits n 0 x (replicate n 0) (omega arith) (omega arith) ∙ (rw (zero-add, drop-zeros)))),
+      w .1 ∙ (rw (append-nil, zero-add) (counted-in (length x) (omega arith))),
+    )
 
 -- ---- one byte
 
@@ -109,15 +131,10 @@ puts-digit n h p = puts-as (λ t. rw (digits-one n h)) p
 pub puts-last : {at a r : ℕ} {s s1 s2 : List ℕ} (n : ℕ) → 10 ≤ n → Puts (λ t. digits (n / 10) ++ t) at s s1 a → Puts (λ t. (48 + n % 10) ∷ t) a s1 s2 r → Puts (λ t. digits n ++ t) at s s2 r
 puts-last n h p q = puts-as (λ t. rw (digits-more n h, append-assoc)) (puts-then p q)
 
--- ---- a number's text
-pub text-part : (d : Decimal) (x : Text) → x ≡ textOf d → take (x .length) (x .bytes) ≡ writtenOf d
-unfolding textOf textFrom
-text-part d x e = rw e (take-at (writtenOf d) (replicate (20 - length (writtenOf d)) 0) (length (writtenOf d)) refl)
+-- ---- a whole number, by its sign
+pub puts-negative : {at a r : ℕ} {s s1 s2 : List ℕ} (z : ℤ) (k : ℕ) → whole z ≡ 45 ∷ digits (size z) → k ≡ size z
+    → Puts (λ t. 45 ∷ t) at s s1 a → Puts (λ t. digits k ++ t) a s1 s2 r → Puts (λ t. whole z ++ t) at s s2 r
+puts-negative z k e q p1 p2 = puts-as (λ t. rw (e, ← q)) (puts-then p1 p2)
 
-pub text-within : (d : Decimal) (x : Text) → x ≡ textOf d → x .length ≤ length (x .bytes)
-unfolding textOf textFrom
-text-within d x e = rw e (omega (arith, length-append (writtenOf d) (replicate (20 - length (writtenOf d)) 0)))
-
-pub text-counted : (d : Decimal) (x : Text) → x ≡ textOf d → x .length ≡ length (take (x .length) (x .bytes))
-unfolding textOf textFrom
-text-counted d x e = ap (λ (y : Text). y .length) e ∙ sym (ap length (text-part d x e))
+pub puts-other : {at r : ℕ} {s s' : List ℕ} (z : ℤ) (k : ℕ) → whole z ≡ digits (size z) → k ≡ size z → Puts (λ t. digits k ++ t) at s s' r → Puts (λ t. whole z ++ t) at s s' r
+puts-other z k e q p = puts-as (λ t. rw (e, ← q)) p

@@ -3,7 +3,7 @@
 ghost use mathlib.Core.Path.{_≡_};
 ghost use mathlib.Core.List.{_∷_, _++_};
 ghost use Prim.Native.Nat.{_+_};
-ghost use Rattle.decimal_write.specs.Written.{digits, writtenOf};
+ghost use Rattle.decimal_write.specs.Written.{digits, whole, exponent, writtenOf};
 ghost use Rattle.text_out.specs.Output.{counted, Puts};
 use decimal::Decimal;
 
@@ -51,12 +51,35 @@ pub fn put_digits(out: &mut [u8], at: usize, n: usize) -> usize
     put_byte(out, held, 48 + ((n % 10) as u8))
 }
 
-// A number: its coefficient, then `e` and the power unless 0.
+// A whole number: a minus sign if it is below 0, then the digits of its size.
+pub fn put_whole(out: &mut [u8], at: usize, z: i64) -> usize
+    ensures { λ r. ⌜ Puts (λ t. whole z ++ t) at (now (out .entry)) (now (out .exit)) r ⌝ }
+{
+    if z < 0 {
+        let held = put_byte(out, at, b'-');
+        return put_digits(out, held, decimal_write::size(z) as usize);
+    }
+    put_digits(out, at, decimal_write::size(z) as usize)
+}
+
+// `e` and the power, unless the power is 0.
+fn put_exponent(out: &mut [u8], at: usize, p: i64) -> usize
+    ensures { λ r. ⌜ Puts (λ t. exponent p ++ t) at (now (out .entry)) (now (out .exit)) r ⌝ }
+{
+    if p == 0 {
+        return at;
+    }
+    let held = put_byte(out, at, b'e');
+    put_whole(out, held, p)
+}
+
+// A number: its coefficient, then `e` and the power unless 0. A pair out of range has no text.
 pub fn put_number(out: &mut [u8], at: usize, number: Decimal) -> usize
     ensures { λ r. ⌜ Puts (λ t. writtenOf number ++ t) at (now (out .entry)) (now (out .exit)) r ⌝ }
 {
-    let text = decimal_write::written(number);
-    let bytes = text.bytes;
-    let length = text.length;
-    put(out, at, &bytes[..length])
+    if decimal_write::in_range(number) {
+        let held = put_whole(out, at, number.coefficient);
+        return put_exponent(out, held, decimal_write::wide(number.power));
+    }
+    at
 }

@@ -1,40 +1,15 @@
-// Names, depths and styles: the start and end tags of nodes.
+// Styles, and the start and end tags of nodes.
 ghost use mathlib.Core.List.{_++_};
 ghost use Rattle.text_out.specs.Output.{Puts};
 ghost use Rattle.written_form.specs.Written as Text;
 ghost use Rattle.written_form.proofs.Tail as Tail;
+use node_names::put_depth;
+use node_names::put_name;
 use process_list::CdlStyle;
 use process_list::Depth;
 use process_list::Kind;
 use process_list::RangeStyle;
 use text_out::put;
-
-fn put_depth(out: &mut [u8], at: usize, depth: Depth) -> usize
-    ensures { λ r. ⌜ Puts (λ t. Text.depthText depth ++ t) at (now (out .entry)) (now (out .exit)) r ⌝ }
-{
-    match depth {
-        Depth::I8 => put(out, at, b"8i"),
-        Depth::I10 => put(out, at, b"10i"),
-        Depth::I12 => put(out, at, b"12i"),
-        Depth::I16 => put(out, at, b"16i"),
-        Depth::F16 => put(out, at, b"16f"),
-        Depth::F32 => put(out, at, b"32f"),
-    }
-}
-
-fn put_name(out: &mut [u8], at: usize, kind: Kind) -> usize
-    ensures { λ r. ⌜ Puts (λ t. Text.nameText kind ++ t) at (now (out .entry)) (now (out .exit)) r ⌝ }
-{
-    match kind {
-        Kind::Matrix { wide: _ } => put(out, at, b"Matrix"),
-        Kind::Lut1d {
-            entries: _,
-            columns: _,
-        } => put(out, at, b"LUT1D"),
-        Kind::Range { style: _ } => put(out, at, b"Range"),
-        Kind::Cdl { style: _ } => put(out, at, b"ASC_CDL"),
-    }
-}
 
 fn put_range_style(out: &mut [u8], at: usize, style: RangeStyle) -> usize
     ensures { λ r. ⌜ Puts (λ t. Text.rangeStyleText style ++ t) at (now (out .entry)) (now (out .exit)) r ⌝ }

@@ -1,15 +1,11 @@
--- By the number. Assumes nothing.
-use Rattle.check_line.proofs.Answers.{accepted-answer, refused-answer}
+-- The answer's text, which is short. Assumes nothing.
+use Rattle.check_line.proofs.Laws.{line-put, answer-short}
 use borrow.Author.Needs.{needs}
 use Rattle.check_line.proofs.answered.Statement.{statement}
 use Rattle.check_line.proofs.answered.Tie as tie
 
 returns : tie.Need-returns
-returns c = accepted-answer _ _ _ (c .before .before .before .if1 .taken) (c .before .used .ensures) (c .accepted .ensures)
-
-returns-2 : tie.Need-returns-2
-returns-2 c = refused-answer _ _ (c .before .if1 .left) (c .refused .ensures)
+returns c = line-put _ (answer-short (c .before .before .before .args .answer) (search needs) (search needs) (search needs)) (search needs) (c .before .put-answer .ensures)
 
 pub answered-spec : {M : Type 1} → statement M
-answered-spec =
-    tie.close (tie.spec (λ c κs. search needs) (λ c κs. search needs) returns (λ c κs. search needs) returns-2)
+answered-spec = tie.close (tie.spec (λ c. search needs) (λ c κs. search needs) returns)

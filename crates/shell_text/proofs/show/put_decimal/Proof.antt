@@ -1,14 +1,13 @@
--- `put_decimal` meets its contract. Assumes nothing.
-use mir.ValLaws.{toZ-ofZ}
-use mir.Val.{SFits}
-use mir.Syntax.{w8, w64}
-use mathlib.Core.Path.{_∙_}
-use Rattle.shell_text.proofs.Laws.{puts-by}
-use Rattle.shell_text.specs.Show.{decimalText}
-use Rattle.decimal_write.specs.Written.{whole}
-use Rattle.text_out.proofs.Laws.{puts-then}
-use mathlib.Core.List.{_++_}
+-- Two whole numbers, and `:` between them. Assumes nothing.
 use mathlib.Core.Path.{sym}
+use mathlib.Core.List.{_++_}
+use mir.Syntax.{w8, w64}
+use mir.Val.{SFits}
+use mir.ValLaws.{toZ-ofZ}
+use Rattle.decimal_write.specs.Written.{whole}
+use Rattle.decimal_write.proofs.Machine.{wide-kept}
+use Rattle.text_out.proofs.Laws.{puts-by, puts-then}
+use Rattle.shell_text.specs.Show.{decimalText}
 use borrow.Author.Needs.{needs}
 use Rattle.shell_text.proofs.show.put_decimal.Statement.{statement}
 use Rattle.shell_text.proofs.show.put_decimal.Tie as tie
@@ -16,12 +15,13 @@ use Rattle.shell_text.proofs.show.put_decimal.Tie as tie
 returns : tie.Need-returns
 unfolding decimalText
 returns c =
-    let z = c .before .before .before .before .before .before .before .before .before .before .before .before .before .before .before .args .coefficient in
-    let f : SFits w64 z = search needs in
-    let h : SFits w8 (c .before .before .before .before .before .before .before .before .before .before .before .before .before .before .before .args .power) = search needs in
-    let g : SFits w64 (c .before .before .before .wide .result) = search needs in
-    let p8 = toZ-ofZ w64 (c .before .before .before .wide .result) g ∙ c .before .before .before .wide .ensures ∙ toZ-ofZ w8 (c .before .before .before .before .before .before .before .before .before .before .before .before .before .before .before .args .power) h in
-    puts-then (puts-by (λ z t. whole z ++ t) (sym (toZ-ofZ w64 z f)) (c .before .before .before .before .before .before .before .before .before .before .before .before .put-whole .ensures)) (puts-then (c .before .before .before .before .before .before .before .put .ensures) (puts-by (λ z t. whole z ++ t) (sym p8) (c .before .before .put-whole2 .ensures)))
+    let w = c .before .before .before .before .before .before .before .before .before .before .before .before in
+    let s = w .before .before .before in
+    let f : SFits w64 (s .args .coefficient) = search needs in
+    let g : SFits w8 (s .args .power) = search needs in
+    let p = puts-by (λ z t. whole z ++ t) (sym (toZ-ofZ w64 (s .args .coefficient) f)) (w .put-whole .ensures) in
+    let q = puts-by (λ z t. whole z ++ t) (sym (wide-kept (s .args .power) g (c .before .before .before .wide .ensures))) (c .before .before .put-whole2 .ensures) in
+    puts-then p (puts-then (c .before .before .before .before .before .before .before .put .ensures) q)
 
 pub put-decimal-spec : {M : Type 1} → statement M
 put-decimal-spec =

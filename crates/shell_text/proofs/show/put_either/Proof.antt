@@ -1,5 +1,5 @@
 -- `put_either` meets its contract. Assumes nothing.
-use Rattle.shell_text.proofs.Laws.{puts-by}
+use Rattle.text_out.proofs.Laws.{puts-by}
 use Rattle.shell_text.specs.Show.{oneOf}
 use mathlib.Core.List.{_++_}
 use denote.Ref.{now}

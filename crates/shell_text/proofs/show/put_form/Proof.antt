@@ -1,5 +1,5 @@
 -- `put_form` meets its contract. Assumes nothing.
-use Rattle.shell_text.proofs.Laws.{puts-by}
+use Rattle.text_out.proofs.Laws.{puts-by}
 use Rattle.shell_text.specs.Show.{formText}
 use borrow.Author.Needs.{needs}
 use Rattle.shell_text.proofs.show.put_form.Statement.{statement}

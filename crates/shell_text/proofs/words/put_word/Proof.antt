@@ -1,7 +1,7 @@
 -- `put_word` meets its contract. Assumes nothing.
-use Rattle.shell_text.proofs.Laws.{puts-by, by-itself, not-itself}
+use Rattle.shell_text.proofs.Laws.{by-itself, not-itself}
 use Rattle.shell_text.specs.Words.{bitsText, wordText}
-use Rattle.text_out.proofs.Laws.{puts-then}
+use Rattle.text_out.proofs.Laws.{puts-by, puts-then}
 use mathlib.Core.List.{_++_}
 use mathlib.Core.Path.{sym}
 use borrow.Author.Needs.{needs}

@@ -1,15 +1,16 @@
 -- The style of a Range. Assumes nothing.
-use Rattle.writing.proofs.Laws.{puts-by}
+use mathlib.Core.List.{_++_}
+use Rattle.text_out.proofs.Laws.{puts-by}
 use Rattle.written_form.specs.Written.{rangeStyleText}
 use borrow.Author.Needs.{needs}
 use Rattle.writing.proofs.names.put_range_style.Statement.{statement}
 use Rattle.writing.proofs.names.put_range_style.Tie as tie
 
 returns : tie.Need-returns
-returns c = puts-by rangeStyleText (c .before .before .before .before .before .enum-told .given .1) (c .before .before .put .ensures)
+returns c = puts-by (λ k t. rangeStyleText k ++ t) (c .before .before .before .before .before .enum-told .given .1) (c .before .before .put .ensures)
 
 returns-2 : tie.Need-returns-2
-returns-2 c = puts-by rangeStyleText (c .before .before .before .before .before .enum-told2 .given .1) (c .before .before .put2 .ensures)
+returns-2 c = puts-by (λ k t. rangeStyleText k ++ t) (c .before .before .before .before .before .enum-told2 .given .1) (c .before .before .put2 .ensures)
 
 pub put-range-style-spec : {M : Type 1} → statement M
 put-range-style-spec =

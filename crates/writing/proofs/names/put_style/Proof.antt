@@ -1,22 +1,22 @@
 -- The style of each kind that has one. Assumes nothing.
-use Rattle.writing.proofs.Laws.{puts-by}
-use Rattle.text_out.proofs.Laws.{goes-start}
+use mathlib.Core.List.{_++_}
+use Rattle.text_out.proofs.Laws.{puts-by, goes-start}
 use Rattle.written_form.specs.Written.{styleText}
 use borrow.Author.Needs.{needs}
 use Rattle.writing.proofs.names.put_style.Statement.{statement}
 use Rattle.writing.proofs.names.put_style.Tie as tie
 
 returns : tie.Need-returns
-returns c = puts-by styleText (c .enum-told .given .1) (goes-start _ _ _)
+returns c = puts-by (λ k t. styleText k ++ t) (c .enum-told .given .1) (goes-start _ _ _)
 
 returns-2 : tie.Need-returns-2
-returns-2 c = puts-by styleText (c .enum-told2 .given .1) (goes-start _ _ _)
+returns-2 c = puts-by (λ k t. styleText k ++ t) (c .enum-told2 .given .1) (goes-start _ _ _)
 
 returns-3 : tie.Need-returns-3
-returns-3 c = puts-by styleText (c .before .before .before .before .before .kind .given .1) (c .before .before .put-range-style .ensures)
+returns-3 c = puts-by (λ k t. styleText k ++ t) (c .before .before .before .before .before .kind .given .1) (c .before .before .put-range-style .ensures)
 
 returns-4 : tie.Need-returns-4
-returns-4 c = puts-by styleText (c .before .before .before .before .before .kind2 .given .1) (c .before .before .put-cdl-style .ensures)
+returns-4 c = puts-by (λ k t. styleText k ++ t) (c .before .before .before .before .before .kind2 .given .1) (c .before .before .put-cdl-style .ensures)
 
 pub put-style-spec : {M : Type 1} → statement M
 put-style-spec =

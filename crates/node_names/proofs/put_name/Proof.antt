@@ -1,21 +1,22 @@
 -- The name of each kind. Assumes nothing.
-use Rattle.writing.proofs.Laws.{puts-by}
+use mathlib.Core.List.{_++_}
+use Rattle.text_out.proofs.Laws.{puts-by}
 use Rattle.written_form.specs.Written.{nameText}
 use borrow.Author.Needs.{needs}
-use Rattle.writing.proofs.names.put_name.Statement.{statement}
-use Rattle.writing.proofs.names.put_name.Tie as tie
+use Rattle.node_names.proofs.put_name.Statement.{statement}
+use Rattle.node_names.proofs.put_name.Tie as tie
 
 returns : tie.Need-returns
-returns c = puts-by nameText (c .before .before .before .before .before .enum-told .given .1) (c .before .before .put .ensures)
+returns c = puts-by (λ k t. nameText k ++ t) (c .before .before .before .before .before .enum-told .given .1) (c .before .before .put .ensures)
 
 returns-2 : tie.Need-returns-2
-returns-2 c = puts-by nameText (c .before .before .before .before .before .enum-told2 .given .1) (c .before .before .put2 .ensures)
+returns-2 c = puts-by (λ k t. nameText k ++ t) (c .before .before .before .before .before .enum-told2 .given .1) (c .before .before .put2 .ensures)
 
 returns-3 : tie.Need-returns-3
-returns-3 c = puts-by nameText (c .before .before .before .before .before .enum-told3 .given .1) (c .before .before .put3 .ensures)
+returns-3 c = puts-by (λ k t. nameText k ++ t) (c .before .before .before .before .before .enum-told3 .given .1) (c .before .before .put3 .ensures)
 
 returns-4 : tie.Need-returns-4
-returns-4 c = puts-by nameText (c .before .before .before .before .before .enum-told4 .given .1) (c .before .before .put4 .ensures)
+returns-4 c = puts-by (λ k t. nameText k ++ t) (c .before .before .before .before .before .enum-told4 .given .1) (c .before .before .put4 .ensures)
 
 pub put-name-spec : {M : Type 1} → statement M
 put-name-spec =
