@@ -1,6 +1,6 @@
 -- The line for what reading answers. Assumes nothing.
 use mathlib.Core.Path.{_≡_, ap, _∙_}
-use mathlib.Core.List.{List, [], _++_, append-assoc}
+use mathlib.Core.List.{List, _++_, append-assoc}
 use Prim.Native.Nat.{ℕ, _≤_, _<_}
 use borrow.Author.Tests.{eq-eqb, ne-eqb, lt-ltb, le-ltb}
 use lib.ListN.{length}
@@ -10,6 +10,7 @@ use Rattle.reading.specs.declared.Answer.{Answer}
 use Rattle.reading.specs.Code.{readingAnswer}
 use Rattle.reading.specs.Counts.{nodeCount, numberCount}
 use Rattle.reading.proofs.Counts.{answer-count, answer-numbers}
+use Rattle.decimal_write.specs.Written.{digits}
 use Rattle.xml.specs.Bytes.{bytes}
 use Rattle.text_out.specs.Output.{Puts}
 use Rattle.text_out.proofs.Laws.{puts-as}
@@ -30,7 +31,7 @@ module _ (room : ℕ) (s : List ℕ) (a : Answer) (e : a ≡ readingAnswer (read
   answer-text = cc (number-is, place-is, answer-count room s a e, answer-numbers room s a e)
 
 -- ---- the branches of the code
-two-front : (u v w : List ℕ) (m n : ℕ) (t : List ℕ) → twoNumbers u m v n w [] ++ t ≡ twoNumbers u m v n w t
+two-front : (u v w : List ℕ) (m n : ℕ) (t : List ℕ) → (u ++ (digits m ++ (v ++ (digits n ++ w)))) ++ t ≡ twoNumbers u m v n w t
 two-front u v w m n t = simp append-assoc
 
 module _ {r : ℕ} {s s' : List ℕ} (a : Answer) where

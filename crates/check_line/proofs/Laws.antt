@@ -1,7 +1,7 @@
 -- The line of a text, and how long a text can be. Assumes nothing.
 use mathlib.Core.Path.{_≡_}
 use mathlib.Core.Bool.{Bool, true, false, cond}
-use mathlib.Core.List.{List, [], _++_}
+use mathlib.Core.List.{List, _++_}
 use Prim.Native.Nat.{ℕ, _+_, _≤_, _<_, _^_}
 use native.Mathlib.Omega.{arith}
 use lib.Dec.{eqb, lit≤}
@@ -14,7 +14,7 @@ use Rattle.text_out.specs.Output.{Puts}
 use Rattle.text_out.proofs.Laws.{puts-zeros}
 use Rattle.xml.specs.Bytes.{bytes}
 use Rattle.check_line.specs.declared.Line.{Line}
-use Rattle.check_line.specs.Line.{lineFrom, twoNumbers, acceptedText, refusalText, textOf, answerText}
+use Rattle.check_line.specs.Line.{lineFrom, acceptedText, refusalText, textOf, answerText}
 
 -- the line of a text that has been put into 80 zeros
 pub line-put : {s : List ℕ} {r : ℕ} (x : List ℕ) → length x ≤ 80 → r < 2 ^ 64 → Puts (λ t. x ++ t) 0 (replicate 80 0) s r → record { bytes = s; length = r } ≡ lineFrom x
@@ -25,7 +25,7 @@ line-put x h k p = let z = puts-zeros 80 x h (lit≤ tt) k p in rw (z .0, z .1)
 short : (n : ℕ) → n < 2 ^ 64 → length (digits n) ≤ 20
 short n h = digits-short n 19 (omega (arith, lit≤ {m = 2 ^ 64} {n = 10 ^ 20} tt))
 
-text-short : (u v w : List ℕ) (m n : ℕ) → m < 2 ^ 64 → n < 2 ^ 64 → length u + (length v + length w) ≤ 40 → length (twoNumbers u m v n w []) ≤ 80
+text-short : (u v w : List ℕ) (m n : ℕ) → m < 2 ^ 64 → n < 2 ^ 64 → length u + (length v + length w) ≤ 40 → length (u ++ (digits m ++ (v ++ (digits n ++ w)))) ≤ 80
 text-short u v w m n hm hn h = simp length-append (omega (arith, short m hm, short n hn))
 
 capped-small : (n : ℕ) → capped n < 2 ^ 64

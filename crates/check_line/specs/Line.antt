@@ -1,6 +1,6 @@
 -- The check program's line (document 01, The written form): 'it prints `accepted 1 nodes 4 numbers`; fed nothing, `refusal 1 at 0`; each with LF'.
 use mathlib.Core.Bool.{cond}
-use mathlib.Core.List.{List, [], _++_}
+use mathlib.Core.List.{List, _++_}
 use Prim.Native.Nat.{ℕ, _-_}
 use lib.Dec.{eqb, ltb}
 use lib.ListN.{length, replicate}
@@ -16,15 +16,11 @@ use Rattle.check_line.specs.declared.Line.{Line}
 unfoldable pub lineFrom : List ℕ → Line
 lineFrom l = record { bytes = l ++ replicate (80 - length l) 0; length = length l }
 
--- three words and two numbers between them, then t
-abbrev pub twoNumbers : List ℕ → ℕ → List ℕ → ℕ → List ℕ → List ℕ → List ℕ
-twoNumbers first m middle n last t = first ++ (digits m ++ (middle ++ (digits n ++ (last ++ t))))
-
 unfoldable pub acceptedText : ℕ → ℕ → List ℕ
-acceptedText nodes numbers = twoNumbers (bytes "accepted ") nodes (bytes " nodes ") numbers (bytes " numbers\n") []
+acceptedText nodes numbers = bytes "accepted " ++ (digits nodes ++ (bytes " nodes " ++ (digits numbers ++ bytes " numbers\n")))
 
 unfoldable pub refusalText : ℕ → ℕ → List ℕ
-refusalText number place = twoNumbers (bytes "refusal ") number (bytes " at ") place (bytes "\n") []
+refusalText number place = bytes "refusal " ++ (digits number ++ (bytes " at " ++ (digits place ++ bytes "\n")))
 
 -- '(more prints `too long`)'
 unfoldable pub tooLong : List ℕ
@@ -45,3 +41,7 @@ answerText a = textOf (a .number) (a .place) (a .list .count) (capped (total (no
 -- 'The check program has room for 4,096 numbers and reads at most 65,536 bytes of standard input'
 unfoldable pub checkText : List ℕ → List ℕ
 checkText s = cond (ltb 65536 (length s)) tooLong (readingText (read 4096 s))
+
+-- three words, two numbers between them, then t
+abbrev pub twoNumbers : List ℕ → ℕ → List ℕ → ℕ → List ℕ → List ℕ → List ℕ
+twoNumbers first m middle n last t = first ++ (digits m ++ (middle ++ (digits n ++ (last ++ t))))

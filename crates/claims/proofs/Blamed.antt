@@ -1,14 +1,16 @@
 -- Which numbers the faults of a text have: XML, and elements. Assumes nothing.
-use mathlib.Core.Path.{_≡_, refl}
+use mathlib.Core.Path.{_≡_, refl, sym, subst}
 use mathlib.Core.Bool.{Bool, true, false, cond, not}
 use mathlib.Core.List.{List, [], _∷_, _++_}
 use Prim.Native.Nat.{ℕ, zero, suc}
+use Prim.Native.Char.{code}
 use lib.Dec.{eqb, leb}
 use lib.ListN.{length}
 use Rattle.grammar.specs.Parse.{again, last}
 use Rattle.grammar.specs.Grammar.{G}
 use Rattle.xml.specs.Bytes.{bytes, same, isSpace, isLetter, isNameByte, isQuote, lessThan, greaterThan, slash, exclamation, question, ampersand, equals, dash}
-use Rattle.xml.specs.Xml.{spaces, name, entity, commentPart, comment, text, Attribute, isNamed, Rules, plain, nameFault, attribute, TagState, Tag, tagByte, startTag, openName, closeName, endTag, strayEnd}
+use Rattle.xml.specs.AmongLaws.{among-fault}
+use Rattle.xml.specs.Xml.{spaces, name, oneOf, entityNames, entity-names, entity, commentPart, comment, text, Attribute, isNamed, Rules, plain, nameFault, attribute, TagState, Tag, tagByte, startTag, openName, closeName, endTag, strayEnd}
 use Rattle.xml.specs.Elements.{misc, child, close, markup, between, Holder, afterPart, held, forbidden, onlyEnd, textContent, textElement, infoByte, infoRest, infoElement, info}
 use Rattle.claims.specs.Refusals.{isTextFault}
 use Rattle.claims.proofs.Faults.{Blames, Fair, fair-zero, fair-by, fair-cond, blames-ret, blames-bad, blames-cond, blames-look, blames-lookTwo, blames-judge, blames-settle, blames-blame, blames-kept, blames-eat, blames-span, blames-byte, blames-word, blames-seq, blames-loop}
@@ -41,13 +43,13 @@ pub spaces-well : Well spaces
 unfolding spaces
 spaces-well = blames-span isSpace
 
+entity-name-well : Well (oneOf [] 3 entityNames entity-names)
+entity-name-well = record { number = λ s k r e. subst Textual (sym (among-fault [] 3 entityNames s k r e)) refl }
+
 pub entity-well : Well entity
 unfolding entity
 entity-well =
-    blames-blame (blames-seq blames-eat (λ a. blames-look (λ b.
-    blames-cond (eqb b 97) (blames-seq blames-eat (λ a. blames-look (λ c. blames-cond (eqb c 109) (blames-word (bytes "mp;") 3 three) (blames-word (bytes "pos;") 3 three))))
-    (blames-cond (eqb b 108) (blames-word (bytes "lt;") 3 three)
-    (blames-cond (eqb b 103) (blames-word (bytes "gt;") 3 three) (blames-word (bytes "quot;") 3 three))))))
+    blames-blame (blames-seq (blames-seq (blames-seq blames-eat (λ a. entity-name-well)) (λ u. blames-byte (code ";") 3 three)) (λ b. blames-ret tt))
 
 part-well : Well commentPart
 unfolding commentPart

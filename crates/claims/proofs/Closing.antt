@@ -15,7 +15,25 @@ use Rattle.grammar.specs.Splice.{done-law, bind-inv, strict-inv}
 use Rattle.xml.specs.Bytes.{bytes, same, isSpace, lessThan, greaterThan, slash, exclamation, question, ampersand}
 use Rattle.xml.specs.Xml.{byte, word, spaces, entity, comment, Rules, TagState, Tag, attribute, tagByte, startTag, openName, closeName, endTag}
 use Rattle.xml.specs.Elements.{Part, misc, child, close, markup, between, Holder, afterPart, held}
-use Rattle.claims.proofs.Element.{byte-done, word-done}
+
+-- ---- words
+
+byte-done : (c k : ℕ) → 0 < k → (s : List ℕ) (b : ℕ) (r : List ℕ) → (byte c k) .run s ≡ done b r → s ≡ c ∷ r
+byte-done c k h [] b r e = nope cc
+byte-done c k h (x ∷ s) b r e = go (eqb x c) k h refl e
+  where
+    go : (v : Bool) (k : ℕ) → 0 < k → eqb x c ≡ v → verdict (cond v 0 k) x s (x ∷ s) ≡ done b r → x ∷ s ≡ c ∷ r
+    go true k h q z = let y : x ≡ c = eqb-true x c q in cc
+    go false zero h q z = absurd (omega arith)
+    go false (suc k) h q z = nope cc
+
+word-done : (w : List ℕ) (k : ℕ) → 0 < k → (s : List ℕ) (u : Unit {0}) (r : List ℕ) → (word w k) .run s ≡ done u r → s ≡ w ++ r
+word-done [] k h s u r e = cc
+word-done (c ∷ w) k h s u r e =
+    let i = bind-inv ((byte c k) .run) (λ b. (word w k) .run) s u r e in
+    byte-done c k h s (i .0) (i .1) (i .2) ∙ ap (λ (l : List ℕ). c ∷ l) (word-done w k h (i .1) u r (i .3))
+
+-- ---- ends
 
 -- what stands before r ends with `>`
 pub record Ended (s r : List ℕ) : Type 0 where

@@ -25,7 +25,7 @@ use Rattle.look.specs.Replacing.{start, element}
 use Rattle.claims.proofs.Faults.{fair-zero, fair-by, fair-cond, blames-ret, blames-bad, blames-cond, blames-strict, blames-blame, blames-kept, blames-word, blames-seq, blames-loop}
 use Rattle.claims.proofs.Blamed.{Textual, Well, Right, three, five, RightRules, startTag-well, endTag-well, strayEnd-well, between-well, textElement-well, info-well}
 use Rattle.claims.proofs.BlamedNodes.{eight, name-right, node-well}
-use Rattle.claims.proofs.Element.{start-blames}
+use Rattle.claims.proofs.Element.{start-faults}
 use Rattle.claims.specs.Theorems.{AnswersNumbered}
 
 -- ---- the document
@@ -147,7 +147,7 @@ element-faults e k r q = go (start .run e) refl q
 
     go : (o : Out NodeName) → start .run e ≡ o → thenOut (judgeOut nodeFault o e) (λ m. (nodeBody m) .run) ≡ fault k r → (isTextFault k ≡ true) ⊎ (k ≡ 20)
     go (done n u) f z = by n u (nodeFault n) refl z
-    go (fault j u) f z = inr (let y : j ≡ k = cc in sym y ∙ start-blames .number e j u f)
+    go (fault j u) f z = inr (let y : j ≡ k = cc in sym y ∙ start-faults e j u f)
     go cut f z = nope cc
 
 -- ---- the number is 0 for an accepted file alone

@@ -2,7 +2,7 @@
 use Rattle.process_list.specs.List.{Element}
 use mathlib.Core.Path.{_≡_, refl, sym, ap, _∙_, subst}
 use mathlib.Core.Bool.{Bool, true, false, cond}
-use mathlib.Core.List.{List, _∷_, _++_}
+use mathlib.Core.List.{List, [], _∷_, _++_}
 use Prim.Native.Nat.{ℕ, zero, suc, _<_}
 use native.Mathlib.Omega.{arith}
 use lib.ListN.{length, length-append}
@@ -10,12 +10,13 @@ use borrow.Author.Tests.{lt-ltb}
 use Rattle.grammar.specs.Parse.{Out, done, fault, cut, Parser, thenOut, retP, strictOut, verdict, judgeOut}
 use Rattle.grammar.specs.Splice.{done-law}
 use Rattle.xml.specs.Bytes.{isSpace, isLetter, isNameByte, slash, exclamation, question}
+use Rattle.xml.specs.AmongLaws as Starts
 use Rattle.xml.specs.Xml.{openName}
 use Rattle.xml.specs.Elements.{Part, child, between}
 use Rattle.clf.specs.Nodes.{NodeName, nodeFault, nodeBody}
 use Rattle.clf.specs.List.{Child, node, Flags, childFault, childBody, listItem}
 use Rattle.look.specs.Replacing.{start, element}
-use Rattle.claims.proofs.Element.{name-is, letter-not, NodeWord, Started, start-done, start-blames, start-place}
+use Rattle.claims.proofs.Element.{name-is, letter-not, NodeWord, StartOf, start-of, start-20}
 
 -- what an item of a child's name w gives
 abbrev asChild : List ℕ → Parser (Part Child)
@@ -42,11 +43,11 @@ item-child : (st : Flags) (c : ℕ) (s : List ℕ) → isLetter c ≡ true
 unfolding listItem between isSpace
 item-child st c s h = rw (letter-not c slash h not-slash, letter-not c exclamation h not-exclamation, letter-not c question h not-question)
 
-name-open : (c : ℕ) (w : List ℕ) (n : NodeName) (b : ℕ) (t : List ℕ) → NodeWord c w n → isNameByte b ≡ false → openName .run (60 ∷ c ∷ w ++ b ∷ t) ≡ done (c ∷ w) (b ∷ t)
+name-open : (c : ℕ) (w : List ℕ) (n : NodeName) (b : ℕ) (t : List ℕ) → NodeWord (c ∷ w) n → isNameByte b ≡ false → openName .run (60 ∷ c ∷ w ++ b ∷ t) ≡ done (c ∷ w) (b ∷ t)
 unfolding openName
 name-open c w n b t k h = name-is b t h c w (k .letter) (k .named)
 
-module _ (c : ℕ) (w : List ℕ) (n : NodeName) (k : NodeWord c w n) (u e : List ℕ) (shorter : length u < length e) where
+module _ (c : ℕ) (w : List ℕ) (n : NodeName) (k : NodeWord (c ∷ w) n) (u e : List ℕ) (shorter : length u < length e) where
   -- what stands behind the name
   by-body : (o : Out Element) → (nodeBody n) .run u ≡ o → strictOut (thenOut (thenOut o (λ m. retP (node m))) (λ v. retP (child v))) e ≡ asItem o
   by-body (done m r) q =
@@ -65,7 +66,7 @@ unfolding element
 element-started e n u q = ap (λ (o : Out NodeName). thenOut (judgeOut nodeFault o e) (λ m. (nodeBody m) .run)) q
 
 -- a start that is read is a child's `<` and name
-item-started : (st : Flags) (c : ℕ) (w : List ℕ) (n : NodeName) (b : ℕ) (t : List ℕ) → NodeWord c w n → isNameByte b ≡ false
+item-started : (st : Flags) (c : ℕ) (w : List ℕ) (n : NodeName) (b : ℕ) (t : List ℕ) → NodeWord (c ∷ w) n → isNameByte b ≡ false
     → start .run (60 ∷ c ∷ w ++ b ∷ t) ≡ done n (b ∷ t) → (listItem st) .run (60 ∷ c ∷ w ++ b ∷ t) ≡ asItem (element .run (60 ∷ c ∷ w ++ b ∷ t))
 item-started st c w n b t k h q =
     let e : List ℕ = 60 ∷ c ∷ w ++ b ∷ t in
@@ -82,21 +83,16 @@ pub data View (e : List ℕ) : Type 0 where
   is20 : element .run e ≡ fault 20 e → View e
   isItem : (d : List ℕ) → e ≡ 60 ∷ d → ((st : Flags) → (listItem st) .run e ≡ asItem (element .run e)) → View e
 
-by-start : (e : List ℕ) (o : Out NodeName) → start .run e ≡ o → View e
-unfolding element
-by-start e cut q = isCut (ap (λ (o : Out NodeName). thenOut (judgeOut nodeFault o e) (λ m. (nodeBody m) .run)) q)
-by-start e (fault j r) q =
-    let a : j ≡ 20 = start-blames .number e j r q in
-    let b : r ≡ e = start-place e j r q in
-    is20 (ap (λ (o : Out NodeName). thenOut (judgeOut nodeFault o e) (λ m. (nodeBody m) .run)) q ∙ ap (λ (i : ℕ). fault i r) a ∙ ap (fault 20) b)
-by-start e (done n r) q =
-    let i = start-done e n r q in
-    let s : Started (i .0) n r = i .2 in
-    let f : e ≡ 60 ∷ s .named .c ∷ s .named .w ++ s .b ∷ s .t = i .1 ∙ ap (λ (l : List ℕ). 60 ∷ l) (s .named .is ∙ ap (λ (l : List ℕ). s .named .c ∷ s .named .w ++ l) (s .is)) in
-    isItem (i .0) (i .1)
-    (λ st. subst (λ (x : List ℕ). (listItem st) .run x ≡ asItem (element .run x)) (sym f)
-    (item-started st (s .named .c) (s .named .w) n (s .b) (s .t) (s .named .word) (s .ends)
-    (ap (start .run) (sym f) ∙ q ∙ ap (done n) (s .is))))
-
 pub view : (e : List ℕ) → View e
-view e = by-start e (start .run e) refl
+unfolding start element
+view e = go (start-of e)
+  where
+    by : (o : Out NodeName) → start .run e ≡ o → element .run e ≡ thenOut (judgeOut nodeFault o e) (λ m. (nodeBody m) .run)
+    by o q = ap (λ (o : Out NodeName). thenOut (judgeOut nodeFault o e) (λ m. (nodeBody m) .run)) q
+
+    go : StartOf e → View e
+    go (Starts.isCut q) = isCut (by cut q)
+    go (Starts.isNone q) = is20 (by (fault 20 e) (start-20 e q))
+    go (Starts.isName [] n b t p f h q) = absurd (p .letter)
+    go (Starts.isName (c ∷ w) n b t p f h q) =
+        isItem (c ∷ w ++ b ∷ t) f (λ st. subst (λ (x : List ℕ). (listItem st) .run x ≡ asItem (element .run x)) (sym f) (item-started st c w n b t p h (q t)))

@@ -3,6 +3,7 @@ use mathlib.Core.Bool.{Bool, true, false, cond, not, _&&_, _||_}
 use mathlib.Core.List.{List, [], _∷_, _++_}
 use mathlib.Core.Option.{Option, none, some}
 use Prim.Native.Nat.{ℕ, zero, suc, _+_, _-_, _*_}
+use Prim.Native.Char.{code}
 use lib.Dec.{eqb, leb, ltb}
 use lib.IntN.{pos}
 use lib.ListN.{length, getD, set}
@@ -72,7 +73,7 @@ matrixShape t = cond (same t (bytes "3 3")) (some (Matrix false)) (cond (same t 
 -- the digits that a text begins with, as a whole number behind the number n, and what stands behind them
 abbrev pub wholeFrom : ℕ → List ℕ → ℕ
 wholeFrom n [] = n
-wholeFrom n (b ∷ t) = let more : ℕ = wholeFrom (n * 10 + (b - 48)) t in cond (isDigit b) more n
+wholeFrom n (b ∷ t) = let more : ℕ = wholeFrom (n * 10 + (b - code "0")) t in cond (isDigit b) more n
 
 abbrev pub behindDigits : List ℕ → List ℕ
 behindDigits [] = []
@@ -80,7 +81,7 @@ behindDigits (b ∷ t) = let more : List ℕ = behindDigits t in cond (isDigit b
 
 abbrev pub beginsWithZero : List ℕ → Bool
 beginsWithZero [] = false
-beginsWithZero (b ∷ t) = eqb b 48
+beginsWithZero (b ∷ t) = eqb b (code "0")
 
 -- '`dim` n and 1 or 3 (digits, no leading zero, one space), n from 2 to 65,536'
 unfoldable pub lutColumns : List ℕ → ℕ
@@ -346,14 +347,18 @@ pub data NodeName : Type 0 where
   notCarried : NodeName
   noNode : NodeName
 
--- 'the seven node names (carried or not)'; 'Known but not carried: Log, Exponent, LUT3D'
+-- 'the seven node names (carried or not)', each with what it names; 'Known but not carried: Log, Exponent, LUT3D'
+abbrev pub nodeNames : List (List ℕ × NodeName)
+nodeNames =
+    (bytes "Matrix", isMatrix) ∷ (bytes "LUT1D", isLut1d) ∷ (bytes "Range", isRange) ∷ (bytes "ASC_CDL", isCdl)
+    ∷ (bytes "Log", notCarried) ∷ (bytes "Exponent", notCarried) ∷ (bytes "LUT3D", notCarried) ∷ []
+
+abbrev pub namedIn : List (List ℕ × NodeName) → List ℕ → NodeName
+namedIn [] w = noNode
+namedIn (x ∷ l) w = let more : NodeName = namedIn l w in cond (same w (x .0)) (x .1) more
+
 unfoldable pub nodeName : List ℕ → NodeName
-nodeName w =
-    cond (same w (bytes "Matrix")) isMatrix
-    (cond (same w (bytes "LUT1D")) isLut1d
-    (cond (same w (bytes "Range")) isRange
-    (cond (same w (bytes "ASC_CDL")) isCdl
-    (cond (same w (bytes "Log") || (same w (bytes "Exponent") || same w (bytes "LUT3D"))) notCarried noNode))))
+nodeName w = namedIn nodeNames w
 
 abbrev pub nodeFault : NodeName → ℕ
 nodeFault isMatrix = 0

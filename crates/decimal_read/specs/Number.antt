@@ -3,6 +3,7 @@
 -- zeros moved into the power; zero is 0 and 0, and minus zero is zero. Coefficient below 10^15 in size, power from -22 to 22.'
 -- In order below: the form of a token, what a form says, the normal form of that number, and which tokens are accepted.
 use Prim.Native.Nat.{ℕ, zero, suc, _+_, _-_, _*_, _^_, _/_, _%_}
+use Prim.Native.Char.{code}
 use mathlib.Core.Bool.{Bool, true, false, cond, _&&_, _||_}
 use mathlib.Core.List.{List, [], _∷_, _++_}
 use mathlib.Core.Option.{Option, none, some}
@@ -19,40 +20,40 @@ use Rattle.decimal.specs.declared.Token.the-variants.{Number, Malformed}
 
 -- 0 to 9
 unfoldable pub isDigit : ℕ → Bool
-isDigit b = leb 48 b && leb b 57
+isDigit b = leb (code "0") b && leb b (code "9")
 
 -- e or E
 unfoldable pub isMark : ℕ → Bool
-isMark b = eqb b 101 || eqb b 69
+isMark b = eqb b (code "e") || eqb b (code "E")
 
 -- ── The parts of a token ──
 
--- 'maybe a sign': whether the bytes begin with a minus (45), and what stands behind a minus or a plus (43)
+-- 'maybe a sign': whether the bytes begin with a minus, and what stands behind a minus or a plus
 unfoldable pub isMinus : List ℕ → Bool
 isMinus [] = false
-isMinus (b ∷ l) = eqb b 45
+isMinus (b ∷ l) = eqb b (code "-")
 
 unfoldable pub behindSign : List ℕ → List ℕ
 behindSign [] = []
-behindSign (b ∷ l) = cond (eqb b 45 || eqb b 43) l (b ∷ l)
+behindSign (b ∷ l) = cond (eqb b (code "-") || eqb b (code "+")) l (b ∷ l)
 
 -- the digits that the bytes begin with, each a number from 0 to 9, and what stands behind them
 unfoldable pub digitsOf : List ℕ → List ℕ
 digitsOf [] = []
-digitsOf (b ∷ l) = cond (isDigit b) ((b - 48) ∷ digitsOf l) []
+digitsOf (b ∷ l) = cond (isDigit b) ((b - code "0") ∷ digitsOf l) []
 
 unfoldable pub behindDigits : List ℕ → List ℕ
 behindDigits [] = []
 behindDigits (b ∷ l) = cond (isDigit b) (behindDigits l) (b ∷ l)
 
--- 'with or without a point': the digits behind a point (46), if the bytes begin with one, and what stands behind them
+-- 'with or without a point': the digits behind a point, if the bytes begin with one, and what stands behind them
 unfoldable pub fractionOf : List ℕ → List ℕ
 fractionOf [] = []
-fractionOf (b ∷ l) = cond (eqb b 46) (digitsOf l) []
+fractionOf (b ∷ l) = cond (eqb b (code ".")) (digitsOf l) []
 
 unfoldable pub behindFraction : List ℕ → List ℕ
 behindFraction [] = []
-behindFraction (b ∷ l) = cond (eqb b 46) (behindDigits l) (b ∷ l)
+behindFraction (b ∷ l) = cond (eqb b (code ".")) (behindDigits l) (b ∷ l)
 
 unfoldable pub isEmpty : List ℕ → Bool
 isEmpty [] = true

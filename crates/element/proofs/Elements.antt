@@ -37,31 +37,31 @@ anyNode : Element
 anyNode = record { kind = Matrix false; input = I8; output = I8; numbers = [] }
 
 module _ (s : List ℕ) (base : ℕ) where
-  none : (m₀ m₁ : Room) → m₁ ≡ clearedFrom base m₀ → (n : NodeName) (r : Scan) → Failed r → Reads 1 judged (λ e. n) s 0 r → NodeReads (element .run) s 0 base (noNode r) m₀ m₁
+  none : (m₀ m₁ : Room) → m₁ ≡ clearedFrom base m₀ → (n : NodeName) (r : Scan) → Failed r → Reads 0 judged (λ e. n) s 0 r → NodeReads (element .run) s 0 base (noNode r) m₀ m₁
   unfolding element
   none m₀ m₁ q n r f v = by r f v
     where
-      by : (y : Scan) → Failed y → Reads 1 judged (λ e. n) s 0 y → NodeReads (bindP judged body) s 0 base (noNode y) m₀ m₁
+      by : (y : Scan) → Failed y → Reads 0 judged (λ e. n) s 0 y → NodeReads (bindP judged body) s 0 base (noNode y) m₀ m₁
       by (At e) f v = absurd f
       by (Fault k e) f v =
           record { value = anyNode; out = ap (λ (o : Out NodeName). thenOut o body) (v .out); inside = v .inside; node = refl; all = tt; room = q }
       by Cut f v = record { value = anyNode; out = ap (λ (o : Out NodeName). thenOut o body) (v .out); inside = tt; node = refl; all = tt; room = q }
 
   -- no start
-  pub element-none : (m₀ m₁ : Room) → m₁ ≡ clearedFrom base m₀ → (n : NodeName) (r : Scan) → Failed r → Reads 1 (start .run) (λ e. n) s 0 r → NodeReads (element .run) s 0 base (noNode r) m₀ m₁
-  element-none m₀ m₁ q n r f v = none m₀ m₁ q n r f (reads-unjudged (start .run) (λ e. n) s 0 nodeFault 1 1 r f v)
+  pub element-none : (m₀ m₁ : Room) → m₁ ≡ clearedFrom base m₀ → (n : NodeName) (r : Scan) → Failed r → Reads 0 (start .run) (λ e. n) s 0 r → NodeReads (element .run) s 0 base (noNode r) m₀ m₁
+  element-none m₀ m₁ q n r f v = none m₀ m₁ q n r f (reads-unjudged (start .run) (λ e. n) s 0 nodeFault 0 0 r f v)
 
   -- the start of a node that is not carried
-  pub element-fault : (m₀ m₁ : Room) → m₁ ≡ clearedFrom base m₀ → (n : NodeName) (k e : ℕ) → nodeFault n ≡ k → (k ≡ 0 → ⊥) → Reads 1 (start .run) (λ e. n) s 0 (At e)
+  pub element-fault : (m₀ m₁ : Room) → m₁ ≡ clearedFrom base m₀ → (n : NodeName) (k e : ℕ) → nodeFault n ≡ k → (k ≡ 0 → ⊥) → Reads 0 (start .run) (λ e. n) s 0 (At e)
       → NodeReads (element .run) s 0 base (noNode (Fault k 0)) m₀ m₁
-  element-fault m₀ m₁ w n k e q z v = none m₀ m₁ w n (Fault k 0) tt (reads-ill (start .run) (λ e. n) s 0 nodeFault 1 1 e k q z v)
+  element-fault m₀ m₁ w n k e q z v = none m₀ m₁ w n (Fault k 0) tt (reads-ill (start .run) (λ e. n) s 0 nodeFault 0 0 e k q z v)
 
   -- a carried node
-  pub element-node : (m₀ m₁ : Room) (n : CarriedNode) (e : ℕ) (step : NodeStep) → Reads 1 (start .run) (λ e. carriedOf n) s 0 (At e)
+  pub element-node : (m₀ m₁ : Room) (n : CarriedNode) (e : ℕ) (step : NodeStep) → Reads 0 (start .run) (λ e. carriedOf n) s 0 (At e)
       → NodeReads (body (carriedOf n)) s e base step m₀ m₁ → NodeReads (element .run) s 0 base step m₀ m₁
   unfolding element
   element-node m₀ m₁ n e step v w =
-      let j : Reads 1 judged (λ e. carriedOf n) s 0 (At e) = reads-well (start .run) (λ e. carriedOf n) s 0 nodeFault 1 e (carried-well n) v in
+      let j : Reads 0 judged (λ e. carriedOf n) s 0 (At e) = reads-well (start .run) (λ e. carriedOf n) s 0 nodeFault 0 e (carried-well n) v in
       record {
         value = w .value;
         out = w .out ∙ ap (λ (o : Out NodeName). thenOut o body) (j .out);

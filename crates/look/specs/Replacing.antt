@@ -1,42 +1,30 @@
 -- Replacing a node by an element (document 01, Replacing): the element alone, the answer of a call, and the call by the list alone.
-use mathlib.Core.Bool.{Bool, cond, _&&_}
+use mathlib.Core.Path.{refl}
+use mathlib.Core.Bool.{cond}
 use mathlib.Core.List.{List, [], _∷_}
 use Prim.Native.Nat.{ℕ, _-_}
-use lib.Dec.{eqb, leb, ltb}
+use lib.Dec.{ltb}
 use lib.ListN.{length, set}
 use Rattle.process_list.specs.declared.Verdict.{Verdict}
 use Rattle.process_list.specs.List.{Element, verdict, byVerdict}
 use Rattle.grammar.specs.Parse.{Out, done, fault, cut}
-use Rattle.grammar.specs.Grammar.{G, ret, bad, look, judge, blame, eat, seq, _>>_}
-use Rattle.xml.specs.Bytes.{bytes, isNameByte, lessThan}
-use Rattle.xml.specs.Xml.{byte, word}
-use Rattle.clf.specs.Nodes.{NodeName, isMatrix, isLut1d, isRange, isCdl, notCarried, nodeFault, nodeBody}
+use Rattle.grammar.specs.Grammar.{G, judge, seq}
+use Rattle.xml.specs.Bytes.{bytes, isLetter, isDigit, isNameByte}
+use Rattle.xml.specs.AmongLaws.{AllNames}
+use Rattle.xml.specs.Xml.{oneOf}
+use Rattle.clf.specs.Nodes.{NodeName, nodeNames, nodeFault, nodeBody}
 use Rattle.clf.specs.Reading.{mostBytes, placeIn, isNumbered}
 
 -- ---- the element alone
 
--- 'The element starts at its first byte with `<` and one of the seven node names (carried or not)': the names by their bytes. A byte that no name has there is 20
-abbrev pub afterLut : ℕ → G NodeName
-afterLut b = cond (eqb b 49) (word (bytes "1D") 20 >> ret isLut1d) (word (bytes "3D") 20 >> ret notCarried)
+pub node-names : AllNames nodeNames
+unfolding isLetter isDigit isNameByte
+node-names = (refl, (refl, (refl, (refl, (refl, (refl, (refl, tt)))))))
 
-abbrev pub afterL : ℕ → G NodeName
-afterL b = cond (eqb b 85) (word (bytes "UT") 20 >> look afterLut) (word (bytes "og") 20 >> ret notCarried)
-
-abbrev pub startName : ℕ → G NodeName
-startName b =
-    cond (eqb b 77) (word (bytes "Matrix") 20 >> ret isMatrix)
-    (cond (eqb b 76) (eat >> look afterL)
-    (cond (eqb b 82) (word (bytes "Range") 20 >> ret isRange)
-    (cond (eqb b 65) (word (bytes "ASC_CDL") 20 >> ret isCdl)
-    (word (bytes "Exponent") 20 >> ret notCarried))))
-
--- a name goes on as long as name bytes follow: `<MatrixX` starts with no node name
-abbrev pub nameEnds : NodeName → ℕ → G NodeName
-nameEnds n b = cond (isNameByte b) (bad 20) (ret n)
-
--- 'any other start .. is 20', at 0, 'and nothing else is judged at that place; no bytes at all, or a beginning of such a start, is 1'
+-- 'The element starts at its first byte with `<` and one of the seven node names (carried or not)'; 'any other start .. is 20', at 0,
+-- 'and nothing else is judged at that place; no bytes at all, or a beginning of such a start, is 1'
 unfoldable pub start : G NodeName
-start = blame (seq (byte lessThan 20 >> look startName) (λ n. look (nameEnds n)))
+start = oneOf (bytes "<") 20 nodeNames node-names
 
 -- the element: its start; a node that is not carried is 7 there; and what stands behind its name, as in a file
 unfoldable pub element : G Element

@@ -4,16 +4,26 @@ use mathlib.Core.List.{List}
 use Prim.Native.Nat.{ℕ, _+_, _-_, _≤_}
 use native.Mathlib.Omega.{arith}
 use lib.ListN.{length, drop, length-drop}
-use Rattle.grammar.specs.Parse.{Out, done, Parser, Turn, again, thenOut, loopP}
-use Rattle.grammar.specs.Laws.{loop-again, loop-last, loop-fault, loop-cut}
-use Rattle.xml.specs.Code.{part}
+use Rattle.grammar.specs.Parse.{Out, done, Parser, Turn, again, last, loopP}
+use Rattle.grammar.specs.Laws.{loop-again, loop-last}
 use Rattle.xml.specs.declared.Scan.the-variants as Scans
-use Rattle.markup.specs.Items.{ItemFound, starts, ends, ItemReads}
-use Rattle.markup.specs.Next.{Passed, none, more, Behind, NextReads, afterItem, tagTurn, nextTag, nextOut}
+use Rattle.markup.specs.Items.{ItemFound, contentItem, itemOut, ItemReads, miscOf}
+use Rattle.markup.specs.Next.{Passed, none, more, Behind, NextReads, stopAt, nextTag}
 use Rattle.markup.specs.declared.Item.{Item}
-use Rattle.markup.specs.declared.Item.the-variants.{Misc}
+use Rattle.markup.specs.declared.Item.the-variants.{Misc, StartTag, EndTag}
 use Rattle.markup.specs.declared.NextTag.{NextTag}
 use Rattle.markup.specs.declared.NextTag.the-variants.{Start, End, Failed}
+
+-- an answer's place, and its item
+abbrev stopOf : NextTag → ℕ
+stopOf (Start i e) = i
+stopOf (End i) = i
+stopOf (Failed i r) = i
+
+abbrev itemOf : NextTag → Item
+itemOf (Start i e) = StartTag e
+itemOf (End i) = EndTag
+itemOf (Failed i r) = miscOf r
 
 module _ (s : List ℕ) (at : ℕ) where
   -- what holds at `at`, and still behind each white space and each comment, holds behind all of them
@@ -35,20 +45,23 @@ module _ (s : List ℕ) (at : ℕ) where
       passed-keeps (λ j. loopP f st (drop at s) ≡ loopP f st (drop j s))
       (λ i e h l. h ∙ loop-again f st (drop i s) st (drop e s) (g i e l) (simp length-drop (omega (arith, l .inside)))) refl w
 
-  -- the code's answer is the parser's
-  pub next-run : (r : NextTag) → NextReads s at r → nextOut s r ≡ nextTag (drop at s)
+  -- the answer of the parser has the place and the item of the code's
+  pub next-run : (r : NextTag) → NextReads s at r → nextTag (drop at s) ≡ done (drop (stopOf r) s, itemOut s (stopOf r) (itemOf r)) (drop (stopOf r) s)
   unfolding nextTag
-  next-run r v = sym (go r v)
+  next-run r v = go r v
     where
-      took : (i : ℕ) → Out ItemFound → Out (Turn (Unit {0}) (List ℕ × ItemFound))
-      took i o = thenOut o (afterItem (drop i s))
+      turn : Unit {0} → Parser (Turn (Unit {0}) (List ℕ × Out ItemFound))
+      turn st u = stopAt u (contentItem u)
 
-      on : {item : Item} {i : ℕ} → Behind s at item i → loopP tagTurn tt (drop at s) ≡ loopP tagTurn tt (drop i s)
-      on b = loop-passed tagTurn tt (λ j e l. ap (took j) (sym (l .out))) (b .passed)
+      at-stop : {item : Item} {i : ℕ} → Behind s at item i → stopAt (drop i s) (itemOut s i item) ≡ done (last (drop i s, itemOut s i item)) (drop i s)
+          → loopP turn tt (drop at s) ≡ done (drop i s, itemOut s i item) (drop i s)
+      at-stop {item} {i} b q =
+          loop-passed turn tt (λ j e l. ap (stopAt (drop j s)) (sym (l .out))) (b .passed)
+          ∙ loop-last turn tt (drop i s) (drop i s, itemOut s i item) (drop i s) (ap (stopAt (drop i s)) (sym (b .reads .out)) ∙ q)
 
-      go : (r : NextTag) → NextReads s at r → loopP tagTurn tt (drop at s) ≡ nextOut s r
-      go (Start i e) b = on b ∙ loop-last tagTurn tt (drop i s) (drop i s, starts (part s (i + 1) e)) (drop e s) (ap (took i) (sym (b .reads .out)))
-      go (End i) b = on b ∙ loop-last tagTurn tt (drop i s) (drop i s, ends) (drop i s) (ap (took i) (sym (b .reads .out)))
+      go : (r : NextTag) → NextReads s at r → loopP turn tt (drop at s) ≡ done (drop (stopOf r) s, itemOut s (stopOf r) (itemOf r)) (drop (stopOf r) s)
+      go (Start i e) b = at-stop b refl
+      go (End i) b = at-stop b refl
       go (Failed i (Scans.At e)) b = absurd b
-      go (Failed i (Scans.Fault k p)) b = on b ∙ loop-fault tagTurn tt (drop i s) k (drop p s) (ap (took i) (sym (b .reads .out)))
-      go (Failed i Scans.Cut) b = on b ∙ loop-cut tagTurn tt (drop i s) (ap (took i) (sym (b .reads .out)))
+      go (Failed i (Scans.Fault k p)) b = at-stop b refl
+      go (Failed i Scans.Cut) b = at-stop b refl

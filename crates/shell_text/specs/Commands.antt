@@ -3,6 +3,7 @@ use mathlib.Core.Path.{_≡_}
 use mathlib.Core.Bool.{Bool, cond, _&&_, _||_}
 use mathlib.Core.List.{List}
 use Prim.Native.Nat.{ℕ}
+use Prim.Native.Char.{code}
 use lib.Dec.{eqb, leb}
 use lib.ListN.{length, getD}
 use Rattle.fields.specs.declared.Parsed.{Parsed}
@@ -72,12 +73,12 @@ underOf letter s = underBy letter s (lastNumber s (firstEnd s))
 unfoldable pub underLeft : List ℕ → List ℕ
 underLeft s = underFrom s (lastNumber s (firstEnd s))
 
--- what a letter asks of its line: 1 for C (67) and K (75), bytes alone; 2 for R (82), P (80) and D (68), a number and bytes; 3 for W (87), an id and a number
+-- what a letter asks of its line: 1 is bytes alone, 2 a number and bytes, 3 an id and a number
 unfoldable pub shapeOf : ℕ → ℕ
 shapeOf letter =
-    cond (eqb letter 67 || eqb letter 75) 1
-    (cond (eqb letter 82 || (eqb letter 80 || eqb letter 68)) 2
-    (cond (eqb letter 87) 3 0))
+    cond (eqb letter (code "C") || eqb letter (code "K")) 1
+    (cond (eqb letter (code "R") || (eqb letter (code "P") || eqb letter (code "D"))) 2
+    (cond (eqb letter (code "W")) 3 0))
 
 unfoldable pub byShape : {A : Type 0} → ℕ → A → A → A → A → A
 byShape shape one two three none = cond (eqb shape 1) one (cond (eqb shape 2) two (cond (eqb shape 3) three none))

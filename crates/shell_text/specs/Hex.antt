@@ -3,19 +3,24 @@ use mathlib.Core.Path.{_≡_}
 use mathlib.Core.Bool.{Bool, cond, _&&_, _||_}
 use mathlib.Core.List.{List, [], _∷_, _++_}
 use Prim.Native.Nat.{ℕ, _+_, _-_, _*_, _/_, _%_}
+use Prim.Native.Char.{code}
 use lib.Dec.{eqb, ltb, leb}
 use lib.ListN.{length, take, drop, getD}
 use Rattle.fields.specs.Fields.{fieldFrom}
 use Rattle.shell_text.specs.declared.Decoded.{Decoded}
 use Rattle.shell_text.specs.declared.Decoded.the-variants.{Bytes, Malformed}
 
--- the value of a digit: 48 to 57 are `0` to `9`, 97 to 102 are `a` to `f`; 16 for another byte
+-- the value of a digit, `0` to `9` and `a` to `f`; 16 for another byte
 unfoldable pub digitOf : ℕ → ℕ
-digitOf b = cond (ltb b 48) 16 (cond (leb b 57) (b - 48) (cond (ltb b 97) 16 (cond (leb b 102) (b - 87) 16)))
+digitOf b =
+    cond (ltb b (code "0")) 16
+    (cond (leb b (code "9")) (b - code "0")
+    (cond (ltb b (code "a")) 16
+    (cond (leb b (code "f")) (10 + (b - code "a")) 16)))
 
--- the digit of a value; `?` (63) from 16 on
+-- the digit of a value; `?` from 16 on
 unfoldable pub glyphOf : ℕ → ℕ
-glyphOf d = cond (ltb d 10) (48 + d) (cond (ltb d 16) (87 + d) 63)
+glyphOf d = cond (ltb d 10) (code "0" + d) (cond (ltb d 16) (code "a" + (d - 10)) (code "?"))
 
 -- the two digits of a byte, the higher first
 unfoldable pub pairText : ℕ → List ℕ

@@ -2,6 +2,7 @@
 use mathlib.Core.Bool.{Bool, true, false, cond, _&&_, _||_}
 use mathlib.Core.List.{List, [], _∷_}
 use Prim.Native.Nat.{ℕ, _+_}
+use Prim.Native.Char.{code}
 use lib.Dec.{eqb, ltb}
 use Rattle.fields.specs.declared.Parsed.{Parsed}
 use Rattle.fields.specs.declared.Parsed.the-variants.{Malformed}
@@ -9,11 +10,11 @@ use Rattle.fields.specs.Fields.{fieldFrom, wordNumber}
 use Rattle.tags.specs.Code.{partIn}
 use Rattle.shell_text.specs.Hex.{isLast}
 
--- the command X (88), alone or with a space (32) behind it
+-- the command X, alone or with a space behind it
 unfoldable pub isRun : List ℕ → Bool
 isRun [] = false
-isRun (x ∷ []) = eqb x 88
-isRun (x ∷ (b ∷ l)) = eqb x 88 && eqb b 32
+isRun (x ∷ []) = eqb x (code "X")
+isRun (x ∷ (b ∷ l)) = eqb x (code "X") && eqb b (code " ")
 
 -- 'so is a `W` whose text .. is no longer than its OUTLEN may be': refused with 17 for less room than was asked for
 unfoldable pub isTooLong : ℕ → ℕ → ℕ → Bool
@@ -23,7 +24,7 @@ isTooLong number room length = eqb number 17 && ltb room length
 unfoldable pub lastNumber : List ℕ → ℕ → Parsed
 lastNumber s at = cond (isLast s at) (wordNumber (partIn s (fieldFrom s at .start) (fieldFrom s at .end))) Malformed
 
--- the place of the first line feed (10) of l, which stands from `at` on, or its end
+-- the place of the first line feed of l, which stands from `at` on, or its end
 unfoldable pub lineEnd : ℕ → List ℕ → ℕ
 lineEnd at [] = at
-lineEnd at (b ∷ l) = cond (eqb b 10) at (lineEnd (at + 1) l)
+lineEnd at (b ∷ l) = cond (eqb b (code "\n")) at (lineEnd (at + 1) l)

@@ -15,10 +15,6 @@ use Rattle.text_out.proofs.Laws.{puts-as, goes-start}
 use Rattle.xml.specs.Bytes.{bytes}
 use Rattle.written_form.proofs.Tail.{spacedText, rowText, rowsText, valueText, rangeText, sopText, satText}
 
--- the text of a case that a match found
-pub puts-by : {A : Type 0} (f : A → List ℕ) {x y : A} {at r : ℕ} {s s' : List ℕ} → x ≡ y → Puts (λ t. f y ++ t) at s s' r → Puts (λ t. f x ++ t) at s s' r
-puts-by f e p = puts-as (λ t. ap (λ a. f a ++ t) e) p
-
 -- ---- runs of numbers
 
 pairs-none : (cs : List ℤ) → pairs cs [] ≡ []

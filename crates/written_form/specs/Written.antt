@@ -4,6 +4,7 @@
 use mathlib.Core.Bool.{Bool, cond, _&&_, _||_}
 use mathlib.Core.List.{List, [], _∷_, _++_}
 use Prim.Native.Nat.{ℕ, zero, suc}
+use Prim.Native.Char.{code}
 use lib.Dec.{eqb, leb, ltb}
 use lib.ListN.{length, take, drop}
 use Rattle.decimal.specs.declared.Decimal.{Decimal}
@@ -20,7 +21,7 @@ use Rattle.process_list.specs.declared.ProcessList.{ProcessList}
 use Rattle.process_list.specs.List.{Element}
 use Rattle.room.specs.Room.{Room}
 use Rattle.valid.specs.Valid.{every, isValid, elementsOf}
-use Rattle.xml.specs.Bytes.{bytes, isLetter, isDigit, dash}
+use Rattle.xml.specs.Bytes.{bytes, isLetter, isDigit}
 
 -- ---- lines, and pieces of a line
 
@@ -180,16 +181,9 @@ listLines id es = declaration ∷ rootLine id ∷ nodesLines es ++ (closing (byt
 
 -- ---- what writing answers
 
--- the bytes `_` and `.`
-abbrev pub underscore : ℕ
-underscore = 95
-
-abbrev pub point : ℕ
-point = 46
-
 -- 18: 'id for writing not 1 to 64 of letters, digits, `-`, `_`, `.`'
 unfoldable pub isIdByte : ℕ → Bool
-isIdByte b = isLetter b || (isDigit b || (eqb b underscore || (eqb b dash || eqb b point)))
+isIdByte b = isLetter b || (isDigit b || (eqb b (code "_") || (eqb b (code "-") || eqb b (code "."))))
 
 -- '1 to 64'
 abbrev pub mostIdBytes : ℕ

@@ -21,44 +21,44 @@ same (b ∷ s) (c ∷ w) = eqb b c && same s w
 
 -- 'white space (space, tab, CR, LF)'
 unfoldable pub isSpace : ℕ → Bool
-isSpace b = eqb b 32 || (eqb b 10 || (eqb b 9 || eqb b 13))
+isSpace b = eqb b (code " ") || (eqb b (code "\n") || (eqb b (code "\t") || eqb b (code "\r")))
 
 -- 'an ASCII letter'
 unfoldable pub isLetter : ℕ → Bool
-isLetter b = (leb 97 b && leb b 122) || (leb 65 b && leb b 90)
+isLetter b = (leb (code "a") b && leb b (code "z")) || (leb (code "A") b && leb b (code "Z"))
 
 unfoldable pub isDigit : ℕ → Bool
-isDigit b = leb 48 b && leb b 57
+isDigit b = leb (code "0") b && leb b (code "9")
 
 -- 'letters, digits, `_ : - .`'
 unfoldable pub isNameByte : ℕ → Bool
-isNameByte b = isLetter b || (isDigit b || (eqb b 95 || (eqb b 58 || (eqb b 45 || eqb b 46))))
+isNameByte b = isLetter b || (isDigit b || (eqb b (code "_") || (eqb b (code ":") || (eqb b (code "-") || eqb b (code ".")))))
 
 -- `"` or `'`: 'quotes single or double'
 unfoldable pub isQuote : ℕ → Bool
-isQuote b = eqb b 34 || eqb b 39
+isQuote b = eqb b (code "\"") || eqb b (code "'")
 
--- the bytes that begin markup: `<`, `>`, `/`, `!`, `?`, `&`, `=`, `-`
+-- the bytes of markup
 abbrev pub lessThan : ℕ
-lessThan = 60
+lessThan = code "<"
 
 abbrev pub greaterThan : ℕ
-greaterThan = 62
+greaterThan = code ">"
 
 abbrev pub slash : ℕ
-slash = 47
+slash = code "/"
 
 abbrev pub exclamation : ℕ
-exclamation = 33
+exclamation = code "!"
 
 abbrev pub question : ℕ
-question = 63
+question = code "?"
 
 abbrev pub ampersand : ℕ
-ampersand = 38
+ampersand = code "&"
 
 abbrev pub equals : ℕ
-equals = 61
+equals = code "="
 
 abbrev pub dash : ℕ
-dash = 45
+dash = code "-"

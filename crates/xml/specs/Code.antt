@@ -4,6 +4,7 @@ use mathlib.Core.List.{List}
 use Prim.Native.Nat.{ℕ, _+_, _-_, _≤_, _<_}
 use lib.ListN.{length, take, drop}
 use Rattle.grammar.specs.Parse.{Out, done, fault, cut, Parser}
+use Rattle.xml.specs.Among.{nameOr}
 use Rattle.xml.specs.declared.Scan.{Scan}
 use Rattle.xml.specs.declared.Scan.the-variants.{At, Fault, Cut}
 
@@ -63,3 +64,8 @@ abbrev pub Failed : Scan → Type 0
 Failed (At e) = ⊥
 Failed (Fault k p) = Unit {0}
 Failed Cut = Unit {0}
+
+-- the answer r is that of the name w against the bytes from `at` on, `other` where they differ; a next place is no nearer than `at`
+pub record NameOr (s : List ℕ) (at : ℕ) (w : List ℕ) (other r : Scan) : Type 0 where
+  pub out : scanOut noValue s r ≡ nameOr tt (scanOut noValue s other) w (drop at s)
+  pub inside : (from : ℕ) → from ≤ at → Inside 0 s from other → Inside 0 s from r

@@ -1,4 +1,6 @@
 pub mod Bytes
+pub mod Among
+pub mod AmongLaws
 pub mod Xml
 pub mod Elements
 pub mod Code

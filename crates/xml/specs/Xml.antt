@@ -1,12 +1,16 @@
 -- Names, `&` forms, texts, comments and tags, as document 01 (The file we carry, Refusal numbers) carries XML. Each is a grammar: 'cut' is refusal 1, and a place is where the bytes of a fault begin.
+use mathlib.Core.Path.{refl}
 use mathlib.Core.Bool.{Bool, true, false, cond, not}
 use mathlib.Core.List.{List, [], _∷_, _++_}
 use Prim.Native.Nat.{ℕ}
+use Prim.Native.Char.{code}
 use lib.ListN.{length}
 use lib.Dec.{eqb, leb}
 use Rattle.grammar.specs.Parse.{Turn, again, last}
 use Rattle.grammar.specs.Grammar.{G, ret, bad, look, lookTwo, judge, settle, blame, kept, eat, span, seq, loop, _>>=_, _>>_}
-use Rattle.xml.specs.Bytes.{bytes, same, isSpace, isLetter, isNameByte, isQuote, lessThan, greaterThan, slash, exclamation, question, ampersand, equals, dash}
+use Rattle.xml.specs.Among.{among}
+use Rattle.xml.specs.AmongLaws.{AllNames, among-answer}
+use Rattle.xml.specs.Bytes.{bytes, same, isSpace, isLetter, isDigit, isNameByte, isQuote, lessThan, greaterThan, slash, exclamation, question, ampersand, equals, dash}
 
 -- the byte c, or the fault k at the byte that stands there
 abbrev pub byte : ℕ → ℕ → G ℕ
@@ -25,20 +29,21 @@ spaces = span isSpace
 unfoldable pub name : G (List ℕ)
 name = look (λ b. cond (isLetter b) (span isNameByte) (bad 2))
 
+-- the bytes `lead` and one of these names behind them, each with what it stands for; else the fault k at the first byte
+abbrev pub oneOf : {A : Type 0} → List ℕ → ℕ → (l : List (List ℕ × A)) → AllNames l → G A
+oneOf lead k l names = record { run = among lead k l; law = among-answer lead k l names }
+
 -- ---- '`&` only as amp, lt, gt, quot or apos, any other `&` is 3', at the `&`
 
-abbrev pub afterA : ℕ → G (Unit {0})
-afterA b = cond (eqb b 109) (word (bytes "mp;") 3) (word (bytes "pos;") 3)
+abbrev pub entityNames : List (List ℕ × Unit {0})
+entityNames = (bytes "amp", tt) ∷ (bytes "lt", tt) ∷ (bytes "gt", tt) ∷ (bytes "quot", tt) ∷ (bytes "apos", tt) ∷ []
 
-abbrev pub afterAnd : ℕ → G (Unit {0})
-afterAnd b =
-    cond (eqb b 97) (eat >> look afterA)
-    (cond (eqb b 108) (word (bytes "lt;") 3)
-    (cond (eqb b 103) (word (bytes "gt;") 3)
-    (word (bytes "quot;") 3)))
+pub entity-names : AllNames entityNames
+unfolding isLetter isDigit isNameByte
+entity-names = (refl, (refl, (refl, (refl, (refl, tt)))))
 
 unfoldable pub entity : G (Unit {0})
-entity = blame (eat >> look afterAnd)
+entity = blame (eat >> oneOf [] 3 entityNames entity-names >> byte (code ";") 3 >> ret tt)
 
 -- ---- comments: '`--` in a comment [is] 2', 'any other `<!` [is] 3', both at the comment's first byte
 

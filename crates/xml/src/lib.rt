@@ -5,10 +5,11 @@ ghost use mathlib.Core.Path.{_≡_};
 ghost use mathlib.Core.List.{[]};
 ghost use Prim.Native.Nat.{_+_, _≤_, _<_};
 ghost use lib.ListN.{length, drop, getD};
-ghost use Rattle.grammar.specs.Parse.{spanP, loopP, lookP, blameP};
+ghost use Rattle.grammar.specs.Parse.{spanP, loopP, blameP};
 ghost use Rattle.xml.specs.Bytes as Bytes;
 ghost use Rattle.xml.specs.Xml as Xml;
-ghost use Rattle.xml.specs.Code.{Reads, ReadsFrom, part, noValue, blamedScan};
+ghost use Rattle.xml.specs.Code.{Reads, ReadsFrom, NameOr, part, noValue, blamedScan};
+ghost use Rattle.xml.specs.Among.{among};
 
 pub enum Scan {
     At(usize),
@@ -201,37 +202,40 @@ fn blamed(r: Scan, at: usize) -> Scan
     }
 }
 
-// Behind `&a`.
-fn after_a(s: &[u8], at: usize) -> Scan
-    ensures { λ r. ⌜ Reads 1 (lookP (λ b. (Xml.afterA b) .run)) noValue (now (s .entry)) at r ⌝ }
+// The end of a name at `at`: no byte of a name follows. Where the name goes on, `other`.
+fn end_or(s: &[u8], at: usize, other: Scan) -> Scan
+    ensures { λ r. ⌜ NameOr (now (s .entry)) at [] other r ⌝ }
 {
     if s.len() <= at {
         return Scan::Cut;
     }
-    if s[at] == b'm' {
-        return word(s, at, b"mp;", 3);
+    if is_name_byte(s[at]) {
+        return other;
     }
-    word(s, at, b"pos;", 3)
+    Scan::At(at)
 }
 
-// Behind `&`.
-fn after_and(s: &[u8], at: usize) -> Scan
-    ensures { λ r. ⌜ Reads 1 (lookP (λ b. (Xml.afterAnd b) .run)) noValue (now (s .entry)) at r ⌝ }
+// The name w at `at`, with no byte of a name behind it; where it does not stand there, `other`.
+pub fn name_or(s: &[u8], at: usize, w: &[u8], other: Scan) -> Scan
+    ensures { λ r. ⌜ NameOr (now (s .entry)) at (now (w .entry)) other r ⌝ }
 {
-    if s.len() <= at {
-        return Scan::Cut;
+    let r = word(s, at, w, 1);
+    match r {
+        Scan::At(e) => end_or(s, e, other),
+        Scan::Fault(_, _) => other,
+        Scan::Cut => Scan::Cut,
     }
-    let b = s[at];
-    if b == b'a' {
-        return after_a(s, at + 1);
-    }
-    if b == b'l' {
-        return word(s, at, b"lt;", 3);
-    }
-    if b == b'g' {
-        return word(s, at, b"gt;", 3);
-    }
-    word(s, at, b"quot;", 3)
+}
+
+// The name of an `&` form.
+fn entity_name(s: &[u8], at: usize) -> Scan
+    ensures { λ r. ⌜ (at ≤ length (now (s .entry)) → Reads 0 (among [] 3 Xml.entityNames) noValue (now (s .entry)) at r) ⌝ }
+{
+    let apos = name_or(s, at, b"apos", Scan::Fault(3, at));
+    let quot = name_or(s, at, b"quot", apos);
+    let gt = name_or(s, at, b"gt", quot);
+    let lt = name_or(s, at, b"lt", gt);
+    name_or(s, at, b"amp", lt)
 }
 
 // An `&` form.
@@ -241,7 +245,11 @@ pub fn entity(s: &[u8], at: usize) -> Scan
     if s.len() <= at {
         return Scan::Cut;
     }
-    blamed(after_and(s, at + 1), at)
+    let r = entity_name(s, at + 1);
+    let Scan::At(e) = r else {
+        return blamed(r, at);
+    };
+    blamed(byte(s, e, b';', 3), at)
 }
 
 // A comment behind its `<!--`.

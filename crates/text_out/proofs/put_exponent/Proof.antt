@@ -19,10 +19,11 @@ returns c =
 
 returns-2 : tie.Need-returns-2
 returns-2 c =
-    let p = c .before .before .before .before .before .before .before .before .before .before .args .p in
+    let i = c .before .before .before .before .before .before .before .before in
+    let p = i .before .before .args .p in
     let f : SFits w64 p = search needs in
     let w = puts-by (λ z t. whole z ++ t) (sym (toZ-ofZ w64 p f)) (c .before .before .put-whole .ensures) in
-    puts-as (λ t. rw (some-exponent p (not-zero p (c .before .before .before .before .before .before .before .before .if1 .left)))) (puts-then (c .before .before .before .before .before .before .put-byte .ensures) w)
+    puts-as (λ t. rw (some-exponent p (not-zero p (i .if1 .left)))) (puts-then (c .before .before .before .before .before .before .put-byte .ensures) w)
 
 pub put-exponent-spec : {M : Type 1} → statement M
 put-exponent-spec = tie.close (tie.spec returns (λ c κs. search needs) (λ c κs. search needs) (λ c. search needs) returns-2)

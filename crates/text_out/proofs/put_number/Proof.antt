@@ -14,12 +14,13 @@ use Rattle.text_out.proofs.put_number.Tie as tie
 
 returns : tie.Need-returns
 returns c =
-    let d = c .before .before .before .before .before .before .before .before .before .before .before .before .before .before .args .number in
+    let i = c .before .before .before .before .before .before .before .before .before .before .before in
+    let d = i .before .before .before .args .number in
     let f : SFits w64 (d .coefficient) = search needs in
     let g : SFits w8 (d .power) = search needs in
     let w = puts-by (λ z t. whole z ++ t) (sym (toZ-ofZ w64 (d .coefficient) f)) (c .before .before .before .before .before .before .before .before .put-whole .ensures) in
     let e = puts-by (λ z t. exponent z ++ t) (sym (wide-kept (d .power) g (c .before .before .before .wide .ensures))) (c .before .before .put-exponent .ensures) in
-    puts-as (λ t. rw (written-parts d (sym (c .before .before .before .before .before .before .before .before .before .before .before .before .in-range .ensures) ∙ c .before .before .before .before .before .before .before .before .before .before .before .if1 .taken), append-assoc)) (puts-then w e)
+    puts-as (λ t. rw (written-parts d (sym (i .before .in-range .ensures) ∙ i .if1 .taken), append-assoc)) (puts-then w e)
 
 returns-2 : tie.Need-returns-2
 returns-2 c = puts-none (λ t. rw (written-none _ (sym (c .before .in-range .ensures) ∙ c .if1 .left)))

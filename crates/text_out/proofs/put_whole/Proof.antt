@@ -9,16 +9,18 @@ use Rattle.text_out.proofs.put_whole.Tie as tie
 
 returns : tie.Need-returns
 returns c =
-    let z = c .before .before .before .before .before .before .before .before .before .before .before .args .z in
+    let b = c .before .before .before .before .before .before .before in
+    let z = b .before .before .before .before .args .z in
     let f : SFits w64 z = search needs in
-    let n = whole-negative z (is-negative z f (c .before .before .before .before .before .before .before .before .before .if1 .taken)) in
-    puts-negative z _ n (size-kept z f (c .before .before .before .size .ensures)) (c .before .before .before .before .before .before .before .put-byte .ensures) (c .before .before .put-digits .ensures)
+    let n = whole-negative z (is-negative z f (b .before .before .if1 .taken)) in
+    puts-negative z _ n (size-kept z f (c .before .before .before .size .ensures)) (b .put-byte .ensures) (c .before .before .put-digits .ensures)
 
 returns-2 : tie.Need-returns-2
 returns-2 c =
-    let z = c .before .before .before .before .before .before .before .args .z in
+    let i = c .before .before .before .before .before in
+    let z = i .before .before .args .z in
     let f : SFits w64 z = search needs in
-    puts-other z _ (whole-other z (is-other z f (c .before .before .before .before .before .if1 .left))) (size-kept z f (c .before .before .before .size2 .ensures)) (c .before .before .put-digits2 .ensures)
+    puts-other z _ (whole-other z (is-other z f (i .if1 .left))) (size-kept z f (c .before .before .before .size2 .ensures)) (c .before .before .put-digits2 .ensures)
 
 pub put-whole-spec : {M : Type 1} → statement M
 put-whole-spec =

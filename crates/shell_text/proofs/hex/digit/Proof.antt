@@ -1,4 +1,5 @@
 -- `digit` meets its contract. Assumes nothing.
+use native.Mathlib.Omega.{arith}
 use Rattle.shell_text.specs.Hex.{digitOf}
 use borrow.Author.Tests.{lt-ltb, le-ltb, le-leb, lt-leb}
 use borrow.Author.Needs.{needs}
@@ -19,7 +20,7 @@ returns-3 c = rw (le-ltb (c .before .before .before .args .b) 48 (c .before .bef
 
 returns-4 : tie.Need-returns-4
 unfolding digitOf
-returns-4 c = rw (le-ltb (c .before .before .before .before .args .b) 48 (c .before .before .before .if1 .left), lt-leb (c .before .before .before .before .args .b) 57 (c .before .before .if2 .left), le-ltb (c .before .before .before .before .args .b) 97 (c .before .if3 .left), le-leb (c .before .before .before .before .args .b) 102 (c .if4 .taken))
+returns-4 c = rw (le-ltb (c .before .before .before .before .args .b) 48 (c .before .before .before .if1 .left), lt-leb (c .before .before .before .before .args .b) 57 (c .before .before .if2 .left), le-ltb (c .before .before .before .before .args .b) 97 (c .before .if3 .left), le-leb (c .before .before .before .before .args .b) 102 (c .if4 .taken)) (omega arith)
 
 returns-5 : tie.Need-returns-5
 unfolding digitOf

@@ -1,4 +1,5 @@
 -- `glyph` meets its contract. Assumes nothing.
+use native.Mathlib.Omega.{arith}
 use Rattle.shell_text.specs.Hex.{glyphOf}
 use borrow.Author.Tests.{lt-ltb, le-ltb}
 use borrow.Author.Needs.{needs}
@@ -11,7 +12,7 @@ returns c = rw (lt-ltb (c .before .args .d) 10 (c .if1 .taken))
 
 returns-2 : tie.Need-returns-2
 unfolding glyphOf
-returns-2 c = rw (le-ltb (c .before .before .args .d) 10 (c .before .if1 .left), lt-ltb (c .before .before .args .d) 16 (c .if2 .taken))
+returns-2 c = rw (le-ltb (c .before .before .args .d) 10 (c .before .if1 .left), lt-ltb (c .before .before .args .d) 16 (c .if2 .taken)) (omega arith)
 
 returns-3 : tie.Need-returns-3
 unfolding glyphOf
