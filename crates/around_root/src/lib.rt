@@ -16,7 +16,7 @@ fn root_name(s: &[u8], at: usize, e: usize) -> Scan
     if xml::same(tags::part(s, at + 1, e), b"ProcessList") {
         return Scan::At(e);
     }
-    Scan::Fault(5, at)
+    Scan::Fault(refusals::WRONG_ELEMENT, at)
 }
 
 // What stands before the root, to the end of its name.
@@ -37,7 +37,7 @@ pub fn epilogue(s: &[u8], at: usize) -> Scan
 {
     let l = markup::next_tag(s, at);
     match l {
-        NextTag::Start(a, e) => Scan::Fault(5, a),
+        NextTag::Start(a, e) => Scan::Fault(refusals::WRONG_ELEMENT, a),
         NextTag::End(a) => markup::stray_end(s, a),
         NextTag::Failed(a, r) => {
             if s.len() <= a {
@@ -52,7 +52,12 @@ pub fn epilogue(s: &[u8], at: usize) -> Scan
 pub fn to_root(s: &[u8]) -> Scan
     ensures { λ r. ⌜ Reads 1 beforeRoot noValue (now (s .entry)) 0 r ⌝ }
 {
-    let r = xml::word(s, 0, b"<?xml version=\"1.0\" encoding=\"UTF-8\"?>", 3);
+    let r = xml::word(
+        s,
+        0,
+        b"<?xml version=\"1.0\" encoding=\"UTF-8\"?>",
+        refusals::FORM_NOT_CARRIED,
+    );
     match r {
         Scan::At(e) => prologue(s, e),
         Scan::Fault(k, p) => Scan::Fault(k, 0),

@@ -27,7 +27,7 @@ use Rattle.tags.specs.declared.StartTag.{StartTag}
 use Rattle.values.specs.Code.{Laid, NumbersRead}
 use Rattle.clf.specs.Numbers.{numbers, anyNumber}
 use Rattle.clf.specs.Nodes.{isSome, arrayRules, arrayOf, array, ArrayState, noArray, arrayBody, tableNode, nodeRules, matrix, lut1d, Table}
-use Rattle.node_parts.specs.Code.{NumbersIn, finishedNode, noNode, NodeReads}
+use Rattle.node_parts.specs.Code.{NumbersIn, finishedNode, failedNode, NodeReads}
 use Rattle.node_parts.specs.Held.{Went, Goes, HeldAt, ReadsTo}
 use Rattle.node_parts.specs.declared.NodeStep.{NodeStep}
 use Rattle.room.specs.Room.{Room, clearedFrom}
@@ -221,7 +221,7 @@ module _ (table : TableKind) (s : List ℕ) (at base : ℕ) (tag : StartTag) whe
       go Tables.Lut1d v = v
 
   -- the start tag is at fault
-  pub table-failed : (m₀ m₁ : Room) (r : Scan) (step : NodeStep) → Failed r → Reads 1 opens (λ e. tagOf s tag) s at r → (step ≡ noNode r) × (m₁ ≡ clearedFrom base m₀)
+  pub table-failed : (m₀ m₁ : Room) (r : Scan) (step : NodeStep) → Failed r → Reads 1 opens (λ e. tagOf s tag) s at r → (step ≡ failedNode r) × (m₁ ≡ clearedFrom base m₀)
       → NodeReads ((nodeFor table) .run) s at base step m₀ m₁
   table-failed m₀ m₁ r step f v g =
       by-name step m₀ m₁
@@ -231,7 +231,7 @@ module _ (table : TableKind) (s : List ℕ) (at base : ℕ) (tag : StartTag) whe
   module _ (m₀ m₁ : Room) (r : ArrayStep) (q : ℕ) (v : Reads 1 opens (λ e. tagOf s tag) s at (At q))
       (w : ReadsTo content-of s q (r .scan) (ArrayWhole base m₀ m₁ r) (SameCleared base m₀ m₁)) where
     -- the content is at fault
-    pub table-content-failed : (m₂ : Room) (step : NodeStep) → Failed (r .scan) → (step ≡ noNode (r .scan)) × (m₂ ≡ clearedFrom base m₁)
+    pub table-content-failed : (m₂ : Room) (step : NodeStep) → Failed (r .scan) → (step ≡ failedNode (r .scan)) × (m₂ ≡ clearedFrom base m₁)
         → NodeReads ((nodeFor table) .run) s at base step m₀ m₂
     table-content-failed m₂ step f g =
         by-name step m₀ m₂

@@ -127,7 +127,7 @@ fn array(
             let scan = values::numbers(s, q, b"Array", n, Rule::Any, coefficients, powers, base);
             TableStep { scan, kind }
         }
-        KindRead::Other => no_table(Scan::Fault(8, q)),
+        KindRead::Other => no_table(Scan::Fault(refusals::WRONG_ATTRIBUTE, q)),
     }
 }
 
@@ -170,7 +170,7 @@ fn array_child(
     let found = state.found;
     let w = tags::part(s, at + 1, e);
     if found {
-        return array_with(state, Scan::Fault(5, at));
+        return array_with(state, Scan::Fault(refusals::WRONG_ELEMENT, at));
     }
     if xml::same(w, b"Array") {
         return with_table(array(s, e, table, coefficients, powers, base));
@@ -178,7 +178,7 @@ fn array_child(
     if xml::same(w, b"Description") {
         return array_with(state, info::text_element(s, e, w));
     }
-    array_with(state, Scan::Fault(5, at))
+    array_with(state, Scan::Fault(refusals::WRONG_ELEMENT, at))
 }
 
 fn array_missing(found: bool) -> u8
@@ -187,7 +187,7 @@ fn array_missing(found: bool) -> u8
     if found {
         return 0;
     }
-    5
+    refusals::WRONG_ELEMENT
 }
 
 // The end tag of a Matrix or LUT1D.

@@ -31,7 +31,7 @@ use Rattle.tags.specs.declared.TagEnd.the-variants as Ends
 use Rattle.tags.specs.declared.TagKind.the-variants as Tags
 use Rattle.values.specs.Code.{Laid}
 use Rattle.clf.specs.Nodes.{isSome, CdlState, noCdl, cdlBody, cdlFault, cdlHolder, cdlRules, cdlContent, cdlStyle, cdlNode, ascCdl, sopNode, satNode, sopNumbers, satNumbers}
-use Rattle.node_parts.specs.Code.{NumbersIn, finishedNode, noNode, smallNumbers, NodeReads}
+use Rattle.node_parts.specs.Code.{NumbersIn, finishedNode, failedNode, smallNumbers, NodeReads}
 use Rattle.node_parts.specs.Held.{Goes, HeldAt, ReadsTo}
 use Rattle.node_parts.specs.declared.NodeStep.{NodeStep}
 use Rattle.node_parts.proofs.Smalls.{numbers-length}
@@ -184,7 +184,7 @@ module _ (s : List ℕ) (at base : ℕ) (tag : StartTag) (m₀ m₁ m : Room) (c
     reads Ends.Cut e f = refused Cut tt f (tag-cut cdlRules Tags.Cdl refl s at tag t e)
 
   -- the start tag or the content is at fault
-  pub cdl-failed : Failed (c .scan) → step ≡ noNode (c .scan) → m₁ ≡ clearedFrom base m₀ → NodeReads (ascCdl .run) s at base step m₀ m₁
+  pub cdl-failed : Failed (c .scan) → step ≡ failedNode (c .scan) → m₁ ≡ clearedFrom base m₀ → NodeReads (ascCdl .run) s at base step m₀ m₁
   unfolding ascCdl
   cdl-failed f z y =
       node-failed (bindP opens rest-of) s at base (c .scan) step m₀ m₁ (λ n. Unit {0}) (Unit {0}) f z y (reads (λ n. Unit {0}) (λ st x. tt) (tag .end) refl w)

@@ -66,16 +66,16 @@ fn inner_fault(w: &[u8], part: CdlPart, count: usize) -> u8
             if is_next_sop(w, count) {
                 return 0;
             }
-            5
+            refusals::WRONG_ELEMENT
         }
         CdlPart::Sat => {
             if 1 <= count {
-                return 5;
+                return refusals::WRONG_ELEMENT;
             }
             if xml::same(w, b"Saturation") {
                 return 0;
             }
-            5
+            refusals::WRONG_ELEMENT
         }
     }
 }
@@ -132,7 +132,7 @@ fn inner_missing(part: CdlPart, count: usize) -> u8
     ensures { λ r. ⌜ r ≡ cond (ltb count (Code.topOf part)) 5 0 ⌝ }
 {
     if count < inner_top(part) {
-        return 5;
+        return refusals::WRONG_ELEMENT;
     }
     0
 }
@@ -225,10 +225,10 @@ fn cdl_late(sop: bool, sat: bool) -> u8
     ensures { λ r. ⌜ r ≡ cond (sop || sat) 5 0 ⌝ }
 {
     if sop {
-        return 5;
+        return refusals::WRONG_ELEMENT;
     }
     if sat {
-        return 5;
+        return refusals::WRONG_ELEMENT;
     }
     0
 }
@@ -245,11 +245,11 @@ fn cdl_fault(w: &[u8], sop: bool, sat: bool) -> u8
     }
     if xml::same(w, b"SatNode") {
         if sat {
-            return 5;
+            return refusals::WRONG_ELEMENT;
         }
         return 0;
     }
-    5
+    refusals::WRONG_ELEMENT
 }
 
 // The state with another answer.

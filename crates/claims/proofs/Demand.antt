@@ -15,7 +15,7 @@ use Rattle.clf.specs.Places.{nodeSpan}
 use Rattle.clf.specs.Reading.{Reading, accepted, faulty, unfit, mostBytes, placeIn, isNumbered, listReading, readText, read}
 use Rattle.clf.specs.Reading as R
 use Rattle.look.specs.Replacing.{element, Replacing, refused, replacingBy, listed, byElement, replace, listAfter}
-use Rattle.claims.specs.TriedFile.{asReplacing, spliced, Attempt, answers, tries, trying, attemptElement, attempt, settled, byAttempt, fileCall, listCall, NotBefore, InElement, AllInElement, SmallAttempt, Small, SameRun}
+use Rattle.claims.specs.TriedFile.{asReplacing, spliced, Attempt, answers, tries, trying, attemptElement, attempt, answeredBy, byAttempt, fileCall, listCall, NotBefore, InElement, AllInElement, SmallAttempt, Small, SameRun}
 use Rattle.claims.proofs.Sound.{and-true}
 use Rattle.claims.proofs.Spliced.{Opened, opened, spliced-done, spliced-fault}
 use Rattle.claims.proofs.Rules.{Short, read-short}
@@ -34,7 +34,7 @@ module _ (room : ℕ) (s : List ℕ) (l : List Element) (old : readText room s �
 
   -- the list with the new node, judged
   by-verdict : (at : ℕ) (t : List ℕ) (m : List Element) (v : Verdict) → readText room t ≡ R.readingBy m v
-      → Agree room (settled at s t (R.readingBy m v)) (replacingBy m v, listAfter l (replacingBy m v))
+      → Agree room (answeredBy at s t (R.readingBy m v)) (replacingBy m v, listAfter l (replacingBy m v))
   by-verdict at t m Accepted q = record { answer = refl; l = m; reads = q; same = refl }
   by-verdict at t m NoNode q = stays (refused 12 0) 12 0 refl
   by-verdict at t m TooManyNodes q = stays (refused 11 33) 11 33 refl
@@ -42,22 +42,22 @@ module _ (room : ℕ) (s : List ℕ) (l : List Element) (old : readText room s �
   by-verdict at t m TooManyNumbers q = stays (refused 13 0) 13 0 refl
 
   by-list : (at : ℕ) (t : List ℕ) (m : List Element) → readText room t ≡ listReading room m
-      → Agree room (settled at s t (readText room t)) (listed room m, listAfter l (listed room m))
+      → Agree room (answeredBy at s t (readText room t)) (listed room m, listAfter l (listed room m))
   unfolding listReading listed
   by-list at t m q =
       let v : Verdict = verdict room m in
-      subst (λ (x : Reading). Agree room (settled at s t x) (replacingBy m v, listAfter l (replacingBy m v))) (sym q) (by-verdict at t m v q)
+      subst (λ (x : Reading). Agree room (answeredBy at s t x) (replacingBy m v, listAfter l (replacingBy m v))) (sym q) (by-verdict at t m v q)
 
   module _ (k : ℕ) (e : List ℕ) (there : k - 1 < length l) where
     abbrev w : ℕ × ℕ
     w = nodeSpan s (k - 1)
 
     at-fault : (j : ℕ) (r : List ℕ) → element .run e ≡ fault j r → (j ≡ 20 → ⊥)
-        → Agree room (settled (w .0) s (spliced s w e) (readText room (spliced s w e))) (refused j (placeIn e r), l)
+        → Agree room (answeredBy (w .0) s (spliced s w e) (readText room (spliced s w e))) (refused j (placeIn e r), l)
     at-fault j r q n =
         let f = spliced-fault room s l (k - 1) old there e j r q n in
         let g : w .0 + placeIn e r - w .0 ≡ placeIn e r = omega arith in
-        subst (λ (x : Reading). Agree room (settled (w .0) s (spliced s w e) x) (refused j (placeIn e r), l)) (sym f)
+        subst (λ (x : Reading). Agree room (answeredBy (w .0) s (spliced s w e) x) (refused j (placeIn e r), l)) (sym f)
         (stays (refused j (w .0 + placeIn e r - w .0)) j (placeIn e r) (ap (refused j) g))
 
     by-number : (j : ℕ) (r : List ℕ) → element .run e ≡ fault j r → (v : Bool) → eqb j 20 ≡ v
@@ -153,13 +153,13 @@ read-small room t h = rw (le-ltb mostBytes (length t) h)
 
 pub call-small : (room : ℕ) (s : List ℕ) (a : Attempt) → SmallAttempt a → byAttempt (read room) s a ≡ byAttempt (readText room) s a
 call-small room s (answers a) h = refl
-call-small room s (tries at t) h = ap (settled at s t) (read-small room t h)
+call-small room s (tries at t) h = ap (answeredBy at s t) (read-small room t h)
 
 pub in-small : (room : ℕ) (a : Attempt) → SmallAttempt a → InElement (readText room) a → InElement (read room) a
 in-small room (answers a) h i = tt
 in-small room (tries at t) h i = subst (NotBefore at) (sym (read-small room t h)) i
 
-settled-small : (at : ℕ) (s t : List ℕ) (r : Reading) → length s ≤ mostBytes → length t ≤ mostBytes → length (settled at s t r .1) ≤ mostBytes
+settled-small : (at : ℕ) (s t : List ℕ) (r : Reading) → length s ≤ mostBytes → length t ≤ mostBytes → length (answeredBy at s t r .1) ≤ mostBytes
 settled-small at s t (accepted l) h k = k
 settled-small at s t (faulty n p) h k = h
 settled-small at s t (unfit n p) h k = h

@@ -1,4 +1,4 @@
--- Demand 3 over a look: the list, and the table room in two lent slices, after a reading and any run of replacing calls.
+-- Demand 3 over a look: the list, and the table room, after a reading and any run of replacing calls.
 use mathlib.Core.Path.{_≡_}
 use mathlib.Core.List.{List, [], _∷_}
 use Prim.Native.Nat.{ℕ}

@@ -12,6 +12,7 @@ use Rattle.clf.specs.List.{Child, node, description, inputDescriptor, outputDes
 use Rattle.clf.specs.Places.{nodeSpan}
 use Rattle.clf.specs.Reading.{isNumbered, Reading, accepted, faulty, unfit, mostBytes, nodesAmong, placeIn}
 use Rattle.look.specs.Replacing.{element, Replacing, replaced, refused, replace, listAfter}
+use Rattle.refusals.specs.Refusals as Refusal
 
 -- what a reading answers, in the terms of a call
 abbrev pub asReplacing : Reading → Replacing
@@ -36,32 +37,32 @@ trying s w e = tries (w .0) (spliced s w e)
 -- 'Where the rules above give 19, 4, 1 or 20, it answers that and tries none'
 abbrev pub attemptElement : List ℕ → ℕ × ℕ → List ℕ → Out Element → Attempt
 attemptElement s w e (done n []) = trying s w e
-attemptElement s w e (done n (b ∷ r)) = answers (refused 20 (placeIn e (b ∷ r)))
-attemptElement s w e (fault j r) = cond (eqb j 20) (answers (refused 20 (placeIn e r))) (trying s w e)
-attemptElement s w e cut = answers (refused 1 (length e))
+attemptElement s w e (done n (b ∷ r)) = answers (refused Refusal.notOneNode (placeIn e (b ∷ r)))
+attemptElement s w e (fault j r) = cond (eqb j Refusal.notOneNode) (answers (refused Refusal.notOneNode (placeIn e r))) (trying s w e)
+attemptElement s w e cut = answers (refused Refusal.cutShort (length e))
 
 -- a file without a ProcessList is no accepted file, and its list no reading: 16
 abbrev pub attemptIn : List ℕ → ℕ → List ℕ → Out Document → Attempt
 attemptIn s k e (done d r) =
     cond (isNumbered k (length (nodesAmong (d .parts))))
-    (cond (ltb mostBytes (length e)) (answers (refused 4 0)) (attemptElement s (nodeSpan s (k - 1)) e (element .run e)))
-    (answers (refused 19 0))
-attemptIn s k e (fault j r) = answers (refused 16 0)
-attemptIn s k e cut = answers (refused 16 0)
+    (cond (ltb mostBytes (length e)) (answers (refused Refusal.tooLong 0)) (attemptElement s (nodeSpan s (k - 1)) e (element .run e)))
+    (answers (refused Refusal.noSuchNode 0))
+attemptIn s k e (fault j r) = answers (refused Refusal.noReading 0)
+attemptIn s k e cut = answers (refused Refusal.noReading 0)
 
 unfoldable pub attempt : List ℕ → ℕ → List ℕ → Attempt
 attempt s k e = attemptIn s k e (document .run s)
 
 -- 'else it answers as reading the tried file into room of the same length does: 0, and the tried file takes over; 10 or 13, with reading's place;
 -- another number, with reading's place less the start of node k. Refused, the old file stays'
-abbrev pub settled : ℕ → List ℕ → List ℕ → Reading → Replacing × List ℕ
-settled at s t (accepted l) = (replaced l, t)
-settled at s t (faulty n p) = (refused n (p - at), s)
-settled at s t (unfit n p) = (refused n p, s)
+abbrev pub answeredBy : ℕ → List ℕ → List ℕ → Reading → Replacing × List ℕ
+answeredBy at s t (accepted l) = (replaced l, t)
+answeredBy at s t (faulty n p) = (refused n (p - at), s)
+answeredBy at s t (unfit n p) = (refused n p, s)
 
 abbrev pub byAttempt : (List ℕ → Reading) → List ℕ → Attempt → Replacing × List ℕ
 byAttempt reads s (answers a) = (a, s)
-byAttempt reads s (tries at t) = settled at s t (reads t)
+byAttempt reads s (tries at t) = answeredBy at s t (reads t)
 
 -- a call by the file, for a way of reading: its answer, and the file after it
 abbrev pub fileCall : (List ℕ → Reading) → List ℕ → ℕ × List ℕ → Replacing × List ℕ

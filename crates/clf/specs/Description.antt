@@ -43,7 +43,7 @@ textLength (done t r) = length (t .1)
 textLength (fault k r) = 0
 textLength cut = 0
 
--- a part of the file: its first byte's place, and how many bytes it has; `no part` is the empty one at the file's beginning
+-- a part of the file: its first byte's place, and how many bytes it has; `noPart` is the empty one at the file's beginning
 abbrev pub noPart : ℕ × ℕ
 noPart = (0, 0)
 

@@ -11,6 +11,7 @@ use Rattle.xml.specs.Bytes.{bytes, same}
 use Rattle.xml.specs.Xml.{word, Attribute, isNamed, Rules, Tag, startTag, endTag, strayEnd}
 use Rattle.xml.specs.Elements.{Part, misc, child, close, between, textElement, info}
 use Rattle.clf.specs.Nodes.{NodeName, isMatrix, isLut1d, isRange, isCdl, notCarried, noNode, nodeName, nodeFault, nodeBody}
+use Rattle.refusals.specs.Refusals as Refusal
 
 -- 'It starts at byte 0 with the 38 bytes'; 'another start is 3 at 0, a start cut short is 1'
 abbrev pub declaration : List ℕ
@@ -38,9 +39,9 @@ noFlags = record { input = false; output = false; info = false }
 unfoldable pub childFault : Flags → List ℕ → ℕ
 childFault st w =
     cond (same w (bytes "Description")) 0
-    (cond (same w (bytes "InputDescriptor")) (cond (st .input) 5 0)
-    (cond (same w (bytes "OutputDescriptor")) (cond (st .output) 5 0)
-    (cond (same w (bytes "Info")) (cond (st .info) 5 0)
+    (cond (same w (bytes "InputDescriptor")) (cond (st .input) Refusal.wrongElement 0)
+    (cond (same w (bytes "OutputDescriptor")) (cond (st .output) Refusal.wrongElement 0)
+    (cond (same w (bytes "Info")) (cond (st .info) Refusal.wrongElement 0)
     (nodeFault (nodeName w)))))
 
 unfoldable pub childBody : List ℕ → G Child
@@ -69,18 +70,18 @@ nextFlags st close = last tt
 -- '`id` (not empty), `compCLFversion` "3.0"': another version is 6
 abbrev pub listTexts : List ℕ → List ℕ → ℕ
 listTexts w t =
-    cond (same w (bytes "id")) (cond (eqb (length t) 0) 8 0)
-    (cond (same w (bytes "compCLFversion")) (cond (same t (bytes "3.0")) 0 6) 0)
+    cond (same w (bytes "id")) (cond (eqb (length t) 0) Refusal.wrongAttribute 0)
+    (cond (same w (bytes "compCLFversion")) (cond (same t (bytes "3.0")) 0 Refusal.wrongVersion) 0)
 
 abbrev pub listMissing : List Attribute → ℕ
-listMissing l = cond (isNamed (bytes "id") l && isNamed (bytes "compCLFversion") l) 0 8
+listMissing l = cond (isNamed (bytes "id") l && isNamed (bytes "compCLFversion") l) 0 Refusal.wrongAttribute
 
 abbrev pub listRules : Rules
 listRules = record { names = λ w. 0; texts = listTexts; opened = listMissing; emptied = listMissing }
 
 -- 'a root of another name' is 5
 abbrev pub rootFault : List ℕ → ℕ
-rootFault w = cond (same w (bytes "ProcessList")) 0 5
+rootFault w = cond (same w (bytes "ProcessList")) 0 Refusal.wrongElement
 
 abbrev pub toRoot : Part (List ℕ) → Turn (Unit {0}) (Unit {0})
 toRoot misc = again tt
@@ -93,7 +94,7 @@ prologue = loop (λ (st : Unit {0}). seq (between strayEnd rootFault (λ w. ret 
 
 -- all up to the end of the root's start tag
 unfoldable pub head : G Tag
-head = blame (word declaration 3) >> prologue >> startTag listRules
+head = blame (word declaration Refusal.formNotCarried) >> prologue >> startTag listRules
 
 -- a file's parts: the bytes up to the end of the root's start tag, and the items of ProcessList, each with its bytes
 pub record Document : Type 0 where
@@ -117,7 +118,7 @@ onward o = thenOut o (λ p r. done (again tt) r)
 
 abbrev pub tailPart : Parser (Turn (Unit {0}) (Unit {0}))
 tailPart [] = done (last tt) []
-tailPart (b ∷ s) = onward ((between strayEnd (λ w. 5) (λ w. bad {A = Unit {0}} 5)) .run (b ∷ s))
+tailPart (b ∷ s) = onward ((between strayEnd (λ w. Refusal.wrongElement) (λ w. bad {A = Unit {0}} Refusal.wrongElement)) .run (b ∷ s))
 
 unfoldable pub tail : Parser (Unit {0})
 tail = loopP (λ (st : Unit {0}). tailPart) tt

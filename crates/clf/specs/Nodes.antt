@@ -24,6 +24,7 @@ use Rattle.xml.specs.Bytes.{bytes, same, isDigit}
 use Rattle.xml.specs.Xml.{Attribute, isNamed, textOf, Rules, plain, Tag, startTag}
 use Rattle.xml.specs.Elements.{Holder, held, textElement}
 use Rattle.clf.specs.Numbers.{numbers, anyNumber, notBelowZero, onlyOne, valueElement}
+use Rattle.refusals.specs.Refusals as Refusal
 
 abbrev pub isSome : {A : Type 0} → Option A → Bool
 isSome none = false
@@ -46,11 +47,11 @@ depthOf t =
 
 -- a text that is no depth is 8, on these two attributes; others are judged by `rest`
 abbrev pub nodeTexts : (List ℕ → List ℕ → ℕ) → List ℕ → List ℕ → ℕ
-nodeTexts rest w t = cond (same w (bytes "inBitDepth") || same w (bytes "outBitDepth")) (cond (isSome (depthOf t)) 0 8) (rest w t)
+nodeTexts rest w t = cond (same w (bytes "inBitDepth") || same w (bytes "outBitDepth")) (cond (isSome (depthOf t)) 0 Refusal.wrongAttribute) (rest w t)
 
 -- one of the two that is missing is 8
 abbrev pub nodeMissing : List Attribute → ℕ
-nodeMissing l = cond (isNamed (bytes "inBitDepth") l && isNamed (bytes "outBitDepth") l) 0 8
+nodeMissing l = cond (isNamed (bytes "inBitDepth") l && isNamed (bytes "outBitDepth") l) 0 Refusal.wrongAttribute
 
 -- the depth of the attribute of this name. It is there and right, or the start tag is at fault (`nodeMissing`, `nodeTexts`): the default is never taken
 abbrev pub depthAt : List ℕ → List Attribute → Depth
@@ -62,7 +63,7 @@ elementWith l kind ns = record { kind = kind; input = depthAt (bytes "inBitDepth
 
 -- the rules of a node's start tag; one that may not be empty lacks an element: 5 at the `/>`, the lowest there
 abbrev pub nodeRules : (List ℕ → ℕ) → (List ℕ → List ℕ → ℕ) → Rules
-nodeRules names texts = record { names = names; texts = nodeTexts texts; opened = nodeMissing; emptied = λ l. 5 }
+nodeRules names texts = record { names = names; texts = nodeTexts texts; opened = nodeMissing; emptied = λ l. Refusal.wrongElement }
 
 -- ---- Array
 
@@ -97,9 +98,9 @@ lutShape t =
 abbrev pub arrayRules : (List ℕ → Option Kind) → Rules
 arrayRules shape = record {
   names = λ w. 0;
-  texts = λ w t. cond (same w (bytes "dim")) (cond (isSome (shape t)) 0 8) 0;
-  opened = λ l. cond (isNamed (bytes "dim") l) 0 8;
-  emptied = λ l. cond (isNamed (bytes "dim") l) 22 8;
+  texts = λ w t. cond (same w (bytes "dim")) (cond (isSome (shape t)) 0 Refusal.wrongAttribute) 0;
+  opened = λ l. cond (isNamed (bytes "dim") l) 0 Refusal.wrongAttribute;
+  emptied = λ l. cond (isNamed (bytes "dim") l) Refusal.wrongCount Refusal.wrongAttribute;
 }
 
 -- a table: its shape and its numbers
@@ -108,7 +109,7 @@ Table = Kind × List Decimal
 
 -- the numbers of an Array of this shape. A `dim` of no shape is 8 in the start tag already, so that `none` does not come here
 abbrev pub arrayOf : Option Kind → G Table
-arrayOf none = bad 8
+arrayOf none = bad Refusal.wrongAttribute
 arrayOf (some k) = seq (numbers (bytes "Array") (numbersOf k) anyNumber) (λ l. ret (k, l))
 
 unfoldable pub array : (List ℕ → Option Kind) → G Table
@@ -132,8 +133,8 @@ arrayBody shape st w =
 abbrev pub arrayHolder : List ℕ → (List ℕ → Option Kind) → Holder ArrayState
 arrayHolder w shape = record {
   name = w;
-  missing = λ st. cond (isSome (st .table)) 0 5;
-  fault = λ st v. cond (isSome (st .table)) 5 (cond (same v (bytes "Array") || same v (bytes "Description")) 0 5);
+  missing = λ st. cond (isSome (st .table)) 0 Refusal.wrongElement;
+  fault = λ st v. cond (isSome (st .table)) Refusal.wrongElement (cond (same v (bytes "Array") || same v (bytes "Description")) 0 Refusal.wrongElement);
   body = arrayBody shape;
 }
 
@@ -149,11 +150,11 @@ matrix = do
 
 -- 'halfDomain and rawHalfs on a LUT1D' are known but not carried: 7 at the attribute
 abbrev pub lutNames : List ℕ → ℕ
-lutNames w = cond (same w (bytes "halfDomain") || same w (bytes "rawHalfs")) 7 0
+lutNames w = cond (same w (bytes "halfDomain") || same w (bytes "rawHalfs")) Refusal.notCarried 0
 
 -- '`interpolation`, if there, is "linear"'
 abbrev pub lutTexts : List ℕ → List ℕ → ℕ
-lutTexts w t = cond (same w (bytes "interpolation")) (cond (same t (bytes "linear")) 0 8) 0
+lutTexts w t = cond (same w (bytes "interpolation")) (cond (same t (bytes "linear")) 0 Refusal.wrongAttribute) 0
 
 unfoldable pub lut1d : G Element
 lut1d = do
@@ -197,8 +198,8 @@ inOrder st = less (valueAt 0 st) (valueAt 1 st) && atMost (valueAt 2 st) (valueA
 
 abbrev pub rangeFault : RangeState → List ℕ → ℕ
 rangeFault st w =
-    cond (same w (bytes "Description")) (cond (anyThere st) 5 0)
-    (cond (ltb (rangeIndex w) 4) (cond (isThere (rangeIndex w) st) 5 0) 5)
+    cond (same w (bytes "Description")) (cond (anyThere st) Refusal.wrongElement 0)
+    (cond (ltb (rangeIndex w) 4) (cond (isThere (rangeIndex w) st) Refusal.wrongElement 0) Refusal.wrongElement)
 
 -- the number of a value element, which has exactly one (`valueElement w 1`): an empty list does not come here
 abbrev pub oneOf : List Decimal → Decimal
@@ -215,14 +216,14 @@ rangeBody st w =
 abbrev pub rangeHolder : Holder RangeState
 rangeHolder = record {
   name = bytes "Range";
-  missing = λ st. cond (allThere st) (cond (inOrder st) 0 21) 5;
+  missing = λ st. cond (allThere st) (cond (inOrder st) 0 Refusal.ruleBroken) Refusal.wrongElement;
   fault = rangeFault;
   body = rangeBody;
 }
 
 -- '`style` "Clamp" (when absent) or "noClamp"'
 abbrev pub rangeTexts : List ℕ → List ℕ → ℕ
-rangeTexts w t = cond (same w (bytes "style")) (cond (same t (bytes "Clamp") || same t (bytes "noClamp")) 0 8) 0
+rangeTexts w t = cond (same w (bytes "style")) (cond (same t (bytes "Clamp") || same t (bytes "noClamp")) 0 Refusal.wrongAttribute) 0
 
 -- the style by its text, which has been judged: what is not "noClamp" is "Clamp", or absent
 abbrev pub rangeStyle : List ℕ → RangeStyle
@@ -242,7 +243,7 @@ range = do
 
 -- an element that may not be empty: 5 at the `/>`
 abbrev pub holderRules : Rules
-holderRules = record { names = λ w. 0; texts = λ w t. 0; opened = λ l. 0; emptied = λ l. 5 }
+holderRules = record { names = λ w. 0; texts = λ w t. 0; opened = λ l. 0; emptied = λ l. Refusal.wrongElement }
 
 -- the element that follows so many numbers in a SOPNode; none where it has all
 abbrev pub sopName : ℕ → List ℕ
@@ -255,7 +256,7 @@ sopRule n = cond (eqb n 0) notBelowZero (cond (eqb n 3) anyNumber onlyOne)
 abbrev pub sopHolder : Holder (List Decimal)
 sopHolder = record {
   name = bytes "SOPNode";
-  missing = λ l. cond (ltb (length l) 9) 5 0;
+  missing = λ l. cond (ltb (length l) 9) Refusal.wrongElement 0;
   fault = λ l w. cond (same w (sopName (length l))) 0 5;
   body = λ l w. seq (valueElement w 3 (sopRule (length l))) (λ m. ret (l ++ m));
 }
@@ -266,8 +267,8 @@ sopNode = startTag holderRules >> held sopHolder []
 abbrev pub satHolder : Holder (List Decimal)
 satHolder = record {
   name = bytes "SatNode";
-  missing = λ l. cond (ltb (length l) 1) 5 0;
-  fault = λ l w. cond (ltb (length l) 1) (cond (same w (bytes "Saturation")) 0 5) 5;
+  missing = λ l. cond (ltb (length l) 1) Refusal.wrongElement 0;
+  fault = λ l w. cond (ltb (length l) 1) (cond (same w (bytes "Saturation")) 0 Refusal.wrongElement) Refusal.wrongElement;
   body = λ l w. seq (valueElement w 1 notBelowZero) (λ m. ret (l ++ m));
 }
 
@@ -283,9 +284,9 @@ noCdl = record { sop = none; sat = none }
 
 abbrev pub cdlFault : CdlState → List ℕ → ℕ
 cdlFault st w =
-    cond (same w (bytes "Description")) (cond (isSome (st .sop) || isSome (st .sat)) 5 0)
-    (cond (same w (bytes "SOPNode")) (cond (isSome (st .sop) || isSome (st .sat)) 5 0)
-    (cond (same w (bytes "SatNode")) (cond (isSome (st .sat)) 5 0) 5))
+    cond (same w (bytes "Description")) (cond (isSome (st .sop) || isSome (st .sat)) Refusal.wrongElement 0)
+    (cond (same w (bytes "SOPNode")) (cond (isSome (st .sop) || isSome (st .sat)) Refusal.wrongElement 0)
+    (cond (same w (bytes "SatNode")) (cond (isSome (st .sat)) Refusal.wrongElement 0) Refusal.wrongElement))
 
 abbrev pub cdlBody : CdlState → List ℕ → G CdlState
 cdlBody st w =
@@ -301,7 +302,7 @@ abbrev pub cdlTexts : List ℕ → List ℕ → ℕ
 cdlTexts w t =
     cond (same w (bytes "style"))
     (cond (same t (bytes "Fwd") || same t (bytes "FwdNoClamp")) 0
-    (cond (same t (bytes "Rev") || same t (bytes "RevNoClamp")) 7 8)) 0
+    (cond (same t (bytes "Rev") || same t (bytes "RevNoClamp")) Refusal.notCarried Refusal.wrongAttribute)) 0
 
 -- 'Absent parts read as 1, 0, 1 and 1'
 abbrev pub oneNumber : Decimal
@@ -365,8 +366,8 @@ nodeFault isMatrix = 0
 nodeFault isLut1d = 0
 nodeFault isRange = 0
 nodeFault isCdl = 0
-nodeFault notCarried = 7
-nodeFault noNode = 5
+nodeFault notCarried = Refusal.notCarried
+nodeFault noNode = Refusal.wrongElement
 
 -- a node after its name. One that is not carried, and a name that is none, is at fault at its `<` already (`nodeFault`): the last two are never taken
 abbrev pub nodeBody : NodeName → G Element
@@ -374,5 +375,5 @@ nodeBody isMatrix = matrix
 nodeBody isLut1d = lut1d
 nodeBody isRange = range
 nodeBody isCdl = ascCdl
-nodeBody notCarried = bad 7
-nodeBody noNode = bad 5
+nodeBody notCarried = bad Refusal.notCarried
+nodeBody noNode = bad Refusal.wrongElement

@@ -15,6 +15,7 @@ use Rattle.grammar.specs.Grammar.{G, ret, look, judge, eat, seq, loop, _>>_}
 use Rattle.xml.specs.Bytes.{isSpace, lessThan}
 use Rattle.xml.specs.Xml.{text, Rules, startTag}
 use Rattle.xml.specs.Elements.{onlyEnd}
+use Rattle.refusals.specs.Refusals as Refusal
 
 -- 'white space alone parts the numbers': a token ends at white space or at `<`; `&` forms in it part nothing
 abbrev pub endsToken : ℕ → Bool
@@ -30,14 +31,14 @@ saidBy Malformed = Decimals.zero
 
 -- what a token is at fault of, after so many numbers of n: 9 if it is no number, 22 if it is one too many, else what the rule says of the number
 abbrev pub faultOf : ℕ → (Decimal → ℕ) → ℕ → Token → ℕ
-faultOf n rule count (Number d) = cond (leb n count) 22 (rule d)
-faultOf n rule count Malformed = 9
+faultOf n rule count (Number d) = cond (leb n count) Refusal.wrongCount (rule d)
+faultOf n rule count Malformed = Refusal.noNumber
 
 -- 'A token is judged at its end', and placed at its first byte; at the end tag too few numbers are 22
 abbrev pub numberByte : List ℕ → ℕ → (Decimal → ℕ) → List Decimal → ℕ → G (Turn (List Decimal) (List Decimal))
 numberByte w n rule l b =
     cond (isSpace b) (eat >> ret (again l))
-    (cond (eqb b lessThan) (onlyEnd w (cond (ltb (length l) n) 22 0) >> ret (last l))
+    (cond (eqb b lessThan) (onlyEnd w (cond (ltb (length l) n) Refusal.wrongCount 0) >> ret (last l))
     (seq (judge (λ t. faultOf n rule (length l) (tokenOf (t .1))) token) (λ t. ret (again (l ++ saidBy (tokenOf (t .1)) ∷ [])))))
 
 -- the n numbers of an element of this name, each kept to the rule, and its end tag
@@ -51,17 +52,17 @@ anyNumber d = 0
 
 -- 'Slope ≥ 0', 'Saturation ≥ 0': 21
 abbrev pub notBelowZero : Decimal → ℕ
-notBelowZero d = cond (notNegative d) 0 21
+notBelowZero d = cond (notNegative d) 0 Refusal.ruleBroken
 
 -- 'Power > 0' is 21, 'a Power above 0 that is not 1' 7
 abbrev pub onlyOne : Decimal → ℕ
-onlyOne d = cond (positive d) (cond (isOne d) 0 7) 21
+onlyOne d = cond (positive d) (cond (isOne d) 0 Refusal.notCarried) Refusal.ruleBroken
 
 -- ---- value elements
 
 -- one that is empty has too few numbers: 22 at the `/>`
 abbrev pub valueRules : Rules
-valueRules = record { names = λ w. 0; texts = λ w t. 0; opened = λ l. 0; emptied = λ l. 22 }
+valueRules = record { names = λ w. 0; texts = λ w t. 0; opened = λ l. 0; emptied = λ l. Refusal.wrongCount }
 
 -- a value element of this name, after its name
 unfoldable pub valueElement : List ℕ → ℕ → (Decimal → ℕ) → G (List Decimal)

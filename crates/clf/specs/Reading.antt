@@ -10,6 +10,7 @@ use Rattle.process_list.specs.List.{Element, verdict, byVerdict, mostNumbers}
 use Rattle.grammar.specs.Parse.{Out, done, fault, cut}
 use Rattle.xml.specs.Elements.{Part, misc, child, close}
 use Rattle.clf.specs.List.{Child, node, description, inputDescriptor, outputDescriptor, infoChild, Document, document, tail}
+use Rattle.refusals.specs.Refusals as Refusal
 
 -- 'At most 16 MiB (16,777,216 bytes)'
 abbrev pub mostBytes : ℕ
@@ -52,12 +53,12 @@ listReading room l = readingBy l (verdict room l)
 abbrev pub tailReading : ℕ → List ℕ → Document → Out (Unit {0}) → Reading
 tailReading room s d (done u r) = listReading room (nodesAmong (d .parts))
 tailReading room s d (fault k r) = faulty k (placeIn s r)
-tailReading room s d cut = faulty 1 (length s)
+tailReading room s d cut = faulty Refusal.cutShort (length s)
 
 abbrev pub textReading : ℕ → List ℕ → Out Document → Reading
 textReading room s (done d r) = tailReading room s d (tail r)
 textReading room s (fault k r) = faulty k (placeIn s r)
-textReading room s cut = faulty 1 (length s)
+textReading room s cut = faulty Refusal.cutShort (length s)
 
 -- reading without the limit of 16 MiB
 unfoldable pub readText : ℕ → List ℕ → Reading
@@ -65,7 +66,7 @@ readText room s = textReading room s (document .run s)
 
 -- reading a file into a room of this length
 unfoldable pub read : ℕ → List ℕ → Reading
-read room s = cond (ltb mostBytes (length s)) (faulty 4 0) (readText room s)
+read room s = cond (ltb mostBytes (length s)) (faulty Refusal.tooLong 0) (readText room s)
 
 -- its refusal number, its place, its nodes: 'a refused reading gives no nodes'
 abbrev pub readingNumber : Reading → ℕ
@@ -94,7 +95,7 @@ isNumbered k count = ltb 0 k && leb k count
 
 -- a Description's 'number (reading's, then 19) is a second question'
 abbrev pub askedFor : ℕ → Reading → Reading
-askedFor k (accepted l) = cond (isNumbered k (length l)) (accepted l) (faulty 19 0)
+askedFor k (accepted l) = cond (isNumbered k (length l)) (accepted l) (faulty Refusal.noSuchNode 0)
 askedFor k (faulty j p) = faulty j p
 askedFor k (unfit j p) = unfit j p
 

@@ -66,14 +66,14 @@ pub extern "C" fn clf_apply(
 {
     if pixels.len() % 3 != 0 {
         return FileCheck {
-            number: 14,
+            number: refusals::NOT_THREES,
             place: 0,
         };
     }
     let first = pixel_run::first_not_finite(pixels);
     if first < pixels.len() {
         return FileCheck {
-            number: 15,
+            number: refusals::NOT_FINITE,
             place: first as u64,
         };
     }

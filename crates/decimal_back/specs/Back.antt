@@ -13,7 +13,7 @@ use lib.ListN.{length}
 use Rattle.decimal.specs.declared.Decimal.{Decimal}
 use Rattle.decimal.specs.declared.Token.the-variants.{Number}
 use Rattle.decimal.specs.Decimal.{size, inRange}
-use Rattle.decimal_read.specs.Number.{Form, isMark, isEmpty, isMinus, behindSign, digitsOf, behindDigits, fractionOf, behindFraction, isExponent, exponentMinus, exponentDigits, formOf, append, withSign, scale, zeros, trailing, judged, tokenOf}
+use Rattle.decimal_read.specs.Number.{Form, isMark, isEmpty, isMinus, behindSign, digitsOf, behindDigits, fractionOf, behindFraction, isExponent, exponentMinus, exponentDigits, formOf, append, withSign, scale, zeros, trailing, tokenBy, tokenOf}
 use Rattle.decimal_read.specs.Number as Read
 use Rattle.decimal_write.specs.Written.{digits, whole, exponent, writtenOf, isNormal}
 use Rattle.decimal_write.specs.Laws.{written-short, written-parts, digits-short, digits-some}
@@ -187,8 +187,8 @@ and-right : (a b : Bool) → (a && b) ≡ true → b ≡ true
 and-right true b h = h
 and-right false b h = absurd (false≢true h)
 
-judged-is : (k : ℕ) (o : Option Form) (f : Form) (d : Decimal) → k ≤ 64 → o ≡ some f → Read.normal f ≡ d → inRange d ≡ true → judged k o ≡ Number d
-unfolding judged
+judged-is : (k : ℕ) (o : Option Form) (f : Form) (d : Decimal) → k ≤ 64 → o ≡ some f → Read.normal f ≡ d → inRange d ≡ true → tokenBy k o ≡ Number d
+unfolding tokenBy
 judged-is k o f d l e n h = rw (e, le-leb k 64 l, n, h)
 
 -- a number that a token can stand for, written, is read as that number

@@ -12,7 +12,7 @@ use lib.ListN.{length}
 use Rattle.decimal.specs.declared.Decimal.{Decimal}
 use Rattle.decimal.specs.declared.Token.the-variants.{Number, Malformed}
 use Rattle.decimal.specs.Decimal.{size, inRange}
-use Rattle.decimal_read.specs.Number.{Form, behindSign, digitsOf, behindDigits, fractionOf, behindFraction, isExponent, formOf, append, withSign, scale, trailing, judged, tokenOf}
+use Rattle.decimal_read.specs.Number.{Form, behindSign, digitsOf, behindDigits, fractionOf, behindFraction, isExponent, formOf, append, withSign, scale, trailing, tokenBy, tokenOf}
 use Rattle.decimal_read.specs.Number as Read
 use Rattle.decimal_read.proofs.Zeros.{Stripped, found}
 use Rattle.decimal_read.proofs.Stands.{Small, digits-small, fraction-small, both-small, append-lt}
@@ -44,8 +44,8 @@ module _ (f : Form) (small : Small (f .whole ++ f .fraction)) where
       go false e = ended (record { coefficient = withSign (f .negative) (Read.digits f / 10 ^ trailing f); power = scale f +ℤ pos (trailing f) }) (λ z. stripped (let n = eqb-false (Read.digits f) 0 e in omega arith) .ends (ap (λ (k : ℕ). k % 10) (sym (signed-size (f .negative) (Read.digits f / 10 ^ trailing f))) ∙ z))
 
 -- ---- the number of a token
-judged-held : (k : ℕ) (f : Form) (d : Decimal) → Small (f .whole ++ f .fraction) → judged k (some f) ≡ Number d → (inRange d ≡ true) × (isNormal d ≡ true)
-unfolding judged
+judged-held : (k : ℕ) (f : Form) (d : Decimal) → Small (f .whole ++ f .fraction) → tokenBy k (some f) ≡ Number d → (inRange d ≡ true) × (isNormal d ≡ true)
+unfolding tokenBy
 judged-held k f d small = go (leb k 64) (inRange (Read.normal f)) refl
   where
     go : (a b : Bool) → inRange (Read.normal f) ≡ b → cond (a && b) (Number (Read.normal f)) Malformed ≡ Number d → (inRange d ≡ true) × (isNormal d ≡ true)
@@ -53,8 +53,8 @@ judged-held k f d small = go (leb k 64) (inRange (Read.normal f)) refl
     go true false r e = absurd (let z : _≡_ {A = ℕ} 0 1 = cc in omega arith)
     go false b r e = absurd (let z : _≡_ {A = ℕ} 0 1 = cc in omega arith)
 
-none-read : (d : Decimal) (k : ℕ) → judged k none ≡ Number d → ⊥
-unfolding judged
+none-read : (d : Decimal) (k : ℕ) → tokenBy k none ≡ Number d → ⊥
+unfolding tokenBy
 none-read d k e = let z : _≡_ {A = ℕ} 0 1 = cc in omega arith
 
 -- a number that a token stands for is in range and isNormal
@@ -72,6 +72,6 @@ read-held l d = go (leb 1 (length (digitsOf (behindSign l)) + length (fractionOf
           exponent = Read.exponentDigits (behindFraction (behindDigits (behindSign l)));
         }
 
-    go : (t : Bool) → judged (length l) (cond t (some f) none) ≡ Number d → (inRange d ≡ true) × (isNormal d ≡ true)
+    go : (t : Bool) → tokenBy (length l) (cond t (some f) none) ≡ Number d → (inRange d ≡ true) × (isNormal d ≡ true)
     go true e = judged-held (length l) f d (both-small (digits-small (behindSign l)) (fraction-small (behindDigits (behindSign l)))) e
     go false e = absurd (none-read d (length l) e)

@@ -12,7 +12,7 @@ use lib.ListN.{length}
 use Rattle.decimal.specs.Decimal as D
 use Rattle.decimal.specs.declared.Decimal.{Decimal}
 use Rattle.decimal.specs.declared.Token.the-variants.{Number, Malformed}
-use Rattle.decimal_read.specs.Number.{Form, behindSign, digitsOf, behindDigits, fractionOf, behindFraction, isExponent, isMinus, exponentMinus, exponentDigits, digits, normal, formOf, judged, tokenOf}
+use Rattle.decimal_read.specs.Number.{Form, behindSign, digitsOf, behindDigits, fractionOf, behindFraction, isExponent, isMinus, exponentMinus, exponentDigits, digits, normal, formOf, tokenBy, tokenOf}
 use Rattle.decimal_read.proofs.Stands.{Small, digits-small, fraction-small, both-small}
 use Rattle.decimal_laws.specs.Value.{down, Refused}
 
@@ -39,8 +39,8 @@ picked : (t : Bool) (a d : Decimal) → cond t (Number a) Malformed ≡ Number d
 picked true a d e = (refl, same-number a d e)
 picked false a d e = apart d e
 
-of-form : (t : List ℕ) (d : Decimal) (o : Option Form) → formOf t ≡ o → judged (length t) o ≡ Number d → Accepted t d
-unfolding judged
+of-form : (t : List ℕ) (d : Decimal) (o : Option Form) → formOf t ≡ o → tokenBy (length t) o ≡ Number d → Accepted t d
+unfolding tokenBy
 of-form t d none q h = apart d h
 of-form t d (some f) q h = go (picked (leb (length t) 64 && D.inRange (normal f)) (normal f) d h)
   where
@@ -55,8 +55,8 @@ accepted t d e = of-form t d (formOf t) refl e
 
 -- ── A token is refused exactly when it has no form, is longer than 64 bytes, or its normal form is out of range ──
 
-refused-form : (t : List ℕ) (o : Option Form) → formOf t ≡ o → judged (length t) o ≡ Malformed → Refused t
-unfolding judged
+refused-form : (t : List ℕ) (o : Option Form) → formOf t ≡ o → tokenBy (length t) o ≡ Malformed → Refused t
+unfolding tokenBy
 refused-form t none q h = inl q
 refused-form t (some f) q h = go (leb (length t) 64) refl (D.inRange (normal f)) refl h
   where
@@ -69,13 +69,13 @@ refused-token : (t : List ℕ) → tokenOf t ≡ Malformed → Refused t
 unfolding tokenOf
 refused-token t e = refused-form t (formOf t) refl e
 
-long-judged : (n : ℕ) (o : Option Form) → 64 < n → judged n o ≡ Malformed
-unfolding judged
+long-judged : (n : ℕ) (o : Option Form) → 64 < n → tokenBy n o ≡ Malformed
+unfolding tokenBy
 long-judged n none h = refl
 long-judged n (some f) h = rw (lt-leb n 64 h)
 
-out-judged : (n : ℕ) (f : Form) → D.inRange (normal f) ≡ false → judged n (some f) ≡ Malformed
-unfolding judged
+out-judged : (n : ℕ) (f : Form) → D.inRange (normal f) ≡ false → tokenBy n (some f) ≡ Malformed
+unfolding tokenBy
 out-judged n f k = go (leb n 64) (D.inRange (normal f)) k
   where
     go : (a b : Bool) → b ≡ false → cond (a && b) (Number (normal f)) Malformed ≡ Malformed
@@ -83,7 +83,7 @@ out-judged n f k = go (leb n 64) (D.inRange (normal f)) k
     go true b e = rw e
 
 none-malformed : (t : List ℕ) → formOf t ≡ none → tokenOf t ≡ Malformed
-unfolding tokenOf judged
+unfolding tokenOf tokenBy
 none-malformed t e = rw e
 
 long-malformed : (t : List ℕ) → 64 < length t → tokenOf t ≡ Malformed

@@ -5,7 +5,7 @@ use Prim.Native.Nat.{ℕ}
 use lib.IntN.{ℤ, pos, negsuc}
 use Rattle.decimal.specs.declared.Token.{Token}
 use Rattle.decimal.specs.declared.Token.the-variants.{Number, Malformed}
-use Rattle.decimal_read.specs.Number.{isDigit, isMark, isMinus, behindSign, digitsOf, behindDigits, fractionOf, behindFraction, isEmpty, isExponent, exponentMinus, exponentDigits, formOf, append, withSign, digits, scale, zeros, trailing, normal, judged, tokenOf}
+use Rattle.decimal_read.specs.Number.{isDigit, isMark, isMinus, behindSign, digitsOf, behindDigits, fractionOf, behindFraction, isEmpty, isExponent, exponentMinus, exponentDigits, formOf, append, withSign, digits, scale, zeros, trailing, normal, tokenBy, tokenOf}
 
 number : ℤ → ℤ → Token
 number c p = Number (record { coefficient = c; power = p })
@@ -82,5 +82,5 @@ answers =
     []
 
 pub examples : map tokenOf tokens ≡ answers
-unfolding number tokens answers isDigit isMark isMinus behindSign digitsOf behindDigits fractionOf behindFraction isEmpty isExponent exponentMinus exponentDigits formOf append withSign digits scale zeros trailing normal judged tokenOf
+unfolding number tokens answers isDigit isMark isMinus behindSign digitsOf behindDigits fractionOf behindFraction isEmpty isExponent exponentMinus exponentDigits formOf append withSign digits scale zeros trailing normal tokenBy tokenOf
 examples = refl

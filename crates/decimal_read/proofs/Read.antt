@@ -16,7 +16,7 @@ use Rattle.decimal_read.specs.declared.Held.{Held}
 use Rattle.decimal_read.specs.declared.Run.{Run}
 use Rattle.decimal_read.specs.declared.Exponent.{Exponent}
 use Rattle.decimal_read.specs.declared.Exponent.the-variants.{Up, Down, Wrong}
-use Rattle.decimal_read.specs.Number.{Form, isMark, isEmpty, isMinus, behindSign, digitsOf, behindDigits, fractionOf, behindFraction, isExponent, exponentMinus, exponentDigits, append, digits, scale, judged, formOf, tokenOf}
+use Rattle.decimal_read.specs.Number.{Form, isMark, isEmpty, isMinus, behindSign, digitsOf, behindDigits, fractionOf, behindFraction, isExponent, exponentMinus, exponentDigits, append, digits, scale, tokenBy, formOf, tokenOf}
 use Rattle.decimal_read.specs.Steps.{noDigits, heldAll, RunOf, FractionOf, exponentOf, exponentAt, raised}
 use Rattle.decimal_read.proofs.Zeros.{pow-above, least}
 use Rattle.decimal_read.proofs.Stands.{Small, digits-small, fraction-small, both-small, held-both, append-lt, Stands, exact, lost, none-read, stands-all}
@@ -45,7 +45,7 @@ abbrev formWith : Bool → List ℕ → List ℕ → Bool → List ℕ → Form
 formWith s w p minus e = record { negative = s; whole = w; fraction = p; down = minus; exponent = e }
 
 module _ (s : Bool) (w p : List ℕ) (n : ℕ) (h : Held) (small : Small (w ++ p)) (fits : h .value < 10 ^ 19) (stands : Stands (append 0 (w ++ p)) h) where
-  either : (minus : Bool) (e : List ℕ) → raised s n h (length p) (cond minus (Down (append 0 e)) (Up (append 0 e))) ≡ judged n (some (formWith s w p minus e))
+  either : (minus : Bool) (e : List ℕ) → raised s n h (length p) (cond minus (Down (append 0 e)) (Up (append 0 e))) ≡ tokenBy n (some (formWith s w p minus e))
   unfolding raised digits scale
   either true e = settled-is (formWith s w p true e) h 0 (append 0 e) small fits stands (λ m. power-down (append 0 e) (length p) m ∙ ap (λ (k : ℕ). subℕ k (length p + append 0 e)) (omega arith)) n
   either false e = settled-is (formWith s w p false e) h (append 0 e) 0 small fits stands (λ m. power-up (append 0 e) (length p) m ∙ ap (λ (k : ℕ). subℕ (append 0 e + m) k) (omega arith)) n
@@ -58,17 +58,17 @@ module _ (s : Bool) (w p : List ℕ) (n : ℕ) (h : Held) (small : Small (w ++ p
   tests true false c d e y q = refl
   tests false b c d e y q = refl
 
-  behind : (rest : List ℕ) → raised s n h (length p) (exponentAt rest) ≡ cond (isExponent rest) (judged n (some (formWith s w p (exponentMinus rest) (exponentDigits rest)))) Malformed
+  behind : (rest : List ℕ) → raised s n h (length p) (exponentAt rest) ≡ cond (isExponent rest) (tokenBy n (some (formWith s w p (exponentMinus rest) (exponentDigits rest)))) Malformed
   unfolding exponentAt isExponent exponentMinus exponentDigits exponentOf append
   behind [] = either false []
   behind (b ∷ l) =
       let e : List ℕ = digitsOf (behindSign l) in
-      tests (isMark b) (isEmpty (behindDigits (behindSign l))) (leb 1 (length e)) (leb (length e) 2) (cond (isMinus l) (Down (append 0 e)) (Up (append 0 e))) (judged n (some (formWith s w p (isMinus l) e))) (either (isMinus l) e)
+      tests (isMark b) (isEmpty (behindDigits (behindSign l))) (leb 1 (length e)) (leb (length e) 2) (cond (isMinus l) (Down (append 0 e)) (Up (append 0 e))) (tokenBy n (some (formWith s w p (isMinus l) e))) (either (isMinus l) e)
 
 -- ── The token ──
 
-pick : (n : ℕ) (b : Bool) (f : Form) → cond b (judged n (some f)) Malformed ≡ judged n (cond b (some f) none)
-unfolding judged
+pick : (n : ℕ) (b : Bool) (f : Form) → cond b (tokenBy n (some f)) Malformed ≡ tokenBy n (cond b (some f) none)
+unfolding tokenBy
 pick n true f = refl
 pick n false f = refl
 
@@ -107,7 +107,7 @@ module _ (t : List ℕ) (from : ℕ) (w p : Run) (e : drop from t ≡ behindSign
   stands = subst (λ (h : Held). Stands (append 0 (whole ++ part)) h) (sym held) (stands-all 0 noDigits all-small none-read)
 
   pub read-none : w .count + p .count < 1 → Malformed ≡ tokenOf t
-  unfolding tokenOf formOf judged
+  unfolding tokenOf formOf tokenBy
   read-none h = rw (lt-leb 1 (length whole + length part) (omega (arith, whole-count, part-count)))
 
   pub read-some : 1 ≤ w .count + p .count → (x : Exponent) → x ≡ exponentAt (drop (p .end) t) → (m : Bool) → m ≡ isMinus t → (r : Token) → r ≡ raised m (length t) (p .held) (p .count) x → r ≡ tokenOf t

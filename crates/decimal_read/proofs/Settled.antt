@@ -15,7 +15,7 @@ use Rattle.decimal.specs.Decimal as D
 use Rattle.decimal.specs.declared.Token.{Token}
 use Rattle.decimal.specs.declared.Token.the-variants.{Number, Malformed}
 use Rattle.decimal_read.specs.declared.Held.{Held}
-use Rattle.decimal_read.specs.Number.{Form, digits, scale, zeros, trailing, normal, withSign, judged}
+use Rattle.decimal_read.specs.Number.{Form, digits, scale, zeros, trailing, normal, withSign, tokenBy}
 use Rattle.decimal_read.specs.Steps.{zerosOf, coefficientOf, ranged, settled}
 use Rattle.decimal_read.proofs.Zeros.{Stripped, found, one-pair, pow-above, least}
 use Rattle.decimal_read.proofs.Stands.{Small, Stands, exact, lost, append-lt}
@@ -100,8 +100,8 @@ module _ (f : Form) (h : Held) (up down : ℕ) (small : Small (f .whole ++ f .fr
   core true e = ap accepted (sym (normal-zero f (none (eqb-true (h .value) 0 e) stands)))
   core false e = other (eqb-false (h .value) 0 e) stands
 
-  pub settled-is : (n : ℕ) → settled (f .negative) n h (length (f .fraction)) up down ≡ judged n (some f)
-  unfolding settled judged
+  pub settled-is : (n : ℕ) → settled (f .negative) n h (length (f .fraction)) up down ≡ tokenBy n (some f)
+  unfolding settled tokenBy
   settled-is n = go (leb n 64)
     where
       go : (t : Bool) → cond t (cond (eqb (h .value) 0) (Number D.zero) reached) Malformed ≡ cond (t && D.inRange (normal f)) (Number (normal f)) Malformed

@@ -132,11 +132,11 @@ normal f =
 
 -- ── The token ──
 
--- what a token of n bytes says that has no form, and one that has the form f: 'at most 64 bytes', and the limits, judged on the normal form
-unfoldable pub judged : ℕ → Option Form → Token
-judged n none = Malformed
-judged n (some f) = cond (leb n 64 && inRange (normal f)) (Number (normal f)) Malformed
+-- what a token of n bytes says that has no form, and one that has the form f: 'at most 64 bytes', and the limits, tokenBy on the normal form
+unfoldable pub tokenBy : ℕ → Option Form → Token
+tokenBy n none = Malformed
+tokenBy n (some f) = cond (leb n 64 && inRange (normal f)) (Number (normal f)) Malformed
 
 -- what a token says: a number, or that it is no number of our form
 unfoldable pub tokenOf : List ℕ → Token
-tokenOf token = judged (length token) (formOf token)
+tokenOf token = tokenBy (length token) (formOf token)

@@ -17,7 +17,7 @@ use Rattle.clf.specs.Nodes.{NodeName, nodeFault, nodeBody}
 use Rattle.nodes.specs.Code.{carriedOf}
 use Rattle.nodes.specs.declared.CarriedNode.{CarriedNode}
 use Rattle.nodes.specs.declared.CarriedNode.the-variants as Carrieds
-use Rattle.node_parts.specs.Code.{NodeReads, noNode}
+use Rattle.node_parts.specs.Code.{NodeReads, failedNode}
 use Rattle.node_parts.specs.declared.NodeStep.{NodeStep}
 use Rattle.look.specs.Replacing.{start, element}
 
@@ -37,23 +37,23 @@ anyNode : Element
 anyNode = record { kind = Matrix false; input = I8; output = I8; numbers = [] }
 
 module _ (s : List ℕ) (base : ℕ) where
-  none : (m₀ m₁ : Room) → m₁ ≡ clearedFrom base m₀ → (n : NodeName) (r : Scan) → Failed r → Reads 0 judged (λ e. n) s 0 r → NodeReads (element .run) s 0 base (noNode r) m₀ m₁
+  none : (m₀ m₁ : Room) → m₁ ≡ clearedFrom base m₀ → (n : NodeName) (r : Scan) → Failed r → Reads 0 judged (λ e. n) s 0 r → NodeReads (element .run) s 0 base (failedNode r) m₀ m₁
   unfolding element
   none m₀ m₁ q n r f v = by r f v
     where
-      by : (y : Scan) → Failed y → Reads 0 judged (λ e. n) s 0 y → NodeReads (bindP judged body) s 0 base (noNode y) m₀ m₁
+      by : (y : Scan) → Failed y → Reads 0 judged (λ e. n) s 0 y → NodeReads (bindP judged body) s 0 base (failedNode y) m₀ m₁
       by (At e) f v = absurd f
       by (Fault k e) f v =
           record { value = anyNode; out = ap (λ (o : Out NodeName). thenOut o body) (v .out); inside = v .inside; node = refl; all = tt; room = q }
       by Cut f v = record { value = anyNode; out = ap (λ (o : Out NodeName). thenOut o body) (v .out); inside = tt; node = refl; all = tt; room = q }
 
   -- no start
-  pub element-none : (m₀ m₁ : Room) → m₁ ≡ clearedFrom base m₀ → (n : NodeName) (r : Scan) → Failed r → Reads 0 (start .run) (λ e. n) s 0 r → NodeReads (element .run) s 0 base (noNode r) m₀ m₁
+  pub element-none : (m₀ m₁ : Room) → m₁ ≡ clearedFrom base m₀ → (n : NodeName) (r : Scan) → Failed r → Reads 0 (start .run) (λ e. n) s 0 r → NodeReads (element .run) s 0 base (failedNode r) m₀ m₁
   element-none m₀ m₁ q n r f v = none m₀ m₁ q n r f (reads-unjudged (start .run) (λ e. n) s 0 nodeFault 0 0 r f v)
 
   -- the start of a node that is not carried
   pub element-fault : (m₀ m₁ : Room) → m₁ ≡ clearedFrom base m₀ → (n : NodeName) (k e : ℕ) → nodeFault n ≡ k → (k ≡ 0 → ⊥) → Reads 0 (start .run) (λ e. n) s 0 (At e)
-      → NodeReads (element .run) s 0 base (noNode (Fault k 0)) m₀ m₁
+      → NodeReads (element .run) s 0 base (failedNode (Fault k 0)) m₀ m₁
   element-fault m₀ m₁ w n k e q z v = none m₀ m₁ w n (Fault k 0) tt (reads-ill (start .run) (λ e. n) s 0 nodeFault 0 0 e k q z v)
 
   -- a carried node

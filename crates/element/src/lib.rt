@@ -31,7 +31,7 @@ fn no_name(scan: Scan) -> StartStep
 fn word_or(s: &[u8], w: &[u8], name: NodeName, other: StartStep) -> StartStep
     ensures { λ r. ⌜ StartOr (now (s .entry)) (nameOf name) (now (w .entry)) other r ⌝ }
 {
-    let r = xml::name_or(s, 0, w, Scan::Fault(20, 0));
+    let r = xml::name_or(s, 0, w, Scan::Fault(refusals::NOT_ONE_NODE, 0));
     match r {
         Scan::At(e) => StartStep {
             scan: Scan::At(e),
@@ -46,7 +46,7 @@ fn word_or(s: &[u8], w: &[u8], name: NodeName, other: StartStep) -> StartStep
 fn element_start(s: &[u8]) -> StartStep
     ensures { λ r. ⌜ StartReads (Replacing.start .run) (now (s .entry)) r ⌝ }
 {
-    let none = no_name(Scan::Fault(20, 0));
+    let none = no_name(Scan::Fault(refusals::NOT_ONE_NODE, 0));
     let lut3d = word_or(s, b"<LUT3D", NodeName::NotCarried, none);
     let exponent = word_or(s, b"<Exponent", NodeName::NotCarried, lut3d);
     let log = word_or(s, b"<Log", NodeName::NotCarried, exponent);
@@ -69,8 +69,20 @@ pub fn element(s: &[u8], coefficients: &mut [i64], powers: &mut [i8], base: usiz
     match name {
         NodeName::Carried(c) => nodes::node_body(s, e, c, coefficients, powers, base),
         NodeName::NotCarried => {
-            node_parts::failed(Scan::Fault(7, 0), coefficients, powers, base)
+            node_parts::failed(
+                Scan::Fault(refusals::NOT_CARRIED, 0),
+                coefficients,
+                powers,
+                base,
+            )
         },
-        NodeName::Other => { node_parts::failed(Scan::Fault(5, 0), coefficients, powers, base) },
+        NodeName::Other => {
+            node_parts::failed(
+                Scan::Fault(refusals::WRONG_ELEMENT, 0),
+                coefficients,
+                powers,
+                base,
+            )
+        },
     }
 }

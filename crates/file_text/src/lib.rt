@@ -78,7 +78,7 @@ fn input_step(at: usize, state: ListState, scan: Scan) -> ListStep
     ensures { λ r. ⌜ r ≡ Code.inputStep at state scan ⌝ }
 {
     if state.input {
-        return step_of(Scan::Fault(5, at), state);
+        return step_of(Scan::Fault(refusals::WRONG_ELEMENT, at), state);
     }
     let next = flagged(state, true, state.output, state.info);
     ListStep { scan, state: next }
@@ -89,7 +89,7 @@ fn output_step(at: usize, state: ListState, scan: Scan) -> ListStep
     ensures { λ r. ⌜ r ≡ Code.outputStep at state scan ⌝ }
 {
     if state.output {
-        return step_of(Scan::Fault(5, at), state);
+        return step_of(Scan::Fault(refusals::WRONG_ELEMENT, at), state);
     }
     let next = flagged(state, state.input, true, state.info);
     ListStep { scan, state: next }
@@ -100,7 +100,7 @@ fn info_step(at: usize, state: ListState, scan: Scan) -> ListStep
     ensures { λ r. ⌜ r ≡ Code.infoStep at state scan ⌝ }
 {
     if state.info {
-        return step_of(Scan::Fault(5, at), state);
+        return step_of(Scan::Fault(refusals::WRONG_ELEMENT, at), state);
     }
     let next = flagged(state, state.input, state.output, true);
     ListStep { scan, state: next }
@@ -182,8 +182,8 @@ fn node_child(
 {
     match name {
         NodeName::Carried(c) => carried_child(s, at, e, c, state, wanted, coefficients, powers),
-        NodeName::NotCarried => step_of(Scan::Fault(7, at), state),
-        NodeName::Other => step_of(Scan::Fault(5, at), state),
+        NodeName::NotCarried => step_of(Scan::Fault(refusals::NOT_CARRIED, at), state),
+        NodeName::Other => step_of(Scan::Fault(refusals::WRONG_ELEMENT, at), state),
     }
 }
 

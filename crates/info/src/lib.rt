@@ -64,7 +64,7 @@ fn piece_at(s: &[u8], at: usize) -> Piece
         return Piece::Passed(r);
     }
     if c == b'?' {
-        return Piece::Passed(Scan::Fault(3, at));
+        return Piece::Passed(Scan::Fault(refusals::FORM_NOT_CARRIED, at));
     }
     Piece::Child
 }
@@ -78,7 +78,7 @@ fn element(s: &[u8], at: usize, left: usize) -> Scan
         return r;
     };
     if left == 0 {
-        return Scan::Fault(3, at);
+        return Scan::Fault(refusals::FORM_NOT_CARRIED, at);
     }
     let end = tags::plain_tag(s, e);
     match end {

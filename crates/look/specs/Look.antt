@@ -8,6 +8,7 @@ use Rattle.room.specs.Room.{Room, roomLength, filledWith}
 use Rattle.valid.specs.Valid.{isValid}
 use Rattle.valid.specs.Valid as Valid
 use Rattle.look.specs.Replacing.{Replacing, replaced, refused, replace}
+use Rattle.refusals.specs.Refusals as Refusal
 
 pub record Look : Type 0 where
   pub list : ProcessList
@@ -23,7 +24,7 @@ holding x es = record { list = listOf (placed es); room = filledWith (allNumbers
 
 -- replacing: 16 first, for a look that is no accepted reading; then as the list alone says
 unfoldable pub replaceIn : Look → ℕ → List ℕ → Replacing
-replaceIn x k e = cond (isValid (x .list) (x .room)) (replace (roomOf x) (Valid.elementsOf (x .list) (x .room)) k e) (refused 16 0)
+replaceIn x k e = cond (isValid (x .list) (x .room)) (replace (roomOf x) (Valid.elementsOf (x .list) (x .room)) k e) (refused Refusal.noReading 0)
 
 -- 'Any other refusal changes nothing'
 abbrev pub lookAfter : Look → Replacing → Look

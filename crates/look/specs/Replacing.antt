@@ -14,6 +14,7 @@ use Rattle.xml.specs.AmongLaws.{AllNames}
 use Rattle.xml.specs.Xml.{oneOf}
 use Rattle.clf.specs.Nodes.{NodeName, nodeNames, nodeFault, nodeBody}
 use Rattle.clf.specs.Reading.{mostBytes, placeIn, isNumbered}
+use Rattle.refusals.specs.Refusals as Refusal
 
 -- ---- the element alone
 
@@ -24,7 +25,7 @@ node-names = (refl, (refl, (refl, (refl, (refl, (refl, (refl, tt)))))))
 -- 'The element starts at its first byte with `<` and one of the seven node names (carried or not)'; 'any other start .. is 20', at 0,
 -- 'and nothing else is judged at that place; no bytes at all, or a beginning of such a start, is 1'
 unfoldable pub start : G NodeName
-start = oneOf (bytes "<") 20 nodeNames node-names
+start = oneOf (bytes "<") Refusal.notOneNode nodeNames node-names
 
 -- the element: its start; a node that is not carried is 7 there; and what stands behind its name, as in a file
 unfoldable pub element : G Element
@@ -49,16 +50,16 @@ listed room es = replacingBy es (verdict room es)
 -- by what the element alone is: 'bytes after' are 20 at the first of them; a place is counted in the element
 abbrev pub byElement : ℕ → List Element → ℕ → List ℕ → Out Element → Replacing
 byElement room es k e (done n []) = listed room (set es (k - 1) n)
-byElement room es k e (done n (b ∷ r)) = refused 20 (placeIn e (b ∷ r))
+byElement room es k e (done n (b ∷ r)) = refused Refusal.notOneNode (placeIn e (b ∷ r))
 byElement room es k e (fault j r) = refused j (placeIn e r)
-byElement room es k e cut = refused 1 (length e)
+byElement room es k e cut = refused Refusal.cutShort (length e)
 
 -- the element e in the place of node k
 unfoldable pub replace : ℕ → List Element → ℕ → List ℕ → Replacing
 replace room es k e =
     cond (isNumbered k (length es))
-    (cond (ltb mostBytes (length e)) (refused 4 0) (byElement room es k e (element .run e)))
-    (refused 19 0)
+    (cond (ltb mostBytes (length e)) (refused Refusal.tooLong 0) (byElement room es k e (element .run e)))
+    (refused Refusal.noSuchNode 0)
 
 -- 'Any other refusal changes nothing'
 abbrev pub listAfter : List Element → Replacing → List Element

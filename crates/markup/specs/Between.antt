@@ -35,12 +35,12 @@ leaves p s a r q = go (p .law s)
 
 module _ {C : Type 0} (end : G (Unit {0})) (refusal : List ℕ → ℕ) (body : List ℕ → G C) where
   -- the answer by that of the first bytes of s
-  abbrev pub byLead : List ℕ → Out ItemFound → Out (Part C)
-  byLead s (done passed r) = strictOut (done misc r) s
-  byLead s (done (starts w) r) = strictOut (thenOut (verdict (refusal w) w r s) (λ n. bindP ((body n) .run) (λ v. retP (child v)))) s
-  byLead s (done ends r) = strictOut (thenOut (end .run s) (λ u. retP close)) s
-  byLead s (fault k r) = fault k r
-  byLead s cut = cut
+  abbrev pub byItem : List ℕ → Out ItemFound → Out (Part C)
+  byItem s (done passed r) = strictOut (done misc r) s
+  byItem s (done (starts w) r) = strictOut (thenOut (verdict (refusal w) w r s) (λ n. bindP ((body n) .run) (λ v. retP (child v)))) s
+  byItem s (done ends r) = strictOut (thenOut (end .run s) (λ u. retP close)) s
+  byItem s (fault k r) = fault k r
+  byItem s cut = cut
 
   abbrev afterName : List ℕ → List ℕ → Out (Part C)
   afterName n = bindP ((body n) .run) (λ v. retP (child v))
@@ -48,45 +48,45 @@ module _ {C : Type 0} (end : G (Unit {0})) (refusal : List ℕ → ℕ) (body : 
   -- behind a `<`
   by-second : (u : List ℕ) (x y z : Bool)
       → strictP ((cond x (end >> ret close) (cond y (comment >> ret misc) (cond z (bad 3) (seq (judge refusal openName) (λ w. seq (body w) (λ v. ret (child v))))))) .run) u
-      ≡ byLead u (cond x (done ends u) (cond y (thenOut (comment .run u) (λ w. retP passed)) (cond z (fault 3 u) (thenOut (openName .run u) (λ w. retP (starts w))))))
+      ≡ byItem u (cond x (done ends u) (cond y (thenOut (comment .run u) (λ w. retP passed)) (cond z (fault 3 u) (thenOut (openName .run u) (λ w. retP (starts w))))))
   by-second u true y z = refl
   by-second u false true z = go (comment .run u)
     where
-      go : (o : Out (Unit {0})) → strictOut (thenOut o (λ w. retP misc)) u ≡ byLead u (thenOut o (λ w. retP passed))
+      go : (o : Out (Unit {0})) → strictOut (thenOut o (λ w. retP misc)) u ≡ byItem u (thenOut o (λ w. retP passed))
       go (done w r) = refl
       go (fault k r) = refl
       go cut = refl
   by-second u false false true = refl
   by-second u false false false = go (openName .run u)
     where
-      go : (o : Out (List ℕ)) → strictOut (thenOut (judgeOut refusal o u) afterName) u ≡ byLead u (thenOut o (λ w. retP (starts w)))
+      go : (o : Out (List ℕ)) → strictOut (thenOut (judgeOut refusal o u) afterName) u ≡ byItem u (thenOut o (λ w. retP (starts w)))
       go (done w r) = refl
       go (fault k r) = refl
       go cut = refl
 
-  by-two : (b : ℕ) (s : List ℕ) → lookTwoP (λ a c. (markup end refusal body a c) .run) (b ∷ s) ≡ byLead (b ∷ s) (itemByTwo (b ∷ s))
+  by-two : (b : ℕ) (s : List ℕ) → lookTwoP (λ a c. (markup end refusal body a c) .run) (b ∷ s) ≡ byItem (b ∷ s) (itemByTwo (b ∷ s))
   by-two b [] = refl
   by-two b (c ∷ s) = by-second (b ∷ c ∷ s) (eqb c slash) (eqb c exclamation) (eqb c question)
 
   by-first : (b : ℕ) (s : List ℕ) (x y z : Bool)
       → (cond x (eat >> ret misc) (cond y (lookTwo (markup end refusal body)) (cond z (settle 5 entity >> bad 5) (bad 5)))) .run (b ∷ s)
-      ≡ byLead (b ∷ s) (cond x (done passed s) (cond y (itemByTwo (b ∷ s)) (cond z (thenOut (settleP 5 (entity .run) (b ∷ s)) (λ u. retP passed)) (fault 5 (b ∷ s)))))
+      ≡ byItem (b ∷ s) (cond x (done passed s) (cond y (itemByTwo (b ∷ s)) (cond z (thenOut (settleP 5 (entity .run) (b ∷ s)) (λ u. retP passed)) (fault 5 (b ∷ s)))))
   by-first b s true y z = sym (ap (λ (t : Bool). cond t (done misc s) cut) (lt-ltb (length s) (suc (length s)) (omega arith)))
   by-first b s false true z = by-two b s
   by-first b s false false true = go (entity .run (b ∷ s))
     where
-      same : (t : Bool) (k : ℕ) (u : List ℕ) → thenOut {A = Unit {0}} (cond t (fault (min 5 k) u) (fault 5 u)) (λ w. badP 5) ≡ byLead u (thenOut {A = Unit {0}} (cond t (fault (min 5 k) u) (fault 5 u)) (λ w. retP passed))
+      same : (t : Bool) (k : ℕ) (u : List ℕ) → thenOut {A = Unit {0}} (cond t (fault (min 5 k) u) (fault 5 u)) (λ w. badP 5) ≡ byItem u (thenOut {A = Unit {0}} (cond t (fault (min 5 k) u) (fault 5 u)) (λ w. retP passed))
       same true k u = refl
       same false k u = refl
 
-      go : (o : Out (Unit {0})) → thenOut (settleOut 5 o (b ∷ s)) (λ u. badP 5) ≡ byLead (b ∷ s) (thenOut (settleOut 5 o (b ∷ s)) (λ u. retP passed))
+      go : (o : Out (Unit {0})) → thenOut (settleOut 5 o (b ∷ s)) (λ u. badP 5) ≡ byItem (b ∷ s) (thenOut (settleOut 5 o (b ∷ s)) (λ u. retP passed))
       go (done w r) = refl
       go (fault k r) = same (samePlace r (b ∷ s)) k (b ∷ s)
       go cut = refl
   by-first b s false false false = refl
 
   -- what stands between elements is what its first bytes say
-  pub between-item : (s : List ℕ) → (between end refusal body) .run s ≡ byLead s (contentItem s)
+  pub between-item : (s : List ℕ) → (between end refusal body) .run s ≡ byItem s (contentItem s)
   unfolding between contentItem
   between-item [] = refl
   between-item (b ∷ s) = by-first b s (isSpace b) (eqb b lessThan) (eqb b ampersand)
@@ -94,8 +94,8 @@ module _ {C : Type 0} (end : G (Unit {0})) (refusal : List ℕ → ℕ) (body : 
   -- ---- by the code's answer r for the first bytes at a place
 
   module _ (s : List ℕ) (at : ℕ) where
-    by-answer : (r : Item) → ItemReads s at r → (between end refusal body) .run (drop at s) ≡ byLead (drop at s) (itemOut s at r)
-    by-answer r v = between-item (drop at s) ∙ ap (byLead (drop at s)) (sym (v .out))
+    by-answer : (r : Item) → ItemReads s at r → (between end refusal body) .run (drop at s) ≡ byItem (drop at s) (itemOut s at r)
+    by-answer r v = between-item (drop at s) ∙ ap (byItem (drop at s)) (sym (v .out))
 
     moved : {A : Type 0} (a : A) (r : List ℕ) → length r < length (drop at s) → strictOut (done a r) (drop at s) ≡ done a r
     moved a r l = ap (λ (t : Bool). cond t (done a r) cut) (lt-ltb (length r) (length (drop at s)) l)

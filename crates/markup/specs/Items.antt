@@ -68,7 +68,7 @@ itemPlaced at u (done ends r) = Items.EndTag
 itemPlaced at u (fault k r) = Items.Fault k (at + (length u - length r))
 itemPlaced at u cut = Items.Cut
 
--- the answer r for what stands at `at`. There is one for every `at`: `itemPlaced at (drop at s) (contentItem (drop at s))` (`proofs/ItemFound`: `item-placed`)
+-- the answer r for what stands at `at`. There is one for every `at`: `itemPlaced at (drop at s) (contentItem (drop at s))` (`proofs/ItemLaws`: `item-placed`)
 pub record ItemReads (s : List ℕ) (at : ℕ) (r : Item) : Type 0 where
   pub out : itemOut s at r ≡ contentItem (drop at s)
   pub inside : ItemInside s at r

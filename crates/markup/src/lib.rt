@@ -67,7 +67,7 @@ fn spaces_byte(s: &[u8], at: usize, c: u8) -> Scan
     let Scan::At(e) = r else {
         return r;
     };
-    xml::byte(s, e, c, 2)
+    xml::byte(s, e, c, refusals::NOT_WELL_FORMED)
 }
 
 // An end tag of the name w, whatever is missing before it.
@@ -82,7 +82,7 @@ fn end_tag_alone(s: &[u8], at: usize, w: &[u8]) -> Scan
     if xml::same(&s[a..e], w) {
         return spaces_byte(s, e, b'>');
     }
-    Scan::Fault(2, at)
+    Scan::Fault(refusals::NOT_WELL_FORMED, at)
 }
 
 // The end tag of an element of the name w; `missing` is the fault of what lacks before it.
@@ -96,7 +96,7 @@ pub fn end_tag(s: &[u8], at: usize, w: &[u8], missing: u8) -> Scan
 pub fn stray_end(s: &[u8], at: usize) -> Scan
     ensures { λ r. ⌜ Reads 1 (Xml.strayEnd .run) noValue (now (s .entry)) at r ⌝ }
 {
-    refused(xml::close_name(s, at), 2, at)
+    refused(xml::close_name(s, at), refusals::NOT_WELL_FORMED, at)
 }
 
 fn misc_of(r: Scan) -> Item
@@ -136,7 +136,7 @@ fn markup_item(s: &[u8], at: usize) -> Item
         return misc_of(xml::comment(s, at));
     }
     if b == b'?' {
-        return Item::Fault(3, at);
+        return Item::Fault(refusals::FORM_NOT_CARRIED, at);
     }
     start_tag_of(xml::open_name(s, at))
 }
@@ -156,9 +156,9 @@ fn item_at(s: &[u8], at: usize) -> Item
         return markup_item(s, at);
     }
     if b == b'&' {
-        return misc_of(settled(5, xml::entity(s, at), at));
+        return misc_of(settled(refusals::WRONG_ELEMENT, xml::entity(s, at), at));
     }
-    Item::Fault(5, at)
+    Item::Fault(refusals::WRONG_ELEMENT, at)
 }
 
 // The next tag behind white space and comments.
@@ -186,12 +186,12 @@ fn forbidden(s: &[u8], at: usize, b: u8) -> Scan
     ensures { λ r. ⌜ Reads 1 ((Elements.forbidden b) .run) noValue (now (s .entry)) at r ⌝ }
 {
     if b == b'!' {
-        return settled(3, xml::comment(s, at), at);
+        return settled(refusals::FORM_NOT_CARRIED, xml::comment(s, at), at);
     }
     if b == b'?' {
-        return Scan::Fault(3, at);
+        return Scan::Fault(refusals::FORM_NOT_CARRIED, at);
     }
-    refused(xml::open_name(s, at), 5, at)
+    refused(xml::open_name(s, at), refusals::WRONG_ELEMENT, at)
 }
 
 // At a `<` behind text or numbers: the end tag of w, or what may not stand there.

@@ -18,7 +18,7 @@ use Rattle.tags.specs.Code.{partIn}
 use Rattle.tags.proofs.Words.{part-in}
 use Rattle.markup.specs.Items.{ItemReads}
 use Rattle.markup.specs.Settled.{endAlone}
-use Rattle.markup.specs.Between.{byLead, between-item, between-misc, between-fault, between-cut, between-end-reads}
+use Rattle.markup.specs.Between.{byItem, between-item, between-misc, between-fault, between-cut, between-end-reads}
 use Rattle.markup.specs.Next.{Behind, NextReads}
 use Rattle.markup.specs.declared.NextTag.the-variants as Nexts
 use Rattle.markup.proofs.Next.{passed-low, loop-passed}
@@ -116,7 +116,7 @@ module _ {S : Type 0} (h : Holder S) where
       opened : (r : Scan) → Child h st s i e st′ r
           → (between end (h .fault st) (h .body st)) .run (drop i s) ≡ strictOut (thenOut (scanOut (λ q. st′) s r) (λ v. retP (child v))) (drop i s)
       opened r c =
-          between-item end (h .fault st) (h .body st) (drop i s) ∙ ap (byLead end (h .fault st) (h .body st) (drop i s)) (sym (v .out)) ∙ same (h .fault st w)
+          between-item end (h .fault st) (h .body st) (drop i s) ∙ ap (byItem end (h .fault st) (h .body st) (drop i s)) (sym (v .out)) ∙ same (h .fault st w)
           ∙ ap (λ (o : Out S). strictOut (thenOut o (λ v. retP (child v))) (drop i s)) (sym (c .out))
 
       strict : (q : ℕ) → i + 1 ≤ q → q ≤ length s → strictOut (done (child st′) (drop q s)) (drop i s) ≡ done (child st′) (drop q s)

@@ -17,7 +17,7 @@ use Rattle.decimal.specs.declared.Decimal.{Decimal}
 use Rattle.clf.specs.Nodes as Nodes
 use Rattle.process_list.specs.List.{Element, numbersOf, nodeOf}
 use Rattle.process_list.specs.declared.Kind.{Kind}
-use Rattle.node_parts.specs.Code.{finishedNode, noNode, NumbersIn, NodeReads}
+use Rattle.node_parts.specs.Code.{finishedNode, failedNode, NumbersIn, NodeReads}
 use Rattle.node_parts.specs.Held.{Went, ReadsTo}
 use Rattle.node_parts.specs.declared.NodeStep.{NodeStep}
 
@@ -114,7 +114,7 @@ finished-is s base m₀ m₁ attributes scan kind ns n r = record { node = refl;
 
 -- no node, where there is no next place
 pub node-failed : (p : Parser Element) (s : List ℕ) (at base : ℕ) (r : Scan) (step : NodeStep) (m₀ m₁ : Room) (R : Element → Type 0) (F : Type 0) → Failed r
-    → step ≡ noNode r → m₁ ≡ clearedFrom base m₀ → ReadsTo p s at r R F → NodeReads p s at base step m₀ m₁
+    → step ≡ failedNode r → m₁ ≡ clearedFrom base m₀ → ReadsTo p s at r R F → NodeReads p s at base step m₀ m₁
 node-failed p s at base (At e) step m₀ m₁ R F f q z v = absurd f
 node-failed p s at base (Fault k i) step m₀ m₁ R F f q z v = rw q (record { value = v .value; out = v .reads .out; inside = v .reads .inside; node = refl; all = tt; room = z })
 node-failed p s at base Cut step m₀ m₁ R F f q z v = rw q (record { value = v .value; out = v .reads .out; inside = tt; node = refl; all = tt; room = z })

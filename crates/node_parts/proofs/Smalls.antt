@@ -14,19 +14,19 @@ use Rattle.decimal.specs.declared.Decimal.{Decimal}
 use Rattle.decimal.specs.Decimal as Decimals
 use Rattle.room.specs.Room.{Room, lent, roomLength}
 use Rattle.values.specs.Code.{Laid}
-use Rattle.node_parts.specs.Code.{numberAt, numbersFrom, smallNumbers}
+use Rattle.node_parts.specs.Code.{smallNumberAt, numbersFrom, smallNumbers}
 use Rattle.values.proofs.Stored.{laid-none-yet, laid-then}
 
 module _ (m : Room) (k : ℕ) where
   abbrev numberOf : Bool → Decimal
   numberOf b = cond b (record { coefficient = getD (m .coefficients) k (pos 0); power = getD (m .powers) k (pos 0) }) Decimals.zero
 
-  pub number-in : k < roomLength m → record { coefficient = getD (m .coefficients) k (pos 0); power = getD (m .powers) k (pos 0) } ≡ numberAt m k
-  unfolding numberAt
+  pub number-in : k < roomLength m → record { coefficient = getD (m .coefficients) k (pos 0); power = getD (m .powers) k (pos 0) } ≡ smallNumberAt m k
+  unfolding smallNumberAt
   number-in h = sym (ap numberOf (lt-ltb k (roomLength m) h))
 
-  pub number-out : roomLength m ≤ k → Decimals.zero ≡ numberAt m k
-  unfolding numberAt
+  pub number-out : roomLength m ≤ k → Decimals.zero ≡ smallNumberAt m k
+  unfolding smallNumberAt
   number-out h = sym (ap numberOf (le-ltb k (roomLength m) h))
 
 length-of : (cs ps : List ℤ) → length (numbersFrom cs ps) ≡ min (length cs) (length ps)
@@ -50,7 +50,7 @@ module _ (m : Room) where
   unfolding roomLength
   numbers-get k h = get-of (m .coefficients) (m .powers) k h
 
-  pub numbers-at : (k : ℕ) → k < roomLength m → getD (smallNumbers m) k Decimals.zero ≡ numberAt m k
+  pub numbers-at : (k : ℕ) → k < roomLength m → getD (smallNumbers m) k Decimals.zero ≡ smallNumberAt m k
   numbers-at k h = numbers-get k h ∙ number-in m k h
 
 -- a small room that holds these numbers
@@ -72,7 +72,7 @@ module _ (small : Room) (base : ℕ) (m₀ : Room) where
   pub store-start : (n : ℕ) → n ≡ roomLength small → StoreInv n 0 m₀
   store-start n q = record { all = q; few = omega arith; room = laid-none-yet base m₀ }
 
-  pub store-more : (n j : ℕ) (m m₁ : Room) (d : Decimal) → StoreInv n j m → j < n → d ≡ numberAt small j → Laid (base + j) (d ∷ []) m m₁ → StoreInv n (j + 1) m₁
+  pub store-more : (n j : ℕ) (m m₁ : Room) (d : Decimal) → StoreInv n j m → j < n → d ≡ smallNumberAt small j → Laid (base + j) (d ∷ []) m m₁ → StoreInv n (j + 1) m₁
   store-more n j m m₁ d v h q l =
       let k : j < roomLength small = omega (arith, v .all) in
       let i : length (take j ns) ≡ j = length-take j ns ∙ omega (arith, numbers-length small) in

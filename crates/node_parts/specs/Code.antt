@@ -25,8 +25,8 @@ use Rattle.clf.specs.Nodes.{depthAt}
 use Rattle.node_parts.specs.declared.NodeStep.{NodeStep}
 
 -- the number of index k of a small room; zero where there is none
-unfoldable pub numberAt : Room → ℕ → Decimal
-numberAt m k = cond (ltb k (roomLength m)) (record { coefficient = getD (m .coefficients) k (pos 0); power = getD (m .powers) k (pos 0) }) Decimals.zero
+unfoldable pub smallNumberAt : Room → ℕ → Decimal
+smallNumberAt m k = cond (ltb k (roomLength m)) (record { coefficient = getD (m .coefficients) k (pos 0); power = getD (m .powers) k (pos 0) }) Decimals.zero
 
 -- the numbers of a small room
 abbrev pub numbersFrom : List ℤ → List ℤ → List Decimal
@@ -49,8 +49,8 @@ finishedNode s attributes scan kind = record {
   node = Lists.unplaced kind (depthAt (bytes "inBitDepth") (attributesOf s attributes)) (depthAt (bytes "outBitDepth") (attributesOf s attributes));
 }
 
-abbrev pub noNode : Scan → NodeStep
-noNode scan = record { scan = scan; node = Lists.blankNode }
+abbrev pub failedNode : Scan → NodeStep
+failedNode scan = record { scan = scan; node = Lists.blankNode }
 
 -- the node of an answer: what the list holds of it but for the position; a blank node where there is no next place
 abbrev pub nodeAfter : Scan → Element → Node

@@ -54,7 +54,7 @@ pub fn finished(s: &[u8], attributes: Attributes, scan: Scan, kind: Kind) -> Nod
 }
 
 pub fn no_node(scan: Scan) -> NodeStep
-    ensures { λ r. ⌜ r ≡ Code.noNode scan ⌝ }
+    ensures { λ r. ⌜ r ≡ Code.failedNode scan ⌝ }
 {
     NodeStep {
         scan,
@@ -64,7 +64,7 @@ pub fn no_node(scan: Scan) -> NodeStep
 
 // A node that is at fault or cut: none, and the room is zero from `base` on.
 pub fn failed(scan: Scan, coefficients: &mut [i64], powers: &mut [i8], base: usize) -> NodeStep
-    ensures { λ r. ⌜ (r ≡ Code.noNode scan) × (lent (now (coefficients .exit)) (now (powers .exit)) ≡ clearedFrom base (lent (now (coefficients .entry)) (now (powers .entry)))) ⌝ }
+    ensures { λ r. ⌜ (r ≡ Code.failedNode scan) × (lent (now (coefficients .exit)) (now (powers .exit)) ≡ clearedFrom base (lent (now (coefficients .entry)) (now (powers .entry)))) ⌝ }
 {
     let length = room::length(coefficients, powers);
     room::clear(coefficients, powers, base, length);
@@ -73,7 +73,7 @@ pub fn failed(scan: Scan, coefficients: &mut [i64], powers: &mut [i8], base: usi
 
 // The number of index k of a small room.
 pub fn number_at(coefficients: &[i64], powers: &[i8], k: usize) -> Decimal
-    ensures { λ r. ⌜ r ≡ Code.numberAt (lent (now (coefficients .entry)) (now (powers .entry))) k ⌝ }
+    ensures { λ r. ⌜ r ≡ Code.smallNumberAt (lent (now (coefficients .entry)) (now (powers .entry))) k ⌝ }
 {
     if k < room::length(coefficients, powers) {
         return Decimal {

@@ -27,7 +27,7 @@ use Rattle.tags.specs.declared.StartTag.{StartTag}
 use Rattle.values.specs.Code.{Laid, NumbersRead}
 use Rattle.clf.specs.Numbers.{valueElement, anyNumber}
 use Rattle.clf.specs.Nodes.{isSome, orElse, oneOf, RangeState, noValues, rangeIndex, rangeBody, rangeFault, rangeHolder, rangeTexts, rangeStyle, rangeNode, nodeRules, range}
-use Rattle.node_parts.specs.Code.{NumbersIn, finishedNode, noNode, smallNumbers, NodeReads}
+use Rattle.node_parts.specs.Code.{NumbersIn, finishedNode, failedNode, smallNumbers, NodeReads}
 use Rattle.node_parts.specs.Held.{Goes, HeldAt, ReadsTo}
 use Rattle.node_parts.specs.declared.NodeStep.{NodeStep}
 use Rattle.node_parts.proofs.Held.{went-either, child-refused, child-body, held-end}
@@ -104,7 +104,7 @@ module _ (s : List ℕ) (at base : ℕ) (tag : StartTag) where
   rest-of t = bindP ((held rangeHolder noValues) .run) (λ st. retP (rangeNode (t .attributes) st))
 
   -- the start tag is at fault
-  pub tag-failed : (m₀ m₁ : Room) (step : NodeStep) (r : Scan) → Failed r → step ≡ noNode r → m₁ ≡ clearedFrom base m₀ → Reads 1 opens (λ e. tagOf s tag) s at r
+  pub tag-failed : (m₀ m₁ : Room) (step : NodeStep) (r : Scan) → Failed r → step ≡ failedNode r → m₁ ≡ clearedFrom base m₀ → Reads 1 opens (λ e. tagOf s tag) s at r
       → NodeReads (range .run) s at base step m₀ m₁
   unfolding range
   tag-failed m₀ m₁ step r f z y v =
@@ -124,7 +124,7 @@ module _ (s : List ℕ) (at base : ℕ) (tag : StartTag) where
         (to-map ((held rangeHolder noValues) .run) s q R (Unit {0}) (λ st. rangeNode (attributesOf s (tag .attributes)) st) (c .scan) (RangeStands m c) g w)
 
     -- the content is at fault
-    pub content-failed : Failed (c .scan) → step ≡ noNode (c .scan) → m₁ ≡ clearedFrom base m₀ → NodeReads (range .run) s at base step m₀ m₁
+    pub content-failed : Failed (c .scan) → step ≡ failedNode (c .scan) → m₁ ≡ clearedFrom base m₀ → NodeReads (range .run) s at base step m₀ m₁
     unfolding range
     content-failed f z y =
         node-failed (bindP opens rest-of) s at base (c .scan) step m₀ m₁ (λ n. Unit {0}) (Unit {0}) f z y (whole (λ n. Unit {0}) (λ st x. tt))

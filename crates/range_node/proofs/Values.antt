@@ -15,7 +15,7 @@ use Rattle.decimal.specs.Decimal as Decimals
 use Rattle.room.specs.Room.{Room, roomLength, stored, storedIn, laidIn}
 use Rattle.room.proofs.Rooms.{stored-one}
 use Rattle.clf.specs.Nodes.{isSome, orElse, RangeState, isThere, valueAt, allThere, inOrder, rangeFault, rangeIndex}
-use Rattle.node_parts.specs.Code.{numberAt, numbersFrom, smallNumbers}
+use Rattle.node_parts.specs.Code.{smallNumberAt, numbersFrom, smallNumbers}
 use Rattle.node_parts.proofs.Smalls.{numbers-length, numbers-at}
 use Rattle.range_node.specs.Code.{faultOf, orderedIn, missingOf, RangeStands}
 use Rattle.range_node.specs.declared.RangeStep.{RangeStep}
@@ -60,7 +60,7 @@ module _ (m : Room) (r : RangeStep) (st : RangeState) (v : RangeStands m r st) w
   room : roomLength m ≡ 4
   room = sym (numbers-length m) ∙ ap length (v .numbers) ∙ length-map (st .values) (orElse Decimals.zero) ∙ v .four
 
-  number : (k : ℕ) → k < 4 → numberAt m k ≡ valueAt k st
+  number : (k : ℕ) → k < 4 → smallNumberAt m k ≡ valueAt k st
   number k h =
       sym (numbers-at m k (omega (arith, room))) ∙ ap (λ (l : List Decimal). getD l k Decimals.zero) (v .numbers)
       ∙ List·getD-map (orElse Decimals.zero) (st .values) k none

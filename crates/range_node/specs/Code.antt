@@ -13,7 +13,7 @@ use Rattle.xml.specs.declared.Scan.{Scan}
 use Rattle.xml.specs.declared.Scan.the-variants.{At}
 use Rattle.room.specs.Room.{Room}
 use Rattle.clf.specs.Nodes.{isSome, orElse, rangeIndex, RangeState}
-use Rattle.node_parts.specs.Code.{numberAt, smallNumbers}
+use Rattle.node_parts.specs.Code.{smallNumberAt, smallNumbers}
 use Rattle.range_node.specs.declared.RangeStep.{RangeStep}
 
 -- of four flags
@@ -31,7 +31,7 @@ faultOf l w =
 
 -- 'maxIn > minIn; maxOut ≥ minOut', of the numbers of a small room
 unfoldable pub orderedIn : Room → Bool
-orderedIn m = less (numberAt m 0) (numberAt m 1) && atMost (numberAt m 2) (numberAt m 3)
+orderedIn m = less (smallNumberAt m 0) (smallNumberAt m 1) && atMost (smallNumberAt m 2) (smallNumberAt m 3)
 
 -- what is missing at the end tag: a value that is not there is 5, values out of order are 21
 unfoldable pub missingOf : List Bool → Room → ℕ

@@ -94,9 +94,9 @@ fn range_missing(found: [bool; 4], coefficients: &[i64], powers: &[i8]) -> u8
         if in_order(coefficients, powers) {
             return 0;
         }
-        return 21;
+        return refusals::RULE_BROKEN;
     }
-    5
+    refusals::WRONG_ELEMENT
 }
 
 // What is wrong with a child's name.
@@ -105,16 +105,16 @@ fn range_fault(w: &[u8], found: [bool; 4]) -> u8
 {
     if xml::same(w, b"Description") {
         if range_any(found) {
-            return 5;
+            return refusals::WRONG_ELEMENT;
         }
         return 0;
     }
     let k = range_index(w);
     if 4 <= k {
-        return 5;
+        return refusals::WRONG_ELEMENT;
     }
     if found[k] {
-        return 5;
+        return refusals::WRONG_ELEMENT;
     }
     0
 }

@@ -37,7 +37,7 @@ pub enum Judged {
 fn too_long(file: &[u8]) -> bool
     ensures { λ r. ⌜ r ≡ ltb Reading.mostBytes (length (now (file .entry))) ⌝ }
 {
-    16777216 < file.len()
+    process_list::MOST_BYTES < file.len()
 }
 
 // What the verdict over the finished list says.
@@ -59,7 +59,7 @@ fn judge_text(s: &[u8], step: ListStep, room: usize) -> Judged
     let state = step.state;
     match scan {
         Scan::Fault(k, p) => Judged::Refused(k, p),
-        Scan::Cut => Judged::Refused(1, s.len()),
+        Scan::Cut => Judged::Refused(refusals::CUT_SHORT, s.len()),
         Scan::At(e) => {
             let list = state.list;
             by_verdict(process_list::judge(state.over, list, room))
@@ -113,7 +113,7 @@ pub fn read(file: &[u8], coefficients: &mut [i64], powers: &mut [i8]) -> Answer
     if too_long(file) {
         let length = room::length(coefficients, powers);
         room::clear(coefficients, powers, 0, length);
-        return refused(4, 0);
+        return refused(refusals::TOO_LONG, 0);
     }
     read_text(file, coefficients, powers)
 }
@@ -147,7 +147,7 @@ pub fn check_within(file: &[u8], room: usize) -> Checked
     ensures { λ r. ⌜ r ≡ checkedOf (Reading.read room (now (file .entry))) ⌝ }
 {
     if too_long(file) {
-        return to_checked(Judged::Refused(4, 0));
+        return to_checked(Judged::Refused(refusals::TOO_LONG, 0));
     }
     to_checked(judge_text(file, text_alone(file, 0), room))
 }
@@ -156,7 +156,7 @@ pub fn check_within(file: &[u8], room: usize) -> Checked
 pub fn check(file: &[u8]) -> Checked
     ensures { λ r. ⌜ r ≡ checkedOf (Reading.readAlone (now (file .entry))) ⌝ }
 {
-    check_within(file, 262144)
+    check_within(file, process_list::MOST_NUMBERS)
 }
 
 // Whether an accepted file has a node of the number k.
@@ -166,10 +166,10 @@ fn asked(j: Judged, k: usize, count: usize) -> Judged
     match j {
         Judged::Accepted => {
             if k == 0 {
-                return Judged::Refused(19, 0);
+                return Judged::Refused(refusals::NO_SUCH_NODE, 0);
             }
             if count < k {
-                return Judged::Refused(19, 0);
+                return Judged::Refused(refusals::NO_SUCH_NODE, 0);
             }
             Judged::Accepted
         }
@@ -184,7 +184,7 @@ fn ask(file: &[u8], step: ListStep, k: usize) -> Judged
     let state = step.state;
     let list = state.list;
     let count = list.count;
-    asked(judge_text(file, step, 262144), k, count)
+    asked(judge_text(file, step, process_list::MOST_NUMBERS), k, count)
 }
 
 // The refusal of asking for the Description of node k: reading's, then 19.
@@ -192,7 +192,7 @@ pub fn description_number(file: &[u8], k: usize) -> Checked
     ensures { λ r. ⌜ r ≡ checkedOf (Reading.descriptionAsked k (now (file .entry))) ⌝ }
 {
     if too_long(file) {
-        return to_checked(Judged::Refused(4, 0));
+        return to_checked(Judged::Refused(refusals::TOO_LONG, 0));
     }
     to_checked(ask(file, text_alone(file, 0), k))
 }

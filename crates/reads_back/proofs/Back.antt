@@ -33,7 +33,7 @@ use Rattle.written_form.specs.Written.{joined, listLines, refused, written, isI
 use Rattle.written_form.proofs.Tail.{nodesText, headText, listText, list-text}
 use Rattle.written_form.proofs.Short.{elements-short}
 use Rattle.claims.specs.Rules.{Allowed}
-use Rattle.reads_back.specs.Back.{ReadAs, HasPlaces, Valid, held, writing, EqualRoom, asRead, ReadingLeaves, ReadingLeavesIn, WrittenReadsBack, WrittenReadsIn, Refusal16, ExactlyAllowed}
+use Rattle.reads_back.specs.Back.{ReadAs, HasPlaces, Valid, elementsHeld, writing, EqualRoom, asRead, ReadingLeaves, ReadingLeavesIn, WrittenReadsBack, WrittenReadsIn, Refusal16, ExactlyAllowed}
 use Rattle.reads_back.proofs.Items.{Item, items-from, line-item, Read, nodes-read}
 use Rattle.reads_back.proofs.Heads.{Id, id-parts, rootAttributes, head-reads}
 
@@ -126,65 +126,65 @@ exactly-allowed room es = (λ a. (joined (listLines (bytes "a") es), list-reads-
 
 module _ (x : Look) (p : HasPlaces x) (v : Valid x) where
   -- what a valid list and room are: the reading of their elements
-  reading : Readings.Reading (x .list) (x .room) (held x)
+  reading : Readings.Reading (x .list) (x .room) (elementsHeld x)
   reading = parts (x .list) (x .room) p v
 
-  held-allowed : Allowed (roomOf x) (held x)
-  held-allowed = whole-rules (roomOf x) (held x) (record { sounds = reading .sounds; fits = reading .accepted })
+  held-allowed : Allowed (roomOf x) (elementsHeld x)
+  held-allowed = whole-rules (roomOf x) (elementsHeld x) (record { sounds = reading .sounds; fits = reading .accepted })
 
-  holding-self : holding x (held x) ≡ asRead x
+  holding-self : holding x (elementsHeld x) ≡ asRead x
   unfolding holding
   holding-self = λ i. record { list = (sym (reading .list) ∙ sym (file-list (x .list))) i; room = sym (reading .room) i }
 
   -- in a room that holds the numbers
-  module _ (y : Look) (h : length (allNumbers (held x)) ≤ roomOf y) where
-    allowed-in : Allowed (roomOf y) (held x)
+  module _ (y : Look) (h : length (allNumbers (elementsHeld x)) ≤ roomOf y) where
+    allowed-in : Allowed (roomOf y) (elementsHeld x)
     allowed-in = let a = held-allowed in record { some = a .some; few = a .few; chained = a .chained; holds = omega (arith, a .holds); nodes = a .nodes }
 
-    holding-in : (holding y (held x) .list ≡ fileList (x .list)) × (holding y (held x) .room ≡ filledWith (allNumbers (held x)) (y .room))
+    holding-in : (holding y (elementsHeld x) .list ≡ fileList (x .list)) × (holding y (elementsHeld x) .room ≡ filledWith (allNumbers (elementsHeld x)) (y .room))
     unfolding holding
     holding-in = (sym (reading .list) ∙ sym (file-list (x .list)), refl)
 
-    pub valid-reads-in : (id : List ℕ) → idRight id ≡ true → ReadingLeavesIn y (joined (listLines id (held x))) x
+    pub valid-reads-in : (id : List ℕ) → idRight id ≡ true → ReadingLeavesIn y (joined (listLines id (elementsHeld x))) x
     valid-reads-in id i =
-        let r : ReadAs (roomOf y) (joined (listLines id (held x))) (held x) = list-reads-back (roomOf y) id (held x) i allowed-in in
-        let q : readInto y (joined (listLines id (held x))) ≡ holding y (held x) = ap (λ (z : Reading.Reading). holding y (nodesIn z)) r in
+        let r : ReadAs (roomOf y) (joined (listLines id (elementsHeld x))) (elementsHeld x) = list-reads-back (roomOf y) id (elementsHeld x) i allowed-in in
+        let q : readInto y (joined (listLines id (elementsHeld x))) ≡ holding y (elementsHeld x) = ap (λ (z : Reading.Reading). holding y (nodesIn z)) r in
         record {
-          nodes = held x;
+          nodes = elementsHeld x;
           accepted = r;
           list = ap (λ (z : Look). z .list) q ∙ holding-in .0;
           room = ap (λ (z : Look). z .room) q ∙ holding-in .1;
         }
 
-  -- what the room held before does not matter
+  -- what the room elementsHeld before does not matter
   module _ (y : Look) (e : EqualRoom x y) where
     holding-equal : (es : List Element) → holding y es ≡ holding x es
     unfolding holding
     holding-equal es = rw (filled-equal (allNumbers es) (x .room) (y .room) (e .room) (e .behind)) refl
 
     -- the text of a valid list and room, under any right id
-    pub valid-reads-back : (id : List ℕ) → idRight id ≡ true → ReadingLeaves y (joined (listLines id (held x))) x
+    pub valid-reads-back : (id : List ℕ) → idRight id ≡ true → ReadingLeaves y (joined (listLines id (elementsHeld x))) x
     valid-reads-back id i =
-        let r : ReadAs (roomOf x) (joined (listLines id (held x))) (held x) = list-reads-back (roomOf x) id (held x) i held-allowed in
-        let q : read (roomOf y) (joined (listLines id (held x))) ≡ accepted (held x) = ap (λ (n : ℕ). read n (joined (listLines id (held x)))) (e .room) ∙ r in
+        let r : ReadAs (roomOf x) (joined (listLines id (elementsHeld x))) (elementsHeld x) = list-reads-back (roomOf x) id (elementsHeld x) i held-allowed in
+        let q : read (roomOf y) (joined (listLines id (elementsHeld x))) ≡ accepted (elementsHeld x) = ap (λ (n : ℕ). read n (joined (listLines id (elementsHeld x)))) (e .room) ∙ r in
         record {
-          nodes = held x;
+          nodes = elementsHeld x;
           accepted = q;
-          look = ap (λ (z : Reading.Reading). holding y (nodesIn z)) q ∙ holding-equal (held x) ∙ holding-self;
+          look = ap (λ (z : Reading.Reading). holding y (nodesIn z)) q ∙ holding-equal (elementsHeld x) ∙ holding-self;
         }
 
 -- what writing answered: list and room are valid, the id is right, and the text is theirs
 record Wrote (x : Look) (id text : List ℕ) : Type 0 where
   valid : Valid x
   right : idRight id ≡ true
-  is : joined (listLines id (held x)) ≡ text
+  is : joined (listLines id (elementsHeld x)) ≡ text
 
 wrote : (x : Look) (id : List ℕ) (out : ℕ) (text : List ℕ) → writing x id out ≡ written text → Wrote x id text
 unfolding writeOf fitting
-wrote x id out text e = go (isValid (x .list) (x .room)) (idRight id) (ltb out (length (joined (listLines id (held x))))) refl refl e
+wrote x id out text e = go (isValid (x .list) (x .room)) (idRight id) (ltb out (length (joined (listLines id (elementsHeld x))))) refl refl e
   where
     go : (a b c : Bool) → isValid (x .list) (x .room) ≡ a → idRight id ≡ b
-        → cond a (cond b (cond c (refused 17) (written (joined (listLines id (held x))))) (refused 18)) (refused 16) ≡ written text → Wrote x id text
+        → cond a (cond b (cond c (refused 17) (written (joined (listLines id (elementsHeld x))))) (refused 18)) (refused 16) ≡ written text → Wrote x id text
     go true true true q r z = nope cc
     go true true false q r z = record { valid = q; right = r; is = cc }
     go true false c q r z = nope cc
@@ -208,7 +208,7 @@ written-reads-in x p id out text e y h =
 pub read-self : (x : Look) → asRead x ≡ x
 read-self x = ap (λ (l : ProcessList). record { list = l; room = x .room }) (file-list (x .list))
 
--- what an accepted reading leaves, whatever list and room held before, is valid
+-- what an accepted reading leaves, whatever list and room elementsHeld before, is valid
 pub left-valid : (y : Look) (file : List ℕ) (x : Look) → ReadingLeaves y file x → Valid x
 left-valid y file x l =
     let es : List Element = (l .nodes) in
@@ -221,7 +221,7 @@ itself x = record { room = refl; behind = refl }
 
 -- REFUSAL 16: 'list and room are no accepted reading of any file into that room'
 pub refusal-16 : (x : Look) → HasPlaces x → Refusal16 x
-refusal-16 x p = (λ v. (joined (listLines (bytes "a") (held x)), valid-reads-back x p v x (itself x) (bytes "a") plain-id), λ f. left-valid x (f .0) x (f .1))
+refusal-16 x p = (λ v. (joined (listLines (bytes "a") (elementsHeld x)), valid-reads-back x p v x (itself x) (bytes "a") plain-id), λ f. left-valid x (f .0) x (f .1))
 
 -- ---- which lists have 32 places, and which rooms are equal
 

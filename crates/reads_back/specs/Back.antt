@@ -33,8 +33,8 @@ abbrev pub Valid : Look → Type 0
 Valid x = isValid (x .list) (x .room) ≡ true
 
 -- the elements that list and room hold
-abbrev pub held : Look → List Element
-held x = elementsOf (x .list) (x .room)
+abbrev pub elementsHeld : Look → List Element
+elementsHeld x = elementsOf (x .list) (x .room)
 
 -- what writing answers for list and room, under an id, for an output of this length
 abbrev pub writing : Look → List ℕ → ℕ → Writing
@@ -60,7 +60,7 @@ pub record ReadingLeavesIn (y : Look) (file : List ℕ) (x : Look) : Type 0 wher
   pub nodes : List Element
   pub accepted : read (roomOf y) file ≡ accepted nodes
   pub list : readInto y file .list ≡ fileList (x .list)
-  pub room : readInto y file .room ≡ filledWith (allNumbers (held x)) (y .room)
+  pub room : readInto y file .room ≡ filledWith (allNumbers (elementsHeld x)) (y .room)
 
 -- 'list and room are [an] accepted reading of [some] file into that room'
 abbrev pub SomeReading : Look → Type 0
@@ -72,7 +72,7 @@ WrittenReadsBack x = (id : List ℕ) (out : ℕ) (text : List ℕ) → writing x
 
 -- the same in every room that holds the numbers: the same list, and its numbers
 abbrev pub WrittenReadsIn : Look → Type 0
-WrittenReadsIn x = (id : List ℕ) (out : ℕ) (text : List ℕ) → writing x id out ≡ written text → (y : Look) → length (allNumbers (held x)) ≤ roomOf y → ReadingLeavesIn y text x
+WrittenReadsIn x = (id : List ℕ) (out : ℕ) (text : List ℕ) → writing x id out ≡ written text → (y : Look) → length (allNumbers (elementsHeld x)) ≤ roomOf y → ReadingLeavesIn y text x
 
 -- REFUSAL 16, both ways: list and room pass exactly if they are the accepted reading of some file into that room
 abbrev pub Refusal16 : Look → Type 0

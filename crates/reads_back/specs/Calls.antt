@@ -23,7 +23,7 @@ use Rattle.writing.specs.Writing.{writingAnswer}
 use Rattle.reads_back.specs.declared.WrittenRead.{WrittenRead}
 use Rattle.reads_back.specs.declared.CheckedRead.{CheckedRead}
 use Rattle.reads_back.specs.declared.Described.{Described}
-use Rattle.reads_back.specs.Back.{SomeReading, EqualRoom, held, writing}
+use Rattle.reads_back.specs.Back.{SomeReading, EqualRoom, elementsHeld, writing}
 
 -- ---- 'a list written out reads back as that list'
 
@@ -37,7 +37,7 @@ pub record ReadBack (x : Look) (r : Answer) (m₁ : Room) : Type 0 where
 pub record ReadIn (x : Look) (r : Answer) (m₀ m₁ : Room) : Type 0 where
   pub number : r .number ≡ 0
   pub list : r .list ≡ fileList (x .list)
-  pub room : m₁ ≡ filledWith (allNumbers (held x)) m₀
+  pub room : m₁ ≡ filledWith (allNumbers (elementsHeld x)) m₀
 
 -- list and room x written under an id into an output, and the text read into the room m₀: what both answer and leave, for all inputs; and, where the text was written,
 -- the same list is back with its numbers in every room that holds them, and list and room are the very same in equal room
@@ -45,7 +45,7 @@ pub record WroteAndRead (x : Look) (id : List ℕ) (r : WrittenRead) (out₀ out
   pub wrote : r .wrote ≡ writingAnswer (writing x id (length out₀))
   pub output : out₁ ≡ outputOf (writing x id (length out₀)) out₀
   pub read : ReadsInto (read (roomLength m₀) (take (r .wrote .length) out₁)) (r .answer) m₀ m₁
-  pub holds : r .wrote .number ≡ 0 → length (allNumbers (held x)) ≤ roomLength m₀ → ReadIn x (r .answer) m₀ m₁
+  pub holds : r .wrote .number ≡ 0 → length (allNumbers (elementsHeld x)) ≤ roomLength m₀ → ReadIn x (r .answer) m₀ m₁
   pub back : r .wrote .number ≡ 0 → EqualRoom x (lookOf (x .list) m₀) → ReadBack x (r .answer) m₁
 
 -- ---- 16, 'list and room are no accepted reading of any file into that room', both ways

@@ -28,16 +28,16 @@ fn call_fault(list: ProcessList, coefficients: &[i64], powers: &[i8], k: usize, 
 {
     let count = process_list::held(list);
     if !valid::valid(list, coefficients, powers) {
-        return 16;
+        return refusals::NO_READING;
     }
     if k == 0 {
-        return 19;
+        return refusals::NO_SUCH_NODE;
     }
     if count < k {
-        return 19;
+        return refusals::NO_SUCH_NODE;
     }
-    if 16777216 < length {
-        return 4;
+    if process_list::MOST_BYTES < length {
+        return refusals::TOO_LONG;
     }
     0
 }
@@ -57,10 +57,10 @@ fn judge_element(element: &[u8], scan: Scan) -> Judged
 {
     match scan {
         Scan::Fault(n, p) => Judged::Refused(n, p),
-        Scan::Cut => Judged::Refused(1, element.len()),
+        Scan::Cut => Judged::Refused(refusals::CUT_SHORT, element.len()),
         Scan::At(e) => {
             if e < element.len() {
-                return Judged::Refused(20, e);
+                return Judged::Refused(refusals::NOT_ONE_NODE, e);
             }
             Judged::Accepted
         }

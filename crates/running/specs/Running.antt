@@ -21,6 +21,7 @@ use Rattle.pixel_run.specs.Step.{stepPixel}
 use Rattle.pixel_run.specs.Each.{eachPixel}
 use Rattle.pixel_run.specs.Finite.{firstNotFinite}
 use Rattle.running.specs.declared.Ran.{Ran}
+use Rattle.refusals.specs.Refusals as Refusal
 
 -- ---- one node
 
@@ -80,9 +81,9 @@ ran number place = record { number = number; place = place }
 -- 'Running: 16, 14, 15 (lowest index)', and 0 is accepted; 'The place .. of 15, the index; .. of 0, 4, 14 and 16 to 19, 0'
 unfoldable pub ranOf : ProcessList → Room → List Float → Ran
 ranOf list m xs =
-    cond (not (isValid list m)) (ran 16 0)
-    (cond (notThrees xs) (ran 14 0)
-    (cond (notFinite xs) (ran 15 (firstNotFinite xs))
+    cond (not (isValid list m)) (ran Refusal.noReading 0)
+    (cond (notThrees xs) (ran Refusal.notThrees 0)
+    (cond (notFinite xs) (ran Refusal.notFinite (firstNotFinite xs))
     (ran 0 0)))
 
 -- the slice afterwards: 'overwritten' by what the nodes make of it; 'Any other refusal changes nothing'

@@ -91,20 +91,20 @@ pub fn run(list: ProcessList, coefficients: &[i64], powers: &[i8], pixels: &mut 
 {
     if !valid::valid(list, coefficients, powers) {
         return Ran {
-            number: 16,
+            number: refusals::NO_READING,
             place: 0,
         };
     }
     if pixels.len() % 3 != 0 {
         return Ran {
-            number: 14,
+            number: refusals::NOT_THREES,
             place: 0,
         };
     }
     let first = pixel_run::first_not_finite(pixels);
     if first < pixels.len() {
         return Ran {
-            number: 15,
+            number: refusals::NOT_FINITE,
             place: first,
         };
     }

@@ -217,7 +217,7 @@ fn depth_fault(text: &[u8]) -> u8
     let d = depth_of(text);
     match d {
         DepthRead::Is(depth) => 0,
-        DepthRead::Other => 8,
+        DepthRead::Other => refusals::WRONG_ATTRIBUTE,
     }
 }
 
@@ -245,7 +245,7 @@ fn lut_text_fault(name: &[u8], text: &[u8]) -> u8
     ensures { λ r. ⌜ r ≡ Nodes.lutTexts (now (name .entry)) (now (text .entry)) ⌝ }
 {
     if xml::same(name, b"interpolation") {
-        return unless(xml::same(text, b"linear"), 8);
+        return unless(xml::same(text, b"linear"), refusals::WRONG_ATTRIBUTE);
     }
     0
 }
@@ -254,7 +254,10 @@ fn range_text_fault(name: &[u8], text: &[u8]) -> u8
     ensures { λ r. ⌜ r ≡ Nodes.rangeTexts (now (name .entry)) (now (text .entry)) ⌝ }
 {
     if xml::same(name, b"style") {
-        return unless(either(text, b"Clamp", b"noClamp"), 8);
+        return unless(
+            either(text, b"Clamp", b"noClamp"),
+            refusals::WRONG_ATTRIBUTE,
+        );
     }
     0
 }
@@ -267,9 +270,9 @@ fn cdl_text_fault(name: &[u8], text: &[u8]) -> u8
             return 0;
         }
         if either(text, b"Rev", b"RevNoClamp") {
-            return 7;
+            return refusals::NOT_CARRIED;
         }
-        return 8;
+        return refusals::WRONG_ATTRIBUTE;
     }
     0
 }
@@ -278,7 +281,7 @@ fn matrix_dim_fault(name: &[u8], text: &[u8]) -> u8
     ensures { λ r. ⌜ r ≡ (Nodes.arrayRules Nodes.matrixShape) .texts (now (name .entry)) (now (text .entry)) ⌝ }
 {
     if xml::same(name, b"dim") {
-        return unless(either(text, b"3 3", b"3 4"), 8);
+        return unless(either(text, b"3 3", b"3 4"), refusals::WRONG_ATTRIBUTE);
     }
     0
 }
@@ -289,7 +292,7 @@ fn lut_shape_fault(text: &[u8]) -> u8
     let shape = shape_of(text);
     match shape {
         ShapeRead::Is { entries, columns } => 0,
-        ShapeRead::Other => 8,
+        ShapeRead::Other => refusals::WRONG_ATTRIBUTE,
     }
 }
 
@@ -307,12 +310,12 @@ fn list_text_fault(name: &[u8], text: &[u8]) -> u8
 {
     if xml::same(name, b"id") {
         if text.len() == 0 {
-            return 8;
+            return refusals::WRONG_ATTRIBUTE;
         }
         return 0;
     }
     if xml::same(name, b"compCLFversion") {
-        return unless(xml::same(text, b"3.0"), 6);
+        return unless(xml::same(text, b"3.0"), refusals::WRONG_VERSION);
     }
     0
 }
@@ -339,7 +342,7 @@ fn lut_name_fault(name: &[u8]) -> u8
     ensures { λ r. ⌜ r ≡ Nodes.lutNames (now (name .entry)) ⌝ }
 {
     if either(name, b"halfDomain", b"rawHalfs") {
-        return 7;
+        return refusals::NOT_CARRIED;
     }
     0
 }
@@ -457,11 +460,11 @@ fn name_fault(s: &[u8], w: &[u8], kind: TagKind, attributes: Attributes) -> u8
     ensures { λ r. ⌜ r ≡ Xml.nameFault (rulesOf kind) (Code.attributesOf (now (s .entry)) attributes) (now (w .entry)) ⌝ }
 {
     if is_named(s, attributes, w) {
-        return 2;
+        return refusals::NOT_WELL_FORMED;
     }
     let count = attributes.count;
     if 16 <= count {
-        return 3;
+        return refusals::FORM_NOT_CARRIED;
     }
     name_rule(kind, w)
 }
@@ -480,7 +483,7 @@ fn quote(s: &[u8], at: usize) -> Scan
     if xml::is_quote(s[p]) {
         return Scan::At(p + 1);
     }
-    Scan::Fault(2, p)
+    Scan::Fault(refusals::NOT_WELL_FORMED, p)
 }
 
 // Behind an attribute's name: `=` and a quote, with white space before each.
@@ -491,7 +494,7 @@ fn to_quote(s: &[u8], at: usize) -> Scan
     let Scan::At(a) = r else {
         return r;
     };
-    let q = xml::byte(s, a, b'=', 2);
+    let q = xml::byte(s, a, b'=', refusals::NOT_WELL_FORMED);
     let Scan::At(e) = q else {
         return q;
     };
@@ -572,13 +575,25 @@ fn both_or(s: &[u8], attributes: Attributes, a: &[u8], b: &[u8], k: u8) -> u8
 fn node_missing(s: &[u8], attributes: Attributes) -> u8
     ensures { λ r. ⌜ r ≡ Nodes.nodeMissing (Code.attributesOf (now (s .entry)) attributes) ⌝ }
 {
-    both_or(s, attributes, b"inBitDepth", b"outBitDepth", 8)
+    both_or(
+        s,
+        attributes,
+        b"inBitDepth",
+        b"outBitDepth",
+        refusals::WRONG_ATTRIBUTE,
+    )
 }
 
 fn list_missing(s: &[u8], attributes: Attributes) -> u8
     ensures { λ r. ⌜ r ≡ List.listMissing (Code.attributesOf (now (s .entry)) attributes) ⌝ }
 {
-    both_or(s, attributes, b"id", b"compCLFversion", 8)
+    both_or(
+        s,
+        attributes,
+        b"id",
+        b"compCLFversion",
+        refusals::WRONG_ATTRIBUTE,
+    )
 }
 
 fn dim_missing(s: &[u8], attributes: Attributes, there: u8) -> u8
@@ -587,7 +602,7 @@ fn dim_missing(s: &[u8], attributes: Attributes, there: u8) -> u8
     if is_named(s, attributes, b"dim") {
         return there;
     }
-    8
+    refusals::WRONG_ATTRIBUTE
 }
 
 // What is missing at `>`.
@@ -614,13 +629,13 @@ fn emptied(s: &[u8], kind: TagKind, attributes: Attributes) -> u8
 {
     match kind {
         TagKind::Plain => 0,
-        TagKind::Value => 22,
-        TagKind::Holder => 5,
-        TagKind::MatrixArray => dim_missing(s, attributes, 22),
-        TagKind::Lut1dArray => dim_missing(s, attributes, 22),
-        TagKind::Matrix => 5,
-        TagKind::Lut1d => 5,
-        TagKind::Range => 5,
+        TagKind::Value => refusals::WRONG_COUNT,
+        TagKind::Holder => refusals::WRONG_ELEMENT,
+        TagKind::MatrixArray => dim_missing(s, attributes, refusals::WRONG_COUNT),
+        TagKind::Lut1dArray => dim_missing(s, attributes, refusals::WRONG_COUNT),
+        TagKind::Matrix => refusals::WRONG_ELEMENT,
+        TagKind::Lut1d => refusals::WRONG_ELEMENT,
+        TagKind::Range => refusals::WRONG_ELEMENT,
         TagKind::Cdl => node_missing(s, attributes),
         TagKind::ProcessList => list_missing(s, attributes),
     }
@@ -643,7 +658,7 @@ fn empty_end(s: &[u8], at: usize, kind: TagKind, attributes: Attributes) -> TagE
     requires { ⌜ at < length (now s) ⌝ }
     ensures { λ r. ⌜ Code.EndIs (now (s .entry)) attributes at r ((Code.emptyEnd (rulesOf kind) (Code.attributesOf (now (s .entry)) attributes)) .run (drop at (now (s .entry)))) ⌝ }
 {
-    let r = xml::word(s, at, b"/>", 2);
+    let r = xml::word(s, at, b"/>", refusals::NOT_WELL_FORMED);
     match r {
         Scan::At(e) => {
             let k = emptied(s, kind, attributes);
@@ -702,7 +717,7 @@ fn tag_parts(s: &[u8], at: usize, kind: TagKind) -> StartTag
             }
         } else {
             return StartTag {
-                end: TagEnd::Fault(2, i),
+                end: TagEnd::Fault(refusals::NOT_WELL_FORMED, i),
                 attributes,
             };
         }

@@ -68,7 +68,7 @@ fn not_one(d: Decimal) -> u8
     if decimal_value::is_one(d) {
         return 0;
     }
-    7
+    refusals::NOT_CARRIED
 }
 
 // What the rule says of a number.
@@ -81,13 +81,13 @@ fn rule_fault(rule: Rule, d: Decimal) -> u8
             if decimal_value::not_negative(d) {
                 return 0;
             }
-            21
+            refusals::RULE_BROKEN
         }
         Rule::One => {
             if decimal_value::positive(d) {
                 return not_one(d);
             }
-            21
+            refusals::RULE_BROKEN
         }
     }
 }
@@ -97,7 +97,7 @@ fn judged(d: Decimal, at: usize, e: usize, n: usize, rule: Rule, count: usize) -
     ensures { λ r. ⌜ r ≡ judgedAs (Numbers.faultOf n (ruleOf rule) count (Tokens.Number d)) d at e ⌝ }
 {
     if n <= count {
-        return TokenRead::Fault(22, at);
+        return TokenRead::Fault(refusals::WRONG_COUNT, at);
     }
     let k = rule_fault(rule, d);
     if k != 0 {
@@ -116,7 +116,7 @@ fn token_read(s: &[u8], at: usize, n: usize, rule: Rule, count: usize) -> TokenR
             let t = decimal_read::number(&s[at..e]);
             match t {
                 Token::Number(d) => judged(d, at, e, n, rule, count),
-                Token::Malformed => TokenRead::Fault(9, at),
+                Token::Malformed => TokenRead::Fault(refusals::NO_NUMBER, at),
             }
         }
         Scan::Fault(k, p) => TokenRead::Fault(k, p),
@@ -129,7 +129,7 @@ fn too_few(count: usize, n: usize) -> u8
     ensures { λ r. ⌜ r ≡ cond (ltb count n) 22 0 ⌝ }
 {
     if count < n {
-        return 22;
+        return refusals::WRONG_COUNT;
     }
     0
 }

@@ -99,14 +99,14 @@ pub fn write(
     ensures { λ r. ⌜ now (out .exit) ≡ Text.outputOf (Text.writeOf list (lent (now (coefficients .entry)) (now (powers .entry))) (now (id .entry)) (length (now (out .entry)))) (now (out .entry)) ⌝ }
 {
     if !valid::valid(list, coefficients, powers) {
-        return refused(16);
+        return refused(refusals::NO_READING);
     }
     if !id_right(id) {
-        return refused(18);
+        return refused(refusals::WRONG_ID);
     }
     let length = text_length(list, coefficients, powers, id);
     if out.len() < length {
-        return refused(17);
+        return refused(refusals::SHORT_OUTPUT);
     }
     put_list(out, list, coefficients, powers, id);
     Written { number: 0, length }

@@ -22,6 +22,7 @@ use Rattle.process_list.specs.List.{Element}
 use Rattle.room.specs.Room.{Room}
 use Rattle.valid.specs.Valid.{every, isValid, elementsOf}
 use Rattle.xml.specs.Bytes.{bytes, isLetter, isDigit}
+use Rattle.refusals.specs.Refusals as Refusal
 
 -- ---- lines, and pieces of a line
 
@@ -199,14 +200,14 @@ pub data Writing : Type 0 where
 
 -- 17: 'output shorter than the text'
 unfoldable pub fitting : ℕ → List ℕ → Writing
-fitting out t = cond (ltb out (length t)) (refused 17) (written t)
+fitting out t = cond (ltb out (length t)) (refused Refusal.shortOutput) (written t)
 
 -- 'Writing: 16, 18, 17', for an output of this length
 unfoldable pub writeOf : ProcessList → Room → List ℕ → ℕ → Writing
 writeOf l m id out =
     cond (isValid l m)
-    (cond (idRight id) (fitting out (joined (listLines id (elementsOf l m)))) (refused 18))
-    (refused 16)
+    (cond (idRight id) (fitting out (joined (listLines id (elementsOf l m)))) (refused Refusal.wrongId))
+    (refused Refusal.noReading)
 
 -- the refusal number, 0 for accepted; its place is 0 ('of 0, 4, 14 and 16 to 19, 0')
 abbrev pub writingNumber : Writing → ℕ

@@ -25,16 +25,16 @@ Inside n s at (Fault k p) = (at ≤ p) × (p ≤ length s)
 Inside n s at Cut = Unit
 
 -- the answer r is p's at the place `at`; where p is done it has taken n bytes at least. `drop` alone does not tell a place from one further behind the end, the bounds do: there is one
--- answer for every `at`, `placed at (drop at s) (p (drop at s))` (`CodeLaws`: `reads-placed`)
+-- answer for every `at`, `scanAt at (drop at s) (p (drop at s))` (`CodeLaws`: `reads-placed`)
 pub record Reads {A : Type 0} (n : ℕ) (p : Parser A) (value : ℕ → A) (s : List ℕ) (at : ℕ) (r : Scan) : Type 0 where
   pub out : scanOut value s r ≡ p (drop at s)
   pub inside : Inside n s at r
 
 -- the answer for what a grammar finds in the bytes u that stand at `at`: a place is as many bytes behind `at` as have been taken
-abbrev pub placed : {A : Type 0} → ℕ → List ℕ → Out A → Scan
-placed at u (done a r) = At (at + (length u - length r))
-placed at u (fault k r) = Fault k (at + (length u - length r))
-placed at u cut = Cut
+abbrev pub scanAt : {A : Type 0} → ℕ → List ℕ → Out A → Scan
+scanAt at u (done a r) = At (at + (length u - length r))
+scanAt at u (fault k r) = Fault k (at + (length u - length r))
+scanAt at u cut = Cut
 
 -- its place is `at`
 abbrev pub Stays : ℕ → Scan → Type 0
@@ -53,7 +53,7 @@ pub record ReadsFrom {A : Type 0} (n : ℕ) (p : Parser A) (value : ℕ → A) (
 abbrev pub noValue : ℕ → Unit {0}
 noValue e = tt
 
--- the same answer, a fault placed at `at`
+-- the same answer, a fault scanAt at `at`
 abbrev pub blamedScan : Scan → ℕ → Scan
 blamedScan (At e) at = At e
 blamedScan (Fault k p) at = Fault k at

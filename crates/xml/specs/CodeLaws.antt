@@ -11,7 +11,7 @@ use borrow.Author.Tests.{lt-ltb, leb-true, leb-false}
 use lib.Dec.{leb}
 use Rattle.scanning.specs.Steps.{here, past}
 use Rattle.grammar.specs.Parse.{Out, done, fault, cut, Parser, thenOut, bindP, retP, lookP, eatP, spanP, strictOut, strictP, lookTwoP, verdict, judgeOut, judgeP, blameOut, blameP}
-use Rattle.xml.specs.Code.{part, scanOut, placed, Inside, Stays, Reads, ReadsFrom, blamedScan, Failed}
+use Rattle.xml.specs.Code.{part, scanOut, scanAt, Inside, Stays, Reads, ReadsFrom, blamedScan, Failed}
 use Rattle.xml.specs.declared.Scan.{Scan}
 use Rattle.xml.specs.declared.Scan.the-variants.{At, Fault, Cut}
 
@@ -78,26 +78,26 @@ place-beyond : (s : List ℕ) (at : ℕ) → length s < at → at ≡ at + (leng
 place-beyond s at h = omega arith
 
 module _ {A : Type 0} (value : ℕ → A) (s : List ℕ) (at : ℕ) where
-  placed-inside : (n : ℕ) (r : Scan) → Inside n s at r → r ≡ placed at (drop at s) (scanOut value s r)
+  placed-inside : (n : ℕ) (r : Scan) → Inside n s at r → r ≡ scanAt at (drop at s) (scanOut value s r)
   placed-inside n (At e) i = ap At (place-left s at e (omega (arith, i .0)) (i .1))
   placed-inside n (Fault k q) i = ap (Fault k) (place-left s at q (i .0) (i .1))
   placed-inside n Cut i = refl
 
-  placed-beyond : (r : Scan) → length s < at → Stays at r → r ≡ placed at (drop at s) (scanOut value s r)
+  placed-beyond : (r : Scan) → length s < at → Stays at r → r ≡ scanAt at (drop at s) (scanOut value s r)
   placed-beyond (At e) h q = rw q (ap At (place-beyond s at h))
   placed-beyond (Fault k e) h q = rw q (ap (Fault k) (place-beyond s at h))
   placed-beyond Cut h q = refl
 
 module _ {A : Type 0} (p : Parser A) (value : ℕ → A) (s : List ℕ) (at n : ℕ) (r : Scan) where
   -- the answer of every function whose contract is `Reads`
-  pub reads-placed : Reads n p value s at r → r ≡ placed at (drop at s) (p (drop at s))
-  reads-placed v = placed-inside value s at n r (v .inside) ∙ ap (placed at (drop at s)) (v .out)
+  pub reads-placed : Reads n p value s at r → r ≡ scanAt at (drop at s) (p (drop at s))
+  reads-placed v = placed-inside value s at n r (v .inside) ∙ ap (scanAt at (drop at s)) (v .out)
 
   -- the same for `ReadsFrom`
-  pub reads-from-placed : ReadsFrom n p value s at r → r ≡ placed at (drop at s) (p (drop at s))
-  reads-from-placed v = go (leb at (length s)) refl ∙ ap (placed at (drop at s)) (v .out)
+  pub reads-from-placed : ReadsFrom n p value s at r → r ≡ scanAt at (drop at s) (p (drop at s))
+  reads-from-placed v = go (leb at (length s)) refl ∙ ap (scanAt at (drop at s)) (v .out)
     where
-      go : (t : Bool) → leb at (length s) ≡ t → r ≡ placed at (drop at s) (scanOut value s r)
+      go : (t : Bool) → leb at (length s) ≡ t → r ≡ scanAt at (drop at s) (scanOut value s r)
       go true q = placed-inside value s at n r (v .inside (leb-true at (length s) q))
       go false q = placed-beyond value s at r (leb-false at (length s) q) (v .beyond (leb-false at (length s) q))
 

@@ -7,6 +7,7 @@ use Rattle.grammar.specs.Parse.{Turn, again, last}
 use Rattle.grammar.specs.Grammar.{G, ret, bad, look, lookTwo, judge, settle, eat, seq, loop, _>>=_, _>>_}
 use Rattle.xml.specs.Bytes.{bytes, isSpace, lessThan, slash, exclamation, question, ampersand}
 use Rattle.xml.specs.Xml.{name, entity, comment, textTo, Tag, Rules, plain, startTag, openName, endTag}
+use Rattle.refusals.specs.Refusals as Refusal
 
 -- ---- between elements
 
@@ -22,7 +23,7 @@ module _ {C : Type 0} where
   markup end fault body a b =
       cond (eqb b slash) (end >> ret close)
       (cond (eqb b exclamation) (comment >> ret misc)
-      (cond (eqb b question) (bad 3)
+      (cond (eqb b question) (bad Refusal.formNotCarried)
       (seq (judge fault openName) (λ w. seq (body w) (λ v. ret (child v))))))
 
   -- 'white space and comments may stand .. between elements'; 'bare text between elements is 5', at that byte; an `&` there is 5, or 3 if it is no `&` form
@@ -30,7 +31,7 @@ module _ {C : Type 0} where
   betweenByte end fault body b =
       cond (isSpace b) (eat >> ret misc)
       (cond (eqb b lessThan) (lookTwo (markup end fault body))
-      (cond (eqb b ampersand) (settle 5 entity >> bad 5) (bad 5)))
+      (cond (eqb b ampersand) (settle Refusal.wrongElement entity >> bad Refusal.wrongElement) (bad Refusal.wrongElement)))
 
   -- the next part between elements, by how the end tag reads, which names are at fault, and what a child of a name is
   unfoldable pub between : G (Unit {0}) → (List ℕ → ℕ) → (List ℕ → G C) → G (Part C)
@@ -64,8 +65,8 @@ module _ {S : Type 0} where
 -- by the byte behind a `<`: 'a comment inside a value element, an Array or a text-only element is 3', and so is `<?`; an element is 5 once its name has ended
 abbrev pub forbidden : {A : Type 0} → ℕ → G A
 forbidden b =
-    cond (eqb b exclamation) (settle 3 comment >> bad 3)
-    (cond (eqb b question) (bad 3) (judge (λ w. 5) openName >> bad 5))
+    cond (eqb b exclamation) (settle Refusal.formNotCarried comment >> bad Refusal.formNotCarried)
+    (cond (eqb b question) (bad Refusal.formNotCarried) (judge (λ w. Refusal.wrongElement) openName >> bad Refusal.wrongElement))
 
 -- at the `<` behind text or numbers: the end tag of this name, before which `missing` lacks, or what may not stand there
 unfoldable pub onlyEnd : List ℕ → ℕ → G (Unit {0})
@@ -88,7 +89,7 @@ abbrev pub infoMarkup : G (Unit {0}) → List ℕ → ℕ → ℕ → G (Turn (U
 infoMarkup element w a b =
     cond (eqb b slash) (endTag w 0 >> ret (last tt))
     (cond (eqb b exclamation) (comment >> ret (again tt))
-    (cond (eqb b question) (bad 3) (element >> ret (again tt))))
+    (cond (eqb b question) (bad Refusal.formNotCarried) (element >> ret (again tt))))
 
 abbrev pub infoByte : G (Unit {0}) → List ℕ → ℕ → G (Turn (Unit {0}) (Unit {0}))
 infoByte element w b =
@@ -104,7 +105,7 @@ infoRest element w tag = cond (tag .empty) (ret tt) (infoContent element w)
 
 -- an element below which n levels may nest: 'any element at depth 17, empty or not, is 3', at its `<` once its name has ended
 unfoldable pub infoElement : ℕ → G (Unit {0})
-infoElement zero = judge (λ w. 3) openName >> ret tt
+infoElement zero = judge (λ w. Refusal.formNotCarried) openName >> ret tt
 infoElement (suc n) = do
   w ← openName
   tag ← startTag plain

@@ -11,6 +11,7 @@ use Rattle.grammar.specs.Grammar.{G, ret, bad, look, lookTwo, judge, settle, bl
 use Rattle.xml.specs.Among.{among}
 use Rattle.xml.specs.AmongLaws.{AllNames, among-answer}
 use Rattle.xml.specs.Bytes.{bytes, same, isSpace, isLetter, isDigit, isNameByte, isQuote, lessThan, greaterThan, slash, exclamation, question, ampersand, equals, dash}
+use Rattle.refusals.specs.Refusals as Refusal
 
 -- the byte c, or the fault k at the byte that stands there
 abbrev pub byte : ℕ → ℕ → G ℕ
@@ -27,7 +28,7 @@ spaces = span isSpace
 
 -- 'A name is an ASCII letter, then letters, digits, `_ : - .`'; another first byte is 2 there. 'A name that touches the end of the bytes is cut short'
 unfoldable pub name : G (List ℕ)
-name = look (λ b. cond (isLetter b) (span isNameByte) (bad 2))
+name = look (λ b. cond (isLetter b) (span isNameByte) (bad Refusal.notWellFormed))
 
 -- the bytes `lead` and one of these names behind them, each with what it stands for; else the fault k at the first byte
 abbrev pub oneOf : {A : Type 0} → List ℕ → ℕ → (l : List (List ℕ × A)) → AllNames l → G A
@@ -43,20 +44,20 @@ unfolding isLetter isDigit isNameByte
 entity-names = (refl, (refl, (refl, (refl, (refl, tt)))))
 
 unfoldable pub entity : G (Unit {0})
-entity = blame (eat >> oneOf [] 3 entityNames entity-names >> byte (code ";") 3 >> ret tt)
+entity = blame (eat >> oneOf [] Refusal.formNotCarried entityNames entity-names >> byte (code ";") Refusal.formNotCarried >> ret tt)
 
 -- ---- comments: '`--` in a comment [is] 2', 'any other `<!` [is] 3', both at the comment's first byte
 
 -- after a dash of a comment: a second one is its end, and must be
 abbrev pub afterDash : ℕ → G (Turn (Unit {0}) (Unit {0}))
-afterDash b = cond (eqb b dash) (eat >> byte greaterThan 2 >> ret (last tt)) (ret (again tt))
+afterDash b = cond (eqb b dash) (eat >> byte greaterThan Refusal.notWellFormed >> ret (last tt)) (ret (again tt))
 
 -- a comment's bytes to the next dash
 unfoldable pub commentPart : G (Turn (Unit {0}) (Unit {0}))
 commentPart = span (λ b. not (eqb b dash)) >> eat >> look afterDash
 
 unfoldable pub comment : G (Unit {0})
-comment = blame (word (bytes "<!--") 3 >> loop (λ (st : Unit {0}). commentPart) tt)
+comment = blame (word (bytes "<!--") Refusal.formNotCarried >> loop (λ (st : Unit {0}). commentPart) tt)
 
 -- ---- texts: bytes and `&` forms, up to a byte that stops them and is not read
 
@@ -64,7 +65,7 @@ comment = blame (word (bytes "<!--") 3 >> loop (λ (st : Unit {0}). commentPart)
 abbrev pub textByte : (ℕ → Bool) → ℕ → G (Turn (Unit {0}) (Unit {0}))
 textByte stop b =
     cond (stop b) (ret (last tt))
-    (cond (eqb b lessThan) (bad 2)
+    (cond (eqb b lessThan) (bad Refusal.notWellFormed)
     (cond (eqb b ampersand) (entity >> ret (again tt)) (eat >> ret (again tt))))
 
 -- a text: its bytes as they stand
@@ -105,16 +106,16 @@ plain = record { names = λ w. 0; texts = λ w t. 0; opened = λ l. 0; emptied =
 
 -- 'At most 16 attributes on a tag, none twice': a second one of its name is 2, the seventeenth 3, at its first byte once its name has ended
 abbrev pub nameFault : Rules → List Attribute → List ℕ → ℕ
-nameFault rules attributes w = cond (isNamed w attributes) 2 (cond (leb 16 (length attributes)) 3 (rules .names w))
+nameFault rules attributes w = cond (isNamed w attributes) Refusal.notWellFormed (cond (leb 16 (length attributes)) Refusal.formNotCarried (rules .names w))
 
 -- an attribute after others: 'white space may surround `=`'
 unfoldable pub attribute : Rules → List Attribute → G Attribute
 attribute rules attributes = do
   w ← judge (nameFault rules attributes) name
   spaces
-  byte equals 2
+  byte equals Refusal.notWellFormed
   spaces
-  q ← judge (λ b. cond (isQuote b) 0 2) eat
+  q ← judge (λ b. cond (isQuote b) 0 Refusal.notWellFormed) eat
   t ← judge (λ x. rules .texts w (x .1)) (textTo q)
   eat
   ret (record { name = w; text = t .1 })
@@ -136,10 +137,10 @@ abbrev pub tagByte : Rules → TagState → ℕ → G (Turn TagState Tag)
 tagByte rules st b =
     cond (isSpace b) (eat >> ret (again (record { spaced = true; attributes = st .attributes })))
     (cond (eqb b greaterThan) (judge (λ x. rules .opened (st .attributes)) eat >> ret (last (record { attributes = st .attributes; empty = false })))
-    (cond (eqb b slash) (judge (λ x. rules .emptied (st .attributes)) (word (bytes "/>") 2) >> ret (last (record { attributes = st .attributes; empty = true })))
+    (cond (eqb b slash) (judge (λ x. rules .emptied (st .attributes)) (word (bytes "/>") Refusal.notWellFormed) >> ret (last (record { attributes = st .attributes; empty = true })))
     (cond (st .spaced)
     (seq (attribute rules (st .attributes)) (λ a. ret (again (record { spaced = false; attributes = st .attributes ++ a ∷ [] }))))
-    (bad 2))))
+    (bad Refusal.notWellFormed))))
 
 -- a start tag after its name
 unfoldable pub startTag : Rules → G Tag
@@ -158,8 +159,8 @@ closeName = eat >> eat >> name
 -- the end tag of an element: another name is 2 at its `<`, once the name has ended. What is missing before it, or broken, is the fault `missing` at its `<`:
 -- 'at the first byte of .. an end tag nothing is judged until it has ended or is not well formed'
 unfoldable pub endTag : List ℕ → ℕ → G (Unit {0})
-endTag w missing = settle missing (judge (λ n. cond (same n w) 0 2) closeName >> spaces >> byte greaterThan 2 >> ret tt)
+endTag w missing = settle missing (judge (λ n. cond (same n w) 0 Refusal.notWellFormed) closeName >> spaces >> byte greaterThan Refusal.notWellFormed >> ret tt)
 
 -- an end tag where no element is open is 2 at its `<`
 unfoldable pub strayEnd : G (Unit {0})
-strayEnd = judge (λ n. 2) closeName >> ret tt
+strayEnd = judge (λ n. Refusal.notWellFormed) closeName >> ret tt

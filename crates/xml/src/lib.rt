@@ -188,7 +188,7 @@ pub fn name(s: &[u8], at: usize) -> Scan
     if is_letter(s[at]) {
         return name_bytes(s, at + 1);
     }
-    Scan::Fault(2, at)
+    Scan::Fault(refusals::NOT_WELL_FORMED, at)
 }
 
 // The same answer, a fault placed at `at`.
@@ -231,7 +231,7 @@ pub fn name_or(s: &[u8], at: usize, w: &[u8], other: Scan) -> Scan
 fn entity_name(s: &[u8], at: usize) -> Scan
     ensures { λ r. ⌜ (at ≤ length (now (s .entry)) → Reads 0 (among [] 3 Xml.entityNames) noValue (now (s .entry)) at r) ⌝ }
 {
-    let apos = name_or(s, at, b"apos", Scan::Fault(3, at));
+    let apos = name_or(s, at, b"apos", Scan::Fault(refusals::FORM_NOT_CARRIED, at));
     let quot = name_or(s, at, b"quot", apos);
     let gt = name_or(s, at, b"gt", quot);
     let lt = name_or(s, at, b"lt", gt);
@@ -249,7 +249,7 @@ pub fn entity(s: &[u8], at: usize) -> Scan
     let Scan::At(e) = r else {
         return blamed(r, at);
     };
-    blamed(byte(s, e, b';', 3), at)
+    blamed(byte(s, e, b';', refusals::FORM_NOT_CARRIED), at)
 }
 
 // A comment behind its `<!--`.
@@ -264,7 +264,7 @@ fn comment_body(s: &[u8], at: usize) -> Scan
                 return Scan::Cut;
             }
             if s[j] == b'-' {
-                return byte(s, j + 1, b'>', 2);
+                return byte(s, j + 1, b'>', refusals::NOT_WELL_FORMED);
             }
         }
         i = j;
@@ -278,7 +278,7 @@ pub fn comment(s: &[u8], at: usize) -> Scan
     if s.len() <= at {
         return Scan::Cut;
     }
-    let r = word(s, at, b"<!--", 3);
+    let r = word(s, at, b"<!--", refusals::FORM_NOT_CARRIED);
     let Scan::At(e) = r else {
         return blamed(r, at);
     };
@@ -296,7 +296,7 @@ pub fn text_to(s: &[u8], at: usize, stop: u8) -> Scan
             return Scan::At(i);
         }
         if b == b'<' {
-            return Scan::Fault(2, i);
+            return Scan::Fault(refusals::NOT_WELL_FORMED, i);
         }
         if b == b'&' {
             let r = entity(s, i);
