@@ -111,7 +111,9 @@ fn array(
     powers: &mut [i8],
     base: usize,
 ) -> TableStep
-    ensures { λ r. ⌜ ReadsTo ((Nodes.array (Code.shapeOf table)) .run) (now (s .entry)) at (r .scan) (Code.TableIn base (lent (now (coefficients .entry)) (now (powers .entry))) (lent (now (coefficients .exit)) (now (powers .exit))) (r .kind)) (Code.SameCleared base (lent (now (coefficients .entry)) (now (powers .entry))) (lent (now (coefficients .exit)) (now (powers .exit)))) ⌝ }
+    ensures { λ r. ⌜ ReadsTo ((Nodes.array (Code.shapeOf table)) .run) (now (s .entry)) at (r .scan)
+        (Code.TableIn base (lent (now (coefficients .entry)) (now (powers .entry))) (lent (now (coefficients .exit)) (now (powers .exit))) (r .kind))
+        (Code.SameCleared base (lent (now (coefficients .entry)) (now (powers .entry))) (lent (now (coefficients .exit)) (now (powers .exit)))) ⌝ }
 {
     let tag = tags::start_tag(s, at, array_tag(table));
     let end = tag.end;
@@ -165,7 +167,9 @@ fn array_child(
     base: usize,
 ) -> ArrayStep
     requires { ⌜ (at + 2 ≤ e) × (e ≤ length (now s)) ⌝ }
-    ensures { λ r. ⌜ ((m₀ : Room) (st : Nodes.ArrayState) → Code.ArrayStands base m₀ (lent (now (coefficients .entry)) (now (powers .entry))) state st → Goes (Code.holderOf table) st (now (s .entry)) at e (r .scan) (Code.ArrayStands base m₀ (lent (now (coefficients .exit)) (now (powers .exit))) r) (Code.SameCleared base m₀ (lent (now (coefficients .exit)) (now (powers .exit))))) ⌝ }
+    ensures { λ r. ⌜ ((m₀ : Room) (st : Nodes.ArrayState) → Code.ArrayStands base m₀ (lent (now (coefficients .entry)) (now (powers .entry))) state st
+        → Goes (Code.holderOf table) st (now (s .entry)) at e (r .scan) (Code.ArrayStands base m₀ (lent (now (coefficients .exit)) (now (powers .exit))) r)
+        (Code.SameCleared base m₀ (lent (now (coefficients .exit)) (now (powers .exit))))) ⌝ }
 {
     let found = state.found;
     let w = tags::part(s, at + 1, e);
@@ -219,7 +223,9 @@ fn array_content(
     powers: &mut [i8],
     base: usize,
 ) -> ArrayStep
-    ensures { λ r. ⌜ ReadsTo ((held (Code.holderOf table) Nodes.noArray) .run) (now (s .entry)) at (r .scan) (Code.ArrayWhole base (lent (now (coefficients .entry)) (now (powers .entry))) (lent (now (coefficients .exit)) (now (powers .exit))) r) (Code.SameCleared base (lent (now (coefficients .entry)) (now (powers .entry))) (lent (now (coefficients .exit)) (now (powers .exit)))) ⌝ }
+    ensures { λ r. ⌜ ReadsTo ((held (Code.holderOf table) Nodes.noArray) .run) (now (s .entry)) at (r .scan)
+        (Code.ArrayWhole base (lent (now (coefficients .entry)) (now (powers .entry))) (lent (now (coefficients .exit)) (now (powers .exit))) r)
+        (Code.SameCleared base (lent (now (coefficients .entry)) (now (powers .entry))) (lent (now (coefficients .exit)) (now (powers .exit)))) ⌝ }
 {
     let mut state = no_array(at);
     let mut i = at;

@@ -148,7 +148,8 @@ fn inner_child(
     powers: &mut [i8],
 ) -> Scan
     requires { ⌜ (at + 2 ≤ e) × (e ≤ length (now s)) × (count ≤ 9) ⌝ }
-    ensures { λ r. ⌜ ((m₀ : Room.Room) (l : List Decimals.Decimal) → Code.InnerStands part m₀ (lent (now (coefficients .entry)) (now (powers .entry))) count l → Goes (Code.innerHolder part) l (now (s .entry)) at e r (Code.InnerStands part m₀ (lent (now (coefficients .exit)) (now (powers .exit))) (count + Code.widthOf part)) (Unit {0})) ⌝ }
+    ensures { λ r. ⌜ ((m₀ : Room.Room) (l : List Decimals.Decimal) → Code.InnerStands part m₀ (lent (now (coefficients .entry)) (now (powers .entry))) count l
+        → Goes (Code.innerHolder part) l (now (s .entry)) at e r (Code.InnerStands part m₀ (lent (now (coefficients .exit)) (now (powers .exit))) (count + Code.widthOf part)) (Unit {0})) ⌝ }
 {
     let w = tags::part(s, at + 1, e);
     let k = inner_fault(w, part, count);
@@ -179,7 +180,8 @@ fn inner_content(
     coefficients: &mut [i64],
     powers: &mut [i8],
 ) -> Scan
-    ensures { λ r. ⌜ ReadsTo ((held (Code.innerHolder part) []) .run) (now (s .entry)) at r (NumbersIn (Code.topOf part) (Code.baseOf part) (lent (now (coefficients .entry)) (now (powers .entry))) (lent (now (coefficients .exit)) (now (powers .exit)))) (Unit {0}) ⌝ }
+    ensures { λ r. ⌜ ReadsTo ((held (Code.innerHolder part) []) .run) (now (s .entry)) at r
+        (NumbersIn (Code.topOf part) (Code.baseOf part) (lent (now (coefficients .entry)) (now (powers .entry))) (lent (now (coefficients .exit)) (now (powers .exit)))) (Unit {0}) ⌝ }
 {
     let width = inner_width(part);
     let mut count: usize = 0;
@@ -209,7 +211,8 @@ fn inner_node(
     coefficients: &mut [i64],
     powers: &mut [i8],
 ) -> Scan
-    ensures { λ r. ⌜ ReadsTo ((Code.innerNode part) .run) (now (s .entry)) at r (NumbersIn (Code.topOf part) (Code.baseOf part) (lent (now (coefficients .entry)) (now (powers .entry))) (lent (now (coefficients .exit)) (now (powers .exit)))) (Unit {0}) ⌝ }
+    ensures { λ r. ⌜ ReadsTo ((Code.innerNode part) .run) (now (s .entry)) at r
+        (NumbersIn (Code.topOf part) (Code.baseOf part) (lent (now (coefficients .entry)) (now (powers .entry))) (lent (now (coefficients .exit)) (now (powers .exit)))) (Unit {0}) ⌝ }
 {
     let tag = tags::start_tag(s, at, TagKind::Holder);
     let end = tag.end;
@@ -272,7 +275,8 @@ fn cdl_body(
     coefficients: &mut [i64],
     powers: &mut [i8],
 ) -> CdlStep
-    ensures { λ r. ⌜ ((st : Nodes.CdlState) → Code.CdlStands (lent (now (coefficients .entry)) (now (powers .entry))) state st → ReadsTo ((Nodes.cdlBody st (now (w .entry))) .run) (now (s .entry)) at (r .scan) (Code.CdlStands (lent (now (coefficients .exit)) (now (powers .exit))) r) (Unit {0})) ⌝ }
+    ensures { λ r. ⌜ ((st : Nodes.CdlState) → Code.CdlStands (lent (now (coefficients .entry)) (now (powers .entry))) state st
+        → ReadsTo ((Nodes.cdlBody st (now (w .entry))) .run) (now (s .entry)) at (r .scan) (Code.CdlStands (lent (now (coefficients .exit)) (now (powers .exit))) r) (Unit {0})) ⌝ }
 {
     let sop = state.sop;
     let sat = state.sat;
@@ -305,7 +309,8 @@ fn cdl_child(
     powers: &mut [i8],
 ) -> CdlStep
     requires { ⌜ (at + 2 ≤ e) × (e ≤ length (now s)) ⌝ }
-    ensures { λ r. ⌜ ((st : Nodes.CdlState) → Code.CdlStands (lent (now (coefficients .entry)) (now (powers .entry))) state st → Goes Nodes.cdlHolder st (now (s .entry)) at e (r .scan) (Code.CdlStands (lent (now (coefficients .exit)) (now (powers .exit))) r) (Unit {0})) ⌝ }
+    ensures { λ r. ⌜ ((st : Nodes.CdlState) → Code.CdlStands (lent (now (coefficients .entry)) (now (powers .entry))) state st
+        → Goes Nodes.cdlHolder st (now (s .entry)) at e (r .scan) (Code.CdlStands (lent (now (coefficients .exit)) (now (powers .exit))) r) (Unit {0})) ⌝ }
 {
     let w = tags::part(s, at + 1, e);
     let k = cdl_fault(w, state.sop, state.sat);

@@ -10,10 +10,12 @@ use Rattle.grammar.specs.Parse.{again, last}
 use Rattle.grammar.specs.Grammar.{G}
 use Rattle.xml.specs.Bytes.{bytes, same, isSpace, isLetter, isNameByte, isQuote, lessThan, greaterThan, slash, exclamation, question, ampersand, equals, dash}
 use Rattle.xml.specs.AmongLaws.{among-fault}
-use Rattle.xml.specs.Xml.{spaces, name, oneOf, entityNames, entity-names, entity, commentPart, comment, text, Attribute, isNamed, Rules, plain, nameFault, attribute, TagState, Tag, tagByte, startTag, openName, closeName, endTag, strayEnd}
+use Rattle.xml.specs.Xml.{spaces, name, oneOf, entityNames, entity-names, entity, commentPart, comment, text, Attribute, isNamed, Rules, plain, nameFault, attribute, TagState, Tag}
+use Rattle.xml.specs.Xml.{tagByte, startTag, openName, closeName, endTag, strayEnd}
 use Rattle.xml.specs.Elements.{misc, child, close, markup, between, Holder, afterPart, held, forbidden, onlyEnd, textContent, textElement, infoByte, infoRest, infoElement, info}
 use Rattle.claims.specs.Refusals.{isTextFault}
-use Rattle.claims.proofs.Faults.{Blames, Fair, fair-zero, fair-by, fair-cond, blames-ret, blames-bad, blames-cond, blames-look, blames-lookTwo, blames-judge, blames-settle, blames-blame, blames-kept, blames-eat, blames-span, blames-byte, blames-word, blames-seq, blames-loop}
+use Rattle.claims.proofs.Faults.{Blames, Fair, fair-zero, fair-by, fair-cond, blames-ret, blames-bad, blames-cond, blames-look, blames-lookTwo, blames-judge, blames-settle}
+use Rattle.claims.proofs.Faults.{blames-blame, blames-kept, blames-eat, blames-span, blames-byte, blames-word, blames-seq, blames-loop}
 
 abbrev pub Textual : ℕ → Type 0
 Textual k = isTextFault k ≡ true
@@ -94,9 +96,11 @@ module _ (rules : Rules) (right : RightRules rules) where
   tag-well st b =
       blames-cond (isSpace b) (blames-seq blames-eat (λ a. blames-ret (again (record { spaced = true; attributes = st .attributes }))))
       (blames-cond (eqb b greaterThan)
-      (blames-seq (blames-judge (λ x. rules .opened (st .attributes)) (λ x. right .opened (st .attributes)) blames-eat) (λ a. blames-ret (last (record { attributes = st .attributes; empty = false }))))
+      (blames-seq (blames-judge (λ x. rules .opened (st .attributes)) (λ x. right .opened (st .attributes)) blames-eat)
+      (λ a. blames-ret (last (record { attributes = st .attributes; empty = false }))))
       (blames-cond (eqb b slash)
-      (blames-seq (blames-judge (λ x. rules .emptied (st .attributes)) (λ x. right .emptied (st .attributes)) (blames-word (bytes "/>") 2 two)) (λ a. blames-ret (last (record { attributes = st .attributes; empty = true }))))
+      (blames-seq (blames-judge (λ x. rules .emptied (st .attributes)) (λ x. right .emptied (st .attributes)) (blames-word (bytes "/>") 2 two))
+      (λ a. blames-ret (last (record { attributes = st .attributes; empty = true }))))
       (blames-cond (st .spaced) (blames-seq (attribute-well (st .attributes)) (λ a. blames-ret (again (record { spaced = false; attributes = st .attributes ++ a ∷ [] })))) (blames-bad 2 refl))))
 
   pub startTag-well : Well (startTag rules)
@@ -115,7 +119,8 @@ pub endTag-well : (w : List ℕ) (missing : ℕ) → Right missing → Well (end
 unfolding endTag
 endTag-well w missing h =
     blames-settle missing h
-    (blames-seq (blames-seq (blames-seq (blames-judge (λ n. cond (same n w) 0 2) (λ n. fair-cond (same n w) fair-zero two) closeName-well) (λ a. spaces-well)) (λ a. blames-byte greaterThan 2 two)) (λ a. blames-ret tt))
+    (blames-seq (blames-seq (blames-seq (blames-judge (λ n. cond (same n w) 0 2) (λ n. fair-cond (same n w) fair-zero two) closeName-well) (λ a. spaces-well)) (λ a. blames-byte greaterThan 2 two))
+    (λ a. blames-ret tt))
 
 pub strayEnd-well : Well strayEnd
 unfolding strayEnd

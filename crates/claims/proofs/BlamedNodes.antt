@@ -18,7 +18,10 @@ use Rattle.xml.specs.Bytes.{bytes, same, isSpace, lessThan}
 use Rattle.xml.specs.Xml.{Attribute, isNamed, textOf}
 use Rattle.xml.specs.Elements.{held}
 use Rattle.clf.specs.Numbers.{endsToken, token, saidBy, faultOf, numbers, anyNumber, notBelowZero, onlyOne, valueRules, valueElement}
-use Rattle.clf.specs.Nodes.{isSome, depthOf, nodeTexts, nodeMissing, nodeRules, matrixShape, lutShape, arrayRules, arrayOf, array, noArray, arrayHolder, tableNode, matrix, lutNames, lutTexts, lut1d, rangeIndex, noValues, isThere, anyThere, allThere, inOrder, oneOf, rangeHolder, rangeTexts, rangeNode, range, holderRules, sopName, sopRule, sopHolder, sopNode, satHolder, satNode, CdlState, noCdl, cdlFault, cdlBody, cdlHolder, cdlTexts, cdlNode, cdlRules, ascCdl, NodeName, isMatrix, isLut1d, isRange, isCdl, notCarried, noNode, nodeFault, nodeBody}
+use Rattle.clf.specs.Nodes.{isSome, depthOf, nodeTexts, nodeMissing, nodeRules, matrixShape, lutShape, arrayRules, arrayOf, array, noArray, arrayHolder, tableNode, matrix}
+use Rattle.clf.specs.Nodes.{lutNames, lutTexts, lut1d, rangeIndex, noValues, isThere, anyThere, allThere, inOrder, oneOf, rangeHolder, rangeTexts, rangeNode, range, holderRules}
+use Rattle.clf.specs.Nodes.{sopName, sopRule, sopHolder, sopNode, satHolder, satNode, CdlState, noCdl, cdlFault, cdlBody, cdlHolder, cdlTexts, cdlNode, cdlRules, ascCdl, NodeName}
+use Rattle.clf.specs.Nodes.{isMatrix, isLut1d, isRange, isCdl, notCarried, noNode, nodeFault, nodeBody}
 use Rattle.claims.proofs.Faults.{fair-zero, fair-by, fair-cond, blames-ret, blames-bad, blames-cond, blames-look, blames-judge, blames-eat, blames-seq, blames-loop}
 use Rattle.claims.proofs.Blamed.{Well, Right, five, RightRules, text-well, startTag-well, held-well, onlyEnd-well, textElement-well}
 

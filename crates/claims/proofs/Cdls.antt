@@ -22,7 +22,8 @@ use Rattle.xml.specs.Bytes.{bytes, same}
 use Rattle.xml.specs.Xml.{textOf, Tag, startTag}
 use Rattle.xml.specs.Elements.{textElement}
 use Rattle.clf.specs.Numbers.{anyNumber, notBelowZero, onlyOne}
-use Rattle.clf.specs.Nodes.{cdlStyle, orElse, holderRules, sopName, sopRule, sopHolder, sopNode, satHolder, satNode, CdlState, cdlBody, cdlHolder, oneNumber, threeTimes, sopNumbers, satNumbers, cdlNode, cdlRules, cdlContent, ascCdl}
+use Rattle.clf.specs.Nodes.{cdlStyle, orElse, holderRules, sopName, sopRule, sopHolder, sopNode, satHolder, satNode, CdlState, cdlBody, cdlHolder, oneNumber, threeTimes}
+use Rattle.clf.specs.Nodes.{sopNumbers, satNumbers, cdlNode, cdlRules, cdlContent, ascCdl}
 use Rattle.claims.proofs.Always.{Holds, holds-ret, holds-cond, holds-seq, holds-then}
 use Rattle.claims.proofs.Numbers.{Each, each-more, each-map, Carried, Kept, Counted, value-holds}
 use Rattle.claims.proofs.Held.{Ended, held-holds}
@@ -223,13 +224,26 @@ cdl-rules l (d ∷ []) n k =
     let b : Three anyNumber (n .b) = three anyNumber (n .b) (n .offsets) in
     let c : Three onlyOne (n .c) = three onlyOne (n .c) (n .powers) in
     subst (λ (x : List Decimal). cdlHolds (x ++ d ∷ []) ≡ true) (sym (n .is))
-    (rw (a .is, b .is, c .is, not-below (a .x) (a .kx), not-below (a .y) (a .ky), not-below (a .z) (a .kz), is-one (c .x) (c .kx), is-one (c .y) (c .ky), is-one (c .z) (c .kz), not-below d (k .kept .0)))
+    (rw (
+      a .is,
+      b .is,
+      c .is,
+      not-below (a .x) (a .kx),
+      not-below (a .y) (a .ky),
+      not-below (a .z) (a .kz),
+      is-one (c .x) (c .kx),
+      is-one (c .y) (c .ky),
+      is-one (c .z) (c .kz),
+      not-below d
+          (k .kept .0),
+    ))
 
 nine-each : (l : List Decimal) → Nine l → Each Carried l
 nine-each l n =
     subst (Each Carried) (sym (n .is))
     (each-more Carried (n .a ++ n .b) (n .c)
-    (each-more Carried (n .a) (n .b) (each-map (Kept notBelowZero) Carried (n .a) (λ d k. k .carried) (n .slopes .kept)) (each-map (Kept anyNumber) Carried (n .b) (λ d k. k .carried) (n .offsets .kept)))
+    (each-more Carried (n .a) (n .b) (each-map (Kept notBelowZero) Carried (n .a) (λ d k. k .carried) (n .slopes .kept))
+    (each-map (Kept anyNumber) Carried (n .b) (λ d k. k .carried) (n .offsets .kept)))
     (each-map (Kept onlyOne) Carried (n .c) (λ d k. k .carried) (n .powers .kept)))
 
 nine-length : (l : List Decimal) → Nine l → length l ≡ 9

@@ -151,7 +151,8 @@ tag-last rules st (b ∷ s) tag r e = go (isSpace b) (eqb b greaterThan) (eqb b 
     more = seq (attribute rules (st .attributes)) (λ a. ret (again (record { spaced = false; attributes = st .attributes ++ a ∷ [] })))
 
     go : (v w y z : Bool) → eqb b greaterThan ≡ w
-        → (cond v (eat >> ret (again (record { spaced = true; attributes = st .attributes }))) (cond w opened (cond y emptied (cond z more (bad 2))))) .run (b ∷ s) ≡ done (last tag) r → Ended (b ∷ s) r
+        → (cond v (eat >> ret (again (record { spaced = true; attributes = st .attributes }))) (cond w opened (cond y emptied (cond z more (bad 2))))) .run (b ∷ s) ≡ done (last tag) r
+        → Ended (b ∷ s) r
     go true w y z q f = nope cc
     go false true y z q f =
         let i = bind-inv ((judge (λ x. rules .opened (st .attributes)) eat) .run) (λ a. retP (last (record { attributes = st .attributes; empty = false }))) (b ∷ s) (last tag) r f in

@@ -15,7 +15,8 @@ use Rattle.clf.specs.Places.{nodeSpan}
 use Rattle.clf.specs.Reading.{Reading, accepted, faulty, unfit, mostBytes, placeIn, isNumbered, listReading, readText, read}
 use Rattle.clf.specs.Reading as R
 use Rattle.look.specs.Replacing.{element, Replacing, refused, replacingBy, listed, byElement, replace, listAfter}
-use Rattle.claims.specs.TriedFile.{asReplacing, spliced, Attempt, answers, tries, trying, attemptElement, attempt, answeredBy, byAttempt, fileCall, listCall, NotBefore, InElement, AllInElement, SmallAttempt, Small, SameRun}
+use Rattle.claims.specs.TriedFile.{asReplacing, spliced, Attempt, answers, tries, trying, attemptElement, attempt, answeredBy, byAttempt, fileCall, listCall, NotBefore}
+use Rattle.claims.specs.TriedFile.{InElement, AllInElement, SmallAttempt, Small, SameRun}
 use Rattle.claims.proofs.Sound.{and-true}
 use Rattle.claims.proofs.Spliced.{Opened, opened, spliced-done, spliced-fault}
 use Rattle.claims.proofs.Rules.{Short, read-short}

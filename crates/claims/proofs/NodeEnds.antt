@@ -16,7 +16,9 @@ use Rattle.grammar.specs.Splice.{done-law, bind-inv, strict-inv}
 use Rattle.xml.specs.Bytes.{bytes, same, isSpace, lessThan, slash, exclamation, question, ampersand}
 use Rattle.xml.specs.Xml.{entity, comment, Tag, startTag, openName, endTag}
 use Rattle.xml.specs.Elements.{Part, misc, child, close, markup, between, held, textElement, info}
-use Rattle.clf.specs.Nodes.{nodeRules, arrayHolder, noArray, tableNode, matrixShape, matrix, lutShape, lutNames, lutTexts, lut1d, rangeHolder, noValues, rangeTexts, rangeNode, range, CdlState, cdlHolder, noCdl, cdlRules, cdlContent, cdlNode, ascCdl, NodeName, isMatrix, isLut1d, isRange, isCdl, notCarried, noNode, nodeName, nodeBody}
+use Rattle.clf.specs.Nodes.{nodeRules, arrayHolder, noArray, tableNode, matrixShape, matrix, lutShape, lutNames, lutTexts, lut1d, rangeHolder, noValues, rangeTexts, rangeNode}
+use Rattle.clf.specs.Nodes.{range, CdlState, cdlHolder, noCdl, cdlRules, cdlContent, cdlNode, ascCdl, NodeName, isMatrix, isLut1d, isRange, isCdl, notCarried, noNode, nodeName}
+use Rattle.clf.specs.Nodes.{nodeBody}
 use Rattle.clf.specs.List.{Child, node, description, inputDescriptor, outputDescriptor, infoChild, Flags, childFault, childBody, listItem}
 use Rattle.claims.proofs.Closing.{Ended, further, Closes, Stops, closes-last, closes-ret, closes-stops, stops-ret, startTag-closes, held-closes}
 
@@ -100,7 +102,8 @@ module _ (st : Flags) (n : Element) (r : List ℕ) where
       two (x ∷ []) f = nope cc
       two (x ∷ y ∷ s) f = markup-node x y (x ∷ y ∷ s) (strict-inv ((markup end (childFault st) childBody x y) .run) (x ∷ y ∷ s) (child (node n)) r f)
 
-      go : (v w z : Bool) → (cond v (eat >> ret misc) (cond w (lookTwo (markup end (childFault st) childBody)) (cond z (settle 5 entity >> bad 5) (bad 5)))) .run (b ∷ s) ≡ done (child (node n)) r → Ended (b ∷ s) r
+      go : (v w z : Bool) → (cond v (eat >> ret misc) (cond w (lookTwo (markup end (childFault st) childBody)) (cond z (settle 5 entity >> bad 5) (bad 5)))) .run (b ∷ s) ≡ done (child (node n)) r
+          → Ended (b ∷ s) r
       go true w z f = nope cc
       go false true z f = two (b ∷ s) f
       go false false true f = let i = bind-inv ((settle 5 entity) .run) (λ u. (bad {A = Part Child} 5) .run) (b ∷ s) (child (node n)) r f in nope (cc (i .3))

@@ -18,7 +18,8 @@ use Rattle.xml.specs.Bytes.{bytes, same}
 use Rattle.xml.specs.Xml.{isNamed, Tag, strayEnd}
 use Rattle.xml.specs.Elements.{Part, between, info}
 use Rattle.clf.specs.Nodes.{NodeName, nodeName, nodeFault, nodeBody}
-use Rattle.clf.specs.List.{declaration, node, description, inputDescriptor, outputDescriptor, infoChild, Flags, noFlags, childFault, childBody, listItem, nextFlags, listRules, rootFault, toRoot, prologue, head, Document, listContent, document, onward, tailPart, tail}
+use Rattle.clf.specs.List.{declaration, node, description, inputDescriptor, outputDescriptor, infoChild, Flags, noFlags, childFault, childBody, listItem, nextFlags, listRules}
+use Rattle.clf.specs.List.{rootFault, toRoot, prologue, head, Document, listContent, document, onward, tailPart, tail}
 use Rattle.clf.specs.Reading.{Reading, accepted, faulty, mostBytes, readingNumber, nodesAmong, placeIn, readingBy, listReading, tailReading, textReading, readText, read}
 use Rattle.claims.specs.Refusals.{isTextFault, isListFault, Answered, whole, short, text, list}
 use Rattle.look.specs.Replacing.{start, element}

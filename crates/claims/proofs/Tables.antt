@@ -17,7 +17,8 @@ use Rattle.xml.specs.Bytes.{bytes, same}
 use Rattle.xml.specs.Xml.{Attribute, textOf, startTag}
 use Rattle.xml.specs.Elements.{held, textElement}
 use Rattle.clf.specs.Numbers.{anyNumber}
-use Rattle.clf.specs.Nodes.{isSome, nodeRules, matrixShape, wholeFrom, behindDigits, beginsWithZero, lutColumns, lutShape, arrayRules, Table, arrayOf, array, ArrayState, noArray, arrayBody, arrayHolder, tableNode, matrix, lutNames, lutTexts, lut1d}
+use Rattle.clf.specs.Nodes.{isSome, nodeRules, matrixShape, wholeFrom, behindDigits, beginsWithZero, lutColumns, lutShape, arrayRules, Table, arrayOf, array, ArrayState, noArray}
+use Rattle.clf.specs.Nodes.{arrayBody, arrayHolder, tableNode, matrix, lutNames, lutTexts, lut1d}
 use Rattle.claims.proofs.Always.{Holds, holds-ret, holds-bad, holds-cond, holds-seq, holds-then}
 use Rattle.claims.proofs.Numbers.{each-map, Carried, Kept, Counted, numbers-hold}
 use Rattle.claims.proofs.Held.{Ended, held-holds}

@@ -62,7 +62,8 @@ pub extern "C" fn clf_apply(
     powers: &mut [i8],
     pixels: &mut [f64],
 ) -> FileCheck
-    ensures { λ r. ⌜ Applies (now (file .entry)) (lent (now (coefficients .entry)) (now (powers .entry))) (now (pixels .entry)) r (lent (now (coefficients .exit)) (now (powers .exit))) (now (pixels .exit)) ⌝ }
+    ensures { λ r. ⌜ Applies (now (file .entry)) (lent (now (coefficients .entry)) (now (powers .entry))) (now (pixels .entry)) r (lent (now (coefficients .exit)) (now (powers .exit)))
+        (now (pixels .exit)) ⌝ }
 {
     if pixels.len() % 3 != 0 {
         return FileCheck {
@@ -88,7 +89,8 @@ fn read_and_run(
     pixels: &mut [f64],
 ) -> FileCheck
     requires { ⌜ sliceRefused (now pixels) ≡ false ⌝ }
-    ensures { λ r. ⌜ Applies (now (file .entry)) (lent (now (coefficients .entry)) (now (powers .entry))) (now (pixels .entry)) r (lent (now (coefficients .exit)) (now (powers .exit))) (now (pixels .exit)) ⌝ }
+    ensures { λ r. ⌜ Applies (now (file .entry)) (lent (now (coefficients .entry)) (now (powers .entry))) (now (pixels .entry)) r (lent (now (coefficients .exit)) (now (powers .exit)))
+        (now (pixels .exit)) ⌝ }
 {
     let answer = reading::read(file, coefficients, powers);
     if answer.number != 0 {

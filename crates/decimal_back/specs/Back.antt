@@ -13,7 +13,8 @@ use lib.ListN.{length}
 use Rattle.decimal.specs.declared.Decimal.{Decimal}
 use Rattle.decimal.specs.declared.Token.the-variants.{Number}
 use Rattle.decimal.specs.Decimal.{size, inRange}
-use Rattle.decimal_read.specs.Number.{Form, isMark, isEmpty, isMinus, behindSign, digitsOf, behindDigits, fractionOf, behindFraction, isExponent, exponentMinus, exponentDigits, formOf, append, withSign, scale, zeros, trailing, tokenBy, tokenOf}
+use Rattle.decimal_read.specs.Number.{Form, isMark, isEmpty, isMinus, behindSign, digitsOf, behindDigits, fractionOf, behindFraction, isExponent, exponentMinus, exponentDigits}
+use Rattle.decimal_read.specs.Number.{formOf, append, withSign, scale, zeros, trailing, tokenBy, tokenOf}
 use Rattle.decimal_read.specs.Number as Read
 use Rattle.decimal_write.specs.Written.{digits, whole, exponent, writtenOf, isNormal}
 use Rattle.decimal_write.specs.Laws.{written-short, written-parts, digits-short, digits-some}

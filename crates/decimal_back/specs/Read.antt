@@ -39,9 +39,12 @@ module _ (f : Form) (small : Small (f .whole ++ f .fraction)) where
   unfolding Read.normal
   form-normal = go (eqb (Read.digits f) 0) refl
     where
-      go : (t : Bool) → eqb (Read.digits f) 0 ≡ t → isNormal (cond t (record { coefficient = pos 0; power = pos 0 }) (record { coefficient = withSign (f .negative) (Read.digits f / 10 ^ trailing f); power = scale f +ℤ pos (trailing f) })) ≡ true
+      go : (t : Bool) → eqb (Read.digits f) 0 ≡ t
+          → isNormal (cond t (record { coefficient = pos 0; power = pos 0 }) (record { coefficient = withSign (f .negative) (Read.digits f / 10 ^ trailing f); power = scale f +ℤ pos (trailing f) })) ≡ true
       go true e = unfold isNormal in refl
-      go false e = ended (record { coefficient = withSign (f .negative) (Read.digits f / 10 ^ trailing f); power = scale f +ℤ pos (trailing f) }) (λ z. stripped (let n = eqb-false (Read.digits f) 0 e in omega arith) .ends (ap (λ (k : ℕ). k % 10) (sym (signed-size (f .negative) (Read.digits f / 10 ^ trailing f))) ∙ z))
+      go false e =
+          ended (record { coefficient = withSign (f .negative) (Read.digits f / 10 ^ trailing f); power = scale f +ℤ pos (trailing f) })
+          (λ z. stripped (let n = eqb-false (Read.digits f) 0 e in omega arith) .ends (ap (λ (k : ℕ). k % 10) (sym (signed-size (f .negative) (Read.digits f / 10 ^ trailing f))) ∙ z))
 
 -- ---- the number of a token
 judged-held : (k : ℕ) (f : Form) (d : Decimal) → Small (f .whole ++ f .fraction) → tokenBy k (some f) ≡ Number d → (inRange d ≡ true) × (isNormal d ≡ true)

@@ -12,7 +12,8 @@ use lib.ListN.{length}
 use Rattle.decimal.specs.Decimal as D
 use Rattle.decimal.specs.declared.Decimal.{Decimal}
 use Rattle.decimal.specs.declared.Token.the-variants.{Number, Malformed}
-use Rattle.decimal_read.specs.Number.{Form, behindSign, digitsOf, behindDigits, fractionOf, behindFraction, isExponent, isMinus, exponentMinus, exponentDigits, digits, normal, formOf, tokenBy, tokenOf}
+use Rattle.decimal_read.specs.Number.{Form, behindSign, digitsOf, behindDigits, fractionOf, behindFraction, isExponent, isMinus, exponentMinus, exponentDigits, digits, normal}
+use Rattle.decimal_read.specs.Number.{formOf, tokenBy, tokenOf}
 use Rattle.decimal_read.proofs.Stands.{Small, digits-small, fraction-small, both-small}
 use Rattle.decimal_laws.specs.Value.{down, Refused}
 
@@ -119,5 +120,6 @@ form-small t f e =
     let behind : List ℕ = behindDigits body in
     let rest : List ℕ = behindFraction behind in
     subst (λ (g : Form). Small (g .whole ++ g .fraction))
-    (chosen (leb 1 (length (digitsOf body) + length (fractionOf behind)) && isExponent rest) (record { negative = isMinus t; whole = digitsOf body; fraction = fractionOf behind; down = exponentMinus rest; exponent = exponentDigits rest }) f e)
+    (chosen (leb 1 (length (digitsOf body) + length (fractionOf behind)) && isExponent rest)
+    (record { negative = isMinus t; whole = digitsOf body; fraction = fractionOf behind; down = exponentMinus rest; exponent = exponentDigits rest }) f e)
     (both-small (digits-small body) (fraction-small behind))

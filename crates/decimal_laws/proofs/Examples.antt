@@ -5,7 +5,8 @@ use Prim.Native.Nat.{ℕ}
 use lib.IntN.{ℤ, pos, negsuc}
 use Rattle.decimal.specs.declared.Token.{Token}
 use Rattle.decimal.specs.declared.Token.the-variants.{Number, Malformed}
-use Rattle.decimal_read.specs.Number.{isDigit, isMark, isMinus, behindSign, digitsOf, behindDigits, fractionOf, behindFraction, isEmpty, isExponent, exponentMinus, exponentDigits, formOf, append, withSign, digits, scale, zeros, trailing, normal, tokenBy, tokenOf}
+use Rattle.decimal_read.specs.Number.{isDigit, isMark, isMinus, behindSign, digitsOf, behindDigits, fractionOf, behindFraction, isEmpty, isExponent, exponentMinus, exponentDigits}
+use Rattle.decimal_read.specs.Number.{formOf, append, withSign, digits, scale, zeros, trailing, normal, tokenBy, tokenOf}
 
 number : ℤ → ℤ → Token
 number c p = Number (record { coefficient = c; power = p })
@@ -82,5 +83,6 @@ answers =
     []
 
 pub examples : map tokenOf tokens ≡ answers
-unfolding number tokens answers isDigit isMark isMinus behindSign digitsOf behindDigits fractionOf behindFraction isEmpty isExponent exponentMinus exponentDigits formOf append withSign digits scale zeros trailing normal tokenBy tokenOf
+unfolding number tokens answers isDigit isMark isMinus behindSign digitsOf behindDigits fractionOf behindFraction isEmpty isExponent exponentMinus exponentDigits formOf append withSign
+    digits scale zeros trailing normal tokenBy tokenOf
 examples = refl

@@ -43,24 +43,33 @@ above-zero (suc n) a b e = absurd (omega (arith, e, mul-pos (mul-pos (zero-lt-su
 
 module _ (f g : Form) (fs : Small (f .whole ++ f .fraction)) (gs : Small (g .whole ++ g .fraction)) (same : Same (said f) (said g)) where
   both-zero : digits f ≡ 0 → digits g ≡ 0
-  both-zero e = above-zero (digits g) (up (scale g)) (down (scale f)) (sym (same .crosswise) ∙ ap (λ (m : ℕ). m * 10 ^ up (scale f) * 10 ^ down (scale g)) e ∙ omega (arith, zero-mul (10 ^ up (scale f)), zero-mul (10 ^ down (scale g))))
+  both-zero e =
+      above-zero (digits g) (up (scale g)) (down (scale f))
+      (sym (same .crosswise) ∙ ap (λ (m : ℕ). m * 10 ^ up (scale f) * 10 ^ down (scale g)) e ∙ omega (arith, zero-mul (10 ^ up (scale f)), zero-mul (10 ^ down (scale g))))
 
   other-zero : digits g ≡ 0 → digits f ≡ 0
-  other-zero e = above-zero (digits f) (up (scale f)) (down (scale g)) (same .crosswise ∙ ap (λ (m : ℕ). m * 10 ^ up (scale g) * 10 ^ down (scale f)) e ∙ omega (arith, zero-mul (10 ^ up (scale g)), zero-mul (10 ^ down (scale f))))
+  other-zero e =
+      above-zero (digits f) (up (scale f)) (down (scale g))
+      (same .crosswise ∙ ap (λ (m : ℕ). m * 10 ^ up (scale g) * 10 ^ down (scale f)) e ∙ omega (arith, zero-mul (10 ^ up (scale g)), zero-mul (10 ^ down (scale f))))
 
   abbrev c : Form → ℕ
   c h = digits h / 10 ^ trailing h
 
   spread : (h k : Form) → Stripped (digits h) (c h) (trailing h) → digits h * 10 ^ up (scale h) * 10 ^ down (scale k) ≡ c h * 10 ^ (trailing h + up (scale h) + down (scale k))
-  spread h k s = ap (λ (m : ℕ). m * 10 ^ up (scale h) * 10 ^ down (scale k)) (s .same) ∙ ap (λ (m : ℕ). m * 10 ^ down (scale k)) (powers (c h) (trailing h) (up (scale h))) ∙ powers (c h) (trailing h + up (scale h)) (down (scale k))
+  spread h k s =
+      ap (λ (m : ℕ). m * 10 ^ up (scale h) * 10 ^ down (scale k)) (s .same) ∙ ap (λ (m : ℕ). m * 10 ^ down (scale k)) (powers (c h) (trailing h) (up (scale h)))
+      ∙ powers (c h) (trailing h + up (scale h)) (down (scale k))
 
   other-form : (digits f ≡ 0 → ⊥) → normal f ≡ normal g
   other-form n =
       let m : digits g ≡ 0 → ⊥ = λ e. n (other-zero e) in
       let s : Stripped (digits f) (c f) (trailing f) = own-pair f fs n in
       let r : Stripped (digits g) (c g) (trailing g) = own-pair g gs m in
-      let q : (c f ≡ c g) × (trailing f + up (scale f) + down (scale g) ≡ trailing g + up (scale g) + down (scale f)) = unique (c f) (trailing f + up (scale f) + down (scale g)) (c g) (trailing g + up (scale g) + down (scale f)) (s .ends) (r .ends) (sym (spread f g s) ∙ same .crosswise ∙ spread g f r) in
-      let p : scale f +ℤ pos (trailing f) ≡ scale g +ℤ pos (trailing g) = as-difference (scale f) (trailing f) ∙ sub-same (up (scale f) + trailing f) (down (scale f)) (up (scale g) + trailing g) (down (scale g)) (omega (arith, q .1)) ∙ sym (as-difference (scale g) (trailing g)) in
+      let q : (c f ≡ c g) × (trailing f + up (scale f) + down (scale g) ≡ trailing g + up (scale g) + down (scale f)) =
+      unique (c f) (trailing f + up (scale f) + down (scale g)) (c g) (trailing g + up (scale g) + down (scale f)) (s .ends) (r .ends) (sym (spread f g s) ∙ same .crosswise ∙ spread g f r) in
+      let p : scale f +ℤ pos (trailing f) ≡ scale g +ℤ pos (trailing g) =
+      as-difference (scale f) (trailing f) ∙ sub-same (up (scale f) + trailing f) (down (scale f)) (up (scale g) + trailing g) (down (scale g)) (omega (arith, q .1))
+      ∙ sym (as-difference (scale g) (trailing g)) in
       normal-other f n ∙ (λ i. record { coefficient = withSign (same .signs n i) (q .0 i); power = p i }) ∙ sym (normal-other g m)
 
   pub one-normal : normal f ≡ normal g
@@ -84,7 +93,9 @@ one-number t u d e f g p q v w s =
 zero-normal : Normal D.zero
 zero-normal = record { within = refl; zero = λ e. refl; ends = λ n e. n refl }
 
-other-normal : (f : Form) → Small (f .whole ++ f .fraction) → (digits f ≡ 0 → ⊥) → D.inRange (record { coefficient = withSign (f .negative) (digits f / 10 ^ trailing f); power = scale f +ℤ pos (trailing f) }) ≡ true → Normal (record { coefficient = withSign (f .negative) (digits f / 10 ^ trailing f); power = scale f +ℤ pos (trailing f) })
+other-normal : (f : Form) → Small (f .whole ++ f .fraction) → (digits f ≡ 0 → ⊥)
+    → D.inRange (record { coefficient = withSign (f .negative) (digits f / 10 ^ trailing f); power = scale f +ℤ pos (trailing f) }) ≡ true
+    → Normal (record { coefficient = withSign (f .negative) (digits f / 10 ^ trailing f); power = scale f +ℤ pos (trailing f) })
 other-normal f small n h =
     let s : Stripped (digits f) (digits f / 10 ^ trailing f) (trailing f) = own-pair f small n in
     record { within = h; zero = λ e. absurd (stripped-above s n (sym (size-with (f .negative) (digits f / 10 ^ trailing f)) ∙ e)); ends = λ m e. s .ends (ap (λ (k : ℕ). k % 10) (sym (size-with (f .negative) (digits f / 10 ^ trailing f))) ∙ e) }
@@ -94,7 +105,8 @@ form-normal f small h = go (eqb (digits f) 0) refl
   where
     go : (b : Bool) → eqb (digits f) 0 ≡ b → Normal (normal f)
     go true e = subst Normal (sym (normal-zero f (eqb-true (digits f) 0 e))) zero-normal
-    go false e = let n : digits f ≡ 0 → ⊥ = eqb-false (digits f) 0 e in subst Normal (sym (normal-other f n)) (other-normal f small n (subst (λ (d : Decimal). D.inRange d ≡ true) (normal-other f n) h))
+    go false e =
+        let n : digits f ≡ 0 → ⊥ = eqb-false (digits f) 0 e in subst Normal (sym (normal-other f n)) (other-normal f small n (subst (λ (d : Decimal). D.inRange d ≡ true) (normal-other f n) h))
 
 pub in-normal : (t : List ℕ) (d : Decimal) → tokenOf t ≡ Number d → Normal d
 in-normal t d e =

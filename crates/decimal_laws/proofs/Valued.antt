@@ -35,7 +35,9 @@ pub powers : (c a b : ℕ) → c * 10 ^ a * 10 ^ b ≡ c * 10 ^ (a + b)
 powers c a b = mul-assoc c (10 ^ a) (10 ^ b) ∙ ap (λ (m : ℕ). c * m) (sym (pow-add 10 a b))
 
 crosswise-moved : (n c z : ℕ) (p : ℤ) → n ≡ c * 10 ^ z → n * 10 ^ up p * 10 ^ down (p +ℤ pos z) ≡ c * 10 ^ up (p +ℤ pos z) * 10 ^ down p
-crosswise-moved n c z p e = ap (λ (m : ℕ). m * 10 ^ up p * 10 ^ down (p +ℤ pos z)) e ∙ ap (λ (m : ℕ). m * 10 ^ down (p +ℤ pos z)) (powers c z (up p)) ∙ powers c (z + up p) (down (p +ℤ pos z)) ∙ ap (λ (m : ℕ). c * 10 ^ m) (shift p z) ∙ sym (powers c (up (p +ℤ pos z)) (down p))
+crosswise-moved n c z p e =
+    ap (λ (m : ℕ). m * 10 ^ up p * 10 ^ down (p +ℤ pos z)) e ∙ ap (λ (m : ℕ). m * 10 ^ down (p +ℤ pos z)) (powers c z (up p)) ∙ powers c (z + up p) (down (p +ℤ pos z))
+    ∙ ap (λ (m : ℕ). c * 10 ^ m) (shift p z) ∙ sym (powers c (up (p +ℤ pos z)) (down p))
 
 sign-with : (s : Bool) (c : ℕ) → (c ≡ 0 → ⊥) → s ≡ isNegative (withSign s c)
 unfolding isNegative withSign
@@ -54,7 +56,12 @@ module _ (f : Form) (small : Small (f .whole ++ f .fraction)) where
   other-same : (digits f ≡ 0 → ⊥) → Same (said f) (held (record { coefficient = withSign (f .negative) (digits f / 10 ^ trailing f); power = scale f +ℤ pos (trailing f) }))
   other-same n =
       let s : Stripped (digits f) (digits f / 10 ^ trailing f) (trailing f) = own-pair f small n in
-      rw (size-with (f .negative) (digits f / 10 ^ trailing f)) (record { crosswise = crosswise-moved (digits f) (digits f / 10 ^ trailing f) (trailing f) (scale f) (s .same); signs = λ m. sign-with (f .negative) (digits f / 10 ^ trailing f) (stripped-above s n) })
+      rw (size-with (f .negative) (digits f / 10 ^ trailing f))
+      (record {
+        crosswise = crosswise-moved (digits f) (digits f / 10 ^ trailing f) (trailing f) (scale f) (s .same);
+        signs = λ m. sign-with (f .negative) (digits f / 10 ^ trailing f)
+            (stripped-above s n);
+      })
 
   pub normal-same : Same (said f) (held (normal f))
   normal-same = go (eqb (digits f) 0) refl

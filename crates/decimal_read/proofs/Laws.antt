@@ -115,7 +115,8 @@ pub exponentAt·nil : exponentAt [] ≡ Up 0
 unfolding exponentAt
 exponentAt·nil = refl
 
-pub exponentAt·cons : (b : ℕ) (l : List ℕ) → exponentAt (b ∷ l) ≡ cond (isMark b) (cond (isEmpty (behindDigits (behindSign l))) (exponentOf (isMinus l) (length (digitsOf (behindSign l))) (append 0 (digitsOf (behindSign l)))) Wrong) Wrong
+pub exponentAt·cons : (b : ℕ) (l : List ℕ)
+    → exponentAt (b ∷ l) ≡ cond (isMark b) (cond (isEmpty (behindDigits (behindSign l))) (exponentOf (isMinus l) (length (digitsOf (behindSign l))) (append 0 (digitsOf (behindSign l)))) Wrong) Wrong
 unfolding exponentAt
 exponentAt·cons b l = refl
 

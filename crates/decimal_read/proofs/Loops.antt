@@ -41,10 +41,13 @@ module _ (t : List ℕ) (i : ℕ) (l : i < length t) (b : Bool) (e : b ≡ isDig
   no-digit q = rw (here t i l, digitsOf·cons, sym e ∙ q)
 
   behind-none : b ≡ false → behindDigits (drop i t) ≡ drop i t
-  behind-none q = ap behindDigits (here t i l) ∙ behindDigits·cons (getD t i 0) (drop (i + 1) t) ∙ ap (λ (x : Bool). cond x (behindDigits (drop (i + 1) t)) (getD t i 0 ∷ drop (i + 1) t)) (sym e ∙ q) ∙ sym (here t i l)
+  behind-none q =
+      ap behindDigits (here t i l) ∙ behindDigits·cons (getD t i 0) (drop (i + 1) t) ∙ ap (λ (x : Bool). cond x (behindDigits (drop (i + 1) t)) (getD t i 0 ∷ drop (i + 1) t)) (sym e ∙ q)
+      ∙ sym (here t i l)
 
 module _ (t : List ℕ) (at : ℕ) (start h : Held) (i : ℕ) (g : Going t at start h i) where
-  pub going-more : (b : Bool) → i < length t → b ≡ isDigit (getD t i 0) → b ≡ true → (n : Held) → n ≡ heldWith h (getD t i 0 - 48) → n .value < 10 ^ 19 → n .dropped ≤ h .dropped + 1 → Going t at start n (i + 1)
+  pub going-more : (b : Bool) → i < length t → b ≡ isDigit (getD t i 0) → b ≡ true → (n : Held) → n ≡ heldWith h (getD t i 0 - 48) → n .value < 10 ^ 19 → n .dropped ≤ h .dropped + 1
+      → Going t at start n (i + 1)
   going-more b l e q n m s f =
       let d : digitsOf (drop i t) ≡ (getD t i 0 - 48) ∷ digitsOf (drop (i + 1) t) = a-digit t i l b e q in
       record {
@@ -85,7 +88,13 @@ pub strip-start : (v : ℕ) → 0 < v → Stripping v v 0
 strip-start v h = record { same = sym (mul-one v); above = h; few = omega arith }
 
 pub strip-more : (v c z : ℕ) → Stripping v c z → c % 10 ≡ 0 → Stripping v (c / 10) (z + 1)
-strip-more v c z s e = record { same = s .same ∙ ap (λ (m : ℕ). m * 10 ^ z) tens ∙ omega (arith, ten-more (c / 10) z, ap (λ (m : ℕ). c / 10 * 10 ^ m) (add-one z)); above = omega (arith, s .above); few = omega (arith, s .above, s .few) }
+strip-more v c z s e =
+    record {
+      same = s .same ∙ ap (λ (m : ℕ). m * 10 ^ z) tens
+          ∙ omega (arith, ten-more (c / 10) z, ap (λ (m : ℕ). c / 10 * 10 ^ m) (add-one z));
+      above = omega (arith, s .above);
+      few = omega (arith, s .above, s .few);
+    }
   where
     tens : c ≡ c / 10 * 10
     tens = omega arith

@@ -18,7 +18,8 @@ use Rattle.decimal_read.specs.declared.Exponent.{Exponent}
 use Rattle.decimal_read.specs.declared.Exponent.the-variants.{Up, Down, Wrong}
 use Rattle.decimal_read.specs.Number.{isMark, isMinus, behindSign, digitsOf, behindDigits, fractionOf, behindFraction, append}
 use Rattle.decimal_read.specs.Steps.{noDigits, heldAll, RunOf, FractionOf, exponentOf, exponentAt, coefficientOf, zerosOf, ranged, settled, raised}
-use Rattle.decimal_read.proofs.Laws.{fractionOf·nil, fractionOf·cons, behindFraction·nil, behindFraction·cons, heldAll·nil, isEmpty·nil, isEmpty·cons, exponentAt·nil, exponentAt·cons, exponent-none, exponent-long}
+use Rattle.decimal_read.proofs.Laws.{fractionOf·nil, fractionOf·cons, behindFraction·nil, behindFraction·cons, heldAll·nil, isEmpty·nil, isEmpty·cons, exponentAt·nil}
+use Rattle.decimal_read.proofs.Laws.{exponentAt·cons, exponent-none, exponent-long}
 use Rattle.decimal_read.proofs.Read.{short-lt, short-is}
 
 -- ── The digits behind a point ──
@@ -31,7 +32,10 @@ module _ (t : List ℕ) (w : Run) (h : w .end ≤ length t) (s : w .held .value 
   fraction-end l = no-fraction (ap fractionOf (past t (w .end) l) ∙ fractionOf·nil) (ap behindFraction (past t (w .end) l) ∙ behindFraction·nil ∙ sym (past t (w .end) l))
 
   pub fraction-none : w .end < length t → (getD t (w .end) 0 ≡ 46 → ⊥) → FractionOf t w (record { held = w .held; count = 0; end = w .end })
-  fraction-none l n = no-fraction (rw (here t (w .end) l, fractionOf·cons, ne-eqb (getD t (w .end) 0) 46 n)) (ap behindFraction (here t (w .end) l) ∙ behindFraction·cons (getD t (w .end) 0) (drop (w .end + 1) t) ∙ ap (λ (x : Bool). cond x (behindDigits (drop (w .end + 1) t)) (getD t (w .end) 0 ∷ drop (w .end + 1) t)) (ne-eqb (getD t (w .end) 0) 46 n) ∙ sym (here t (w .end) l))
+  fraction-none l n =
+      no-fraction (rw (here t (w .end) l, fractionOf·cons, ne-eqb (getD t (w .end) 0) 46 n))
+      (ap behindFraction (here t (w .end) l) ∙ behindFraction·cons (getD t (w .end) 0) (drop (w .end + 1) t)
+      ∙ ap (λ (x : Bool). cond x (behindDigits (drop (w .end + 1) t)) (getD t (w .end) 0 ∷ drop (w .end + 1) t)) (ne-eqb (getD t (w .end) 0) 46 n) ∙ sym (here t (w .end) l))
 
   pub fraction-some : w .end < length t → getD t (w .end) 0 ≡ 46 → (r : Run) → RunOf t (w .end + 1) (w .held) r → FractionOf t w r
   fraction-some l e r q =
@@ -74,8 +78,10 @@ module _ (t : List ℕ) (at : ℕ) where
       exponent-whole h m s x y =
           let g : List ℕ = digitsOf (behindSign (drop (at + 1) t)) in
           let c : r .count ≡ length g = o .count ∙ ap (λ (z : List ℕ). length (digitsOf z)) d in
-          let v : r .count ≤ 2 → r .held .value ≡ append 0 g = λ k. ap (λ (z : Held). z .value) (o .held) ∙ short-is (drop from t) (omega (arith, o .count)) ∙ ap (λ (z : List ℕ). append 0 (digitsOf z)) d in
-          y ∙ exponent-same m (r .count) (r .held .value) (append 0 g) v ∙ (λ i. exponentOf (s i) (c i) (append 0 g)) ∙ sym (rw (here t at l, exponentAt·cons, sym e ∙ q, rest, past t (r .end) h, isEmpty·nil))
+          let v : r .count ≤ 2 → r .held .value ≡ append 0 g =
+          λ k. ap (λ (z : Held). z .value) (o .held) ∙ short-is (drop from t) (omega (arith, o .count)) ∙ ap (λ (z : List ℕ). append 0 (digitsOf z)) d in
+          y ∙ exponent-same m (r .count) (r .held .value) (append 0 g) v ∙ (λ i. exponentOf (s i) (c i) (append 0 g))
+          ∙ sym (rw (here t at l, exponentAt·cons, sym e ∙ q, rest, past t (r .end) h, isEmpty·nil))
 
 -- ── The last step ──
 
@@ -88,7 +94,8 @@ module _ (s : Bool) (n : ℕ) (h : Held) (b u d : ℕ) where
   unfolding settled
   settled-zero l e = rw (le-leb n 64 l, eq-eqb (h .value) 0 e)
 
-  pub settled-other : n ≤ 64 → (h .value ≡ 0 → ⊥) → (c z : ℕ) → c ≡ coefficientOf (h .value) → z ≡ zerosOf (h .value) → (r : Token) → r ≡ ranged s c (22 + h .dropped + z + u) (b + d) → r ≡ settled s n h b u d
+  pub settled-other : n ≤ 64 → (h .value ≡ 0 → ⊥) → (c z : ℕ) → c ≡ coefficientOf (h .value) → z ≡ zerosOf (h .value) → (r : Token) → r ≡ ranged s c (22 + h .dropped + z + u) (b + d)
+      → r ≡ settled s n h b u d
   unfolding settled
   settled-other l e c z p q r y = rw (le-leb n 64 l, ne-eqb (h .value) 0 e) (y ∙ (λ i. ranged s (p i) (22 + h .dropped + q i + u) (b + d)))
 

@@ -129,9 +129,12 @@ module _ (s : Bool) (c a b : ℕ) where
   top : c < 10 ^ 15 → b ≤ 22 + a → (t : Bool) → ltb (44 + b) (22 + a) ≡ t → cond t Malformed (Number (record { coefficient = withSign s c; power = pos (22 + a - b) -ℤ pos 22 })) ≡ accepted d
   unfolding d
   top h k true e = let l : 44 + b < 22 + a = ltb-true (44 + b) (22 + a) e in refused d (fits s c (subℕ a b) h ∙ lt-leb (size (subℕ a b)) 22 (omega (arith, size-ge a b (omega arith))))
-  top h k false e = let l : 22 + a ≤ 44 + b = ltb-false (44 + b) (22 + a) e in ap (λ (z : ℤ). Number (record { coefficient = withSign s c; power = z })) (back a b k) ∙ taken d (fits s c (subℕ a b) h ∙ le-leb (size (subℕ a b)) 22 (size-small a b k l))
+  top h k false e =
+      let l : 22 + a ≤ 44 + b = ltb-false (44 + b) (22 + a) e in ap (λ (z : ℤ). Number (record { coefficient = withSign s c; power = z })) (back a b k)
+      ∙ taken d (fits s c (subℕ a b) h ∙ le-leb (size (subℕ a b)) 22 (size-small a b k l))
 
-  bottom : c < 10 ^ 15 → (t : Bool) → ltb (22 + a) b ≡ t → cond t Malformed (cond (ltb (44 + b) (22 + a)) Malformed (Number (record { coefficient = withSign s c; power = pos (22 + a - b) -ℤ pos 22 }))) ≡ accepted d
+  bottom : c < 10 ^ 15 → (t : Bool) → ltb (22 + a) b ≡ t
+      → cond t Malformed (cond (ltb (44 + b) (22 + a)) Malformed (Number (record { coefficient = withSign s c; power = pos (22 + a - b) -ℤ pos 22 }))) ≡ accepted d
   unfolding d
   bottom h true e = let l : 22 + a < b = ltb-true (22 + a) b e in refused d (fits s c (subℕ a b) h ∙ lt-leb (size (subℕ a b)) 22 (omega (arith, size-lt a b (omega arith))))
   bottom h false e = top h (ltb-false (22 + a) b e) (ltb (44 + b) (22 + a)) refl
@@ -140,12 +143,14 @@ module _ (s : Bool) (c a b : ℕ) where
   unfolding ranged d
   ranged-is = go (leb (10 ^ 15) c) refl
     where
-      go : (t : Bool) → leb (10 ^ 15) c ≡ t → cond t Malformed (cond (ltb (22 + a) b) Malformed (cond (ltb (44 + b) (22 + a)) Malformed (Number (record { coefficient = withSign s c; power = pos (22 + a - b) -ℤ pos 22 })))) ≡ accepted d
+      go : (t : Bool) → leb (10 ^ 15) c ≡ t
+          → cond t Malformed (cond (ltb (22 + a) b) Malformed (cond (ltb (44 + b) (22 + a)) Malformed (Number (record { coefficient = withSign s c; power = pos (22 + a - b) -ℤ pos 22 })))) ≡ accepted d
       go true e = refused d (big s c (subℕ a b) (leb-true (10 ^ 15) c e))
       go false e = bottom (leb-false (10 ^ 15) c e) (ltb (22 + a) b) refl
 
 -- what the code returns where nothing is out of range
-pub in-range : (s : Bool) (c a b : ℕ) → c < 10 ^ 15 → b ≤ a → a ≤ 44 + b → (x y : ℤ) → x ≡ withSign s c → y ≡ pos (a - b) -ℤ pos 22 → Number (record { coefficient = toZ w64 (ofZ w64 x); power = toZ w8 (ofZ w8 y) }) ≡ ranged s c a b
+pub in-range : (s : Bool) (c a b : ℕ) → c < 10 ^ 15 → b ≤ a → a ≤ 44 + b → (x y : ℤ) → x ≡ withSign s c → y ≡ pos (a - b) -ℤ pos 22
+    → Number (record { coefficient = toZ w64 (ofZ w64 x); power = toZ w8 (ofZ w8 y) }) ≡ ranged s c a b
 unfolding ranged
 in-range s c a b h k l x y e d = rw (lt-leb (10 ^ 15) c h, le-ltb a b k, le-ltb (44 + b) a l) (λ i. Number (record { coefficient = cs i; power = ps i }))
   where

@@ -16,7 +16,8 @@ use Rattle.decimal_read.specs.declared.Held.{Held}
 use Rattle.decimal_read.specs.declared.Run.{Run}
 use Rattle.decimal_read.specs.declared.Exponent.{Exponent}
 use Rattle.decimal_read.specs.declared.Exponent.the-variants.{Up, Down, Wrong}
-use Rattle.decimal_read.specs.Number.{Form, isMark, isEmpty, isMinus, behindSign, digitsOf, behindDigits, fractionOf, behindFraction, isExponent, exponentMinus, exponentDigits, append, digits, scale, tokenBy, formOf, tokenOf}
+use Rattle.decimal_read.specs.Number.{Form, isMark, isEmpty, isMinus, behindSign, digitsOf, behindDigits, fractionOf, behindFraction, isExponent, exponentMinus}
+use Rattle.decimal_read.specs.Number.{exponentDigits, append, digits, scale, tokenBy, formOf, tokenOf}
 use Rattle.decimal_read.specs.Steps.{noDigits, heldAll, RunOf, FractionOf, exponentOf, exponentAt, raised}
 use Rattle.decimal_read.proofs.Zeros.{pow-above, least}
 use Rattle.decimal_read.proofs.Stands.{Small, digits-small, fraction-small, both-small, held-both, append-lt, Stands, exact, lost, none-read, stands-all}
@@ -50,7 +51,8 @@ module _ (s : Bool) (w p : List ℕ) (n : ℕ) (h : Held) (small : Small (w ++ p
   either true e = settled-is (formWith s w p true e) h 0 (append 0 e) small fits stands (λ m. power-down (append 0 e) (length p) m ∙ ap (λ (k : ℕ). subℕ k (length p + append 0 e)) (omega arith)) n
   either false e = settled-is (formWith s w p false e) h (append 0 e) 0 small fits stands (λ m. power-up (append 0 e) (length p) m ∙ ap (λ (k : ℕ). subℕ (append 0 e + m) k) (omega arith)) n
 
-  tests : (a b c d : Bool) (e : Exponent) (y : Token) → raised s n h (length p) e ≡ y → raised s n h (length p) (cond a (cond b (cond c (cond d e Wrong) Wrong) Wrong) Wrong) ≡ cond (a && (b && (c && d))) y Malformed
+  tests : (a b c d : Bool) (e : Exponent) (y : Token) → raised s n h (length p) e ≡ y
+      → raised s n h (length p) (cond a (cond b (cond c (cond d e Wrong) Wrong) Wrong) Wrong) ≡ cond (a && (b && (c && d))) y Malformed
   unfolding raised
   tests true true true true e y q = q
   tests true true true false e y q = refl
@@ -63,7 +65,8 @@ module _ (s : Bool) (w p : List ℕ) (n : ℕ) (h : Held) (small : Small (w ++ p
   behind [] = either false []
   behind (b ∷ l) =
       let e : List ℕ = digitsOf (behindSign l) in
-      tests (isMark b) (isEmpty (behindDigits (behindSign l))) (leb 1 (length e)) (leb (length e) 2) (cond (isMinus l) (Down (append 0 e)) (Up (append 0 e))) (tokenBy n (some (formWith s w p (isMinus l) e))) (either (isMinus l) e)
+      tests (isMark b) (isEmpty (behindDigits (behindSign l))) (leb 1 (length e)) (leb (length e) 2) (cond (isMinus l) (Down (append 0 e)) (Up (append 0 e)))
+      (tokenBy n (some (formWith s w p (isMinus l) e))) (either (isMinus l) e)
 
 -- ── The token ──
 
@@ -98,7 +101,9 @@ module _ (t : List ℕ) (from : ℕ) (w p : Run) (e : drop from t ≡ behindSign
   at-rest = q .rest ∙ ap behindFraction at-point
 
   held : p .held ≡ heldAll noDigits (whole ++ part)
-  held = q .held ∙ ap (λ (l : List ℕ). heldAll (w .held) (fractionOf l)) at-point ∙ ap (λ (h : Held). heldAll h part) (r .held ∙ ap (λ (l : List ℕ). heldAll noDigits (digitsOf l)) e) ∙ sym (held-both noDigits whole part)
+  held =
+      q .held ∙ ap (λ (l : List ℕ). heldAll (w .held) (fractionOf l)) at-point ∙ ap (λ (h : Held). heldAll h part) (r .held ∙ ap (λ (l : List ℕ). heldAll noDigits (digitsOf l)) e)
+      ∙ sym (held-both noDigits whole part)
 
   all-small : Small (whole ++ part)
   all-small = both-small (digits-small body) (fraction-small (behindDigits body))
@@ -110,7 +115,8 @@ module _ (t : List ℕ) (from : ℕ) (w p : Run) (e : drop from t ≡ behindSign
   unfolding tokenOf formOf tokenBy
   read-none h = rw (lt-leb 1 (length whole + length part) (omega (arith, whole-count, part-count)))
 
-  pub read-some : 1 ≤ w .count + p .count → (x : Exponent) → x ≡ exponentAt (drop (p .end) t) → (m : Bool) → m ≡ isMinus t → (r : Token) → r ≡ raised m (length t) (p .held) (p .count) x → r ≡ tokenOf t
+  pub read-some : 1 ≤ w .count + p .count → (x : Exponent) → x ≡ exponentAt (drop (p .end) t) → (m : Bool) → m ≡ isMinus t → (r : Token) → r ≡ raised m (length t) (p .held) (p .count) x
+      → r ≡ tokenOf t
   unfolding tokenOf formOf
   read-some h x y m s r z =
       z ∙
@@ -118,4 +124,5 @@ module _ (t : List ℕ) (from : ℕ) (w p : Run) (e : drop from t ≡ behindSign
       ap (λ (k : ℕ). raised (isMinus t) (length t) (p .held) k x) part-count ∙
       ap (λ (z : Exponent). raised (isMinus t) (length t) (p .held) (length part) z) (y ∙ ap exponentAt at-rest) ∙
       behind (isMinus t) whole part (length t) (p .held) all-small (q .small) stands rest ∙
-      rw (le-leb 1 (length whole + length part) (omega (arith, whole-count, part-count))) (pick (length t) (isExponent rest) (formWith (isMinus t) whole part (exponentMinus rest) (exponentDigits rest)))
+      rw (le-leb 1 (length whole + length part) (omega (arith, whole-count, part-count)))
+      (pick (length t) (isExponent rest) (formWith (isMinus t) whole part (exponentMinus rest) (exponentDigits rest)))

@@ -100,7 +100,8 @@ module _ (n d : ℕ) (h : Held) (small : d < 10) where
   unfolding heldWith
   stands-with s = go (ltb (h .value) (10 ^ 18)) refl
     where
-      go : (t : Bool) → ltb (h .value) (10 ^ 18) ≡ t → Stands (n * 10 + d) (cond t (record { value = h .value * 10 + d; dropped = h .dropped }) (record { value = cond (eqb d 0) (h .value) (10 ^ 18 + 1); dropped = h .dropped + 1 }))
+      go : (t : Bool) → ltb (h .value) (10 ^ 18) ≡ t
+          → Stands (n * 10 + d) (cond t (record { value = h .value * 10 + d; dropped = h .dropped }) (record { value = cond (eqb d 0) (h .value) (10 ^ 18 + 1); dropped = h .dropped + 1 }))
       go true e = with-small (ltb-true (h .value) (10 ^ 18) e) s
       go false e = with-full (eqb d 0) refl (ltb-false (h .value) (10 ^ 18) e) s
 

@@ -56,7 +56,8 @@ pub record Demand3 (s : List ℕ) (m₀ : Room) (calls : List (ℕ × List ℕ))
   pub list : fileList (y .list) ≡ readingAnswer (read (roomLength m₀) (fileRun (read (roomLength m₀)) s calls .1)) .list
   pub room : y .room ≡ filledWith (allNumbers (nodesIn (read (roomLength m₀) (fileRun (read (roomLength m₀)) s calls .1)))) m₀
 
--- THE PROMISE of a reading and a run of calls, for every file, room and calls: what reading answers; the whole run; and, where the file is accepted and 'each file so tried is at most 16 MiB', demand 3
+-- THE PROMISE of a reading and a run of calls, for every file, room and calls: what reading answers; the whole run; and, where the file is accepted and 'each file so tried is at
+-- most 16 MiB', demand 3
 pub record ReadAndReplaced (s : List ℕ) (calls : List (ℕ × List ℕ)) (r : RunRead) (m₀ m₁ : Room) (ns₀ ns₁ ps₀ ps₁ : List ℕ) : Type 0 where
   pub number : r .number ≡ readingNumber (read (roomLength m₀) s)
   pub place : r .place ≡ readingPlace (read (roomLength m₀) s)

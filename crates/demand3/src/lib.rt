@@ -42,7 +42,9 @@ fn replace_all(
     coefficients: &mut [i64],
     powers: &mut [i8],
 ) -> ProcessList
-    ensures { λ r. ⌜ Runs.CallsRun (lookOf list (lent (now (coefficients .entry)) (now (powers .entry)))) (Runs.callsFrom 0 (now (ks .entry)) (now (ends .entry)) (now (numbers .entry)) (now (places .entry)) (now (elements .entry))) (now (numbers .entry)) (now (places .entry)) (lookOf r (lent (now (coefficients .exit)) (now (powers .exit)))) (now (numbers .exit)) (now (places .exit)) ⌝ }
+    ensures { λ r. ⌜ Runs.CallsRun (lookOf list (lent (now (coefficients .entry)) (now (powers .entry))))
+        (Runs.callsFrom 0 (now (ks .entry)) (now (ends .entry)) (now (numbers .entry)) (now (places .entry)) (now (elements .entry))) (now (numbers .entry)) (now (places .entry))
+        (lookOf r (lent (now (coefficients .exit)) (now (powers .exit)))) (now (numbers .exit)) (now (places .exit)) ⌝ }
 {
     let mut l = list;
     let mut start: usize = 0;
@@ -80,7 +82,9 @@ pub fn read_and_replace(
     coefficients: &mut [i64],
     powers: &mut [i8],
 ) -> RunRead
-    ensures { λ r. ⌜ Runs.ReadAndReplaced (now (file .entry)) (Runs.callsFrom 0 (now (ks .entry)) (now (ends .entry)) (now (numbers .entry)) (now (places .entry)) (now (elements .entry))) r (lent (now (coefficients .entry)) (now (powers .entry))) (lent (now (coefficients .exit)) (now (powers .exit))) (now (numbers .entry)) (now (numbers .exit)) (now (places .entry)) (now (places .exit)) ⌝ }
+    ensures { λ r. ⌜ Runs.ReadAndReplaced (now (file .entry)) (Runs.callsFrom 0 (now (ks .entry)) (now (ends .entry)) (now (numbers .entry)) (now (places .entry)) (now (elements .entry))) r
+        (lent (now (coefficients .entry)) (now (powers .entry))) (lent (now (coefficients .exit)) (now (powers .exit))) (now (numbers .entry)) (now (numbers .exit)) (now (places .entry))
+        (now (places .exit)) ⌝ }
 {
     let answer = reading::read(file, coefficients, powers);
     let list = answer.list;

@@ -2,12 +2,14 @@
 use mathlib.Core.Path.{_≡_, refl}
 use mathlib.Core.List.{map}
 use lib.Ieee.{add, sub, mul, div, lt, le, eq, ofInt, ofBits}
-use Rattle.decimal_read.specs.Number.{isDigit, isMark, isMinus, behindSign, digitsOf, behindDigits, fractionOf, behindFraction, isEmpty, isExponent, exponentMinus, exponentDigits, formOf, append, withSign, digits, scale, zeros, trailing, normal, tokenBy, tokenOf}
+use Rattle.decimal_read.specs.Number.{isDigit, isMark, isMinus, behindSign, digitsOf, behindDigits, fractionOf, behindFraction, isEmpty, isExponent, exponentMinus, exponentDigits}
+use Rattle.decimal_read.specs.Number.{formOf, append, withSign, digits, scale, zeros, trailing, normal, tokenBy, tokenOf}
 use Rattle.decimal_value.specs.Value.{valueOf, powered, ten, less, atMost, notNegative, isOne}
 use Rattle.decimal_write.specs.Written as Written
 use Rattle.process_list.specs.List as List
 use Rattle.room.specs.Room.{roomLength}
-use Rattle.valid.specs.Valid.{every, pairs, numbersAt, elementOf, elementsOf, tableRight, shapeRight, carried, rangeHolds, slopesHold, powersHold, cdlHolds, rulesHold, sound, gapless, isBlank, listRight, restZero, zeroFrom, isValid}
+use Rattle.valid.specs.Valid.{every, pairs, numbersAt, elementOf, elementsOf, tableRight, shapeRight, carried, rangeHolds, slopesHold, powersHold, cdlHolds, rulesHold, sound}
+use Rattle.valid.specs.Valid.{gapless, isBlank, listRight, restZero, zeroFrom, isValid}
 use Rattle.pixel.specs.Hold.{hold}
 use Rattle.pixel.specs.Scale.{toFraction, toFractions, toCodeValue, toCodeValues}
 use Rattle.pixel.specs.Range.{rangeScale, rangeShift, rangeLine, rangeComponent, rangePixel}
@@ -25,9 +27,11 @@ use Rattle.examples.specs.Starred.{questions, answers, outcome}
 
 pub starred : map outcome questions ≡ answers
 unfolding questions answers
-    isDigit isMark isMinus behindSign digitsOf behindDigits fractionOf behindFraction isEmpty isExponent exponentMinus exponentDigits formOf append withSign digits scale zeros trailing normal tokenBy tokenOf
+    isDigit isMark isMinus behindSign digitsOf behindDigits fractionOf behindFraction isEmpty isExponent exponentMinus exponentDigits formOf append withSign digits scale zeros trailing normal tokenBy
+    tokenOf
     valueOf powered ten less atMost notNegative isOne Written.isNormal
-    List.sameDepth List.scaleOf List.numbersOf List.unplaced List.withPosition List.nodeOf List.total List.placeFrom List.placed List.allNumbers List.blankNode List.listOf List.nodesOf List.differs List.firstDiffers List.judged
+    List.sameDepth List.scaleOf List.numbersOf List.unplaced List.withPosition List.nodeOf List.total List.placeFrom List.placed List.allNumbers List.blankNode List.listOf List.nodesOf List.differs
+    List.firstDiffers List.judged
     roomLength every pairs numbersAt elementOf elementsOf tableRight shapeRight carried rangeHolds slopesHold powersHold cdlHolds rulesHold sound gapless isBlank listRight restZero zeroFrom isValid
     hold toFraction toFractions toCodeValue toCodeValues rangeScale rangeShift rangeLine rangeComponent rangePixel rowOut matrixPixel heldForFwd sop sopPixel satPixel cdlPixel
     numberAt rowAt rowsAt position floorTo index remainder interpolated stepped lookedUp entryAt columnOf tableIn lookedUpAll lut1dPixel

@@ -95,7 +95,8 @@ module _ (wanted : ℕ) (s : List ℕ) (at : ℕ) (attributes : Attributes) (m�
       }
 
   -- it is empty, at fault or cut
-  alone : (t : TagEnd) (r : Scan) → Tagged t → wholeBehind (endOut s attributes t) ≡ nothingWhole → scanOut (λ e. []) s r ≡ thenOut (endOut s attributes t) (λ tag. (listContent tag) .run) → Inside 0 s at r
+  alone : (t : TagEnd) (r : Scan) → Tagged t → wholeBehind (endOut s attributes t) ≡ nothingWhole → scanOut (λ e. []) s r ≡ thenOut (endOut s attributes t) (λ tag. (listContent tag) .run)
+      → Inside 0 s at r
       → RootReads (step r noList) m₀
   alone t r h n z b =
       let e : endOut s attributes t ≡ tagOut = plain t h in

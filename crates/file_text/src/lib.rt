@@ -198,7 +198,8 @@ fn list_child(
     powers: &mut [i8],
 ) -> ListStep
     requires { ⌜ at < length (now s) ⌝ }
-    ensures { λ r. ⌜ Code.ChildReads wanted (now (s .entry)) (partIn (now (s .entry)) (at + 1) e) at e state r (lent (now (coefficients .entry)) (now (powers .entry))) (lent (now (coefficients .exit)) (now (powers .exit))) ⌝ }
+    ensures { λ r. ⌜ Code.ChildReads wanted (now (s .entry)) (partIn (now (s .entry)) (at + 1) e) at e state r (lent (now (coefficients .entry)) (now (powers .entry)))
+        (lent (now (coefficients .exit)) (now (powers .exit))) ⌝ }
 {
     let w = tags::part(s, at + 1, e);
     if xml::same(w, b"Description") {
@@ -225,7 +226,9 @@ fn list_content(
     coefficients: &mut [i64],
     powers: &mut [i8],
 ) -> ListStep
-    ensures { λ r. ⌜ Code.ItemsRead wanted ((items List.listItem List.nextFlags List.noFlags) .run) (wholeItems List.listItem List.nextFlags List.noFlags (drop at (now (s .entry)))) at (now (s .entry)) at r (lent (now (coefficients .entry)) (now (powers .entry))) (lent (now (coefficients .exit)) (now (powers .exit))) ⌝ }
+    ensures { λ r. ⌜ Code.ItemsRead wanted ((items List.listItem List.nextFlags List.noFlags) .run)
+        (wholeItems List.listItem List.nextFlags List.noFlags (drop at (now (s .entry)))) at (now (s .entry)) at r (lent (now (coefficients .entry)) (now (powers .entry)))
+        (lent (now (coefficients .exit)) (now (powers .exit))) ⌝ }
 {
     let mut state = no_list();
     let mut i = at;
@@ -250,7 +253,9 @@ fn list_content(
 
 // ProcessList behind its name.
 fn root(s: &[u8], at: usize, wanted: usize, coefficients: &mut [i64], powers: &mut [i8]) -> ListStep
-    ensures { λ r. ⌜ Code.ItemsRead wanted Code.rootP (wholeBehind ((startTag List.listRules) .run (drop at (now (s .entry))))) (behindHead (now (s .entry)) ((startTag List.listRules) .run (drop at (now (s .entry))))) (now (s .entry)) at r (lent (now (coefficients .entry)) (now (powers .entry))) (lent (now (coefficients .exit)) (now (powers .exit))) ⌝ }
+    ensures { λ r. ⌜ Code.ItemsRead wanted Code.rootP (wholeBehind ((startTag List.listRules) .run (drop at (now (s .entry)))))
+        (behindHead (now (s .entry)) ((startTag List.listRules) .run (drop at (now (s .entry))))) (now (s .entry)) at r (lent (now (coefficients .entry)) (now (powers .entry)))
+        (lent (now (coefficients .exit)) (now (powers .exit))) ⌝ }
 {
     let tag = tags::start_tag(s, at, TagKind::ProcessList);
     let end = tag.end;

@@ -4,7 +4,8 @@ use mathlib.Core.Bool.{Bool}
 use mathlib.Core.List.{List, [], _∷_, _++_}
 use Prim.Native.Nat.{ℕ}
 use Rattle.grammar.specs.Parse.{Parser, Turn, again, last, bindP, retP, badP, lookP, strictP, lookTwoP, judgeP, settleP, blameP, keptP, eatP, spanP, loopP, loopState}
-use Rattle.grammar.specs.Laws.{StrongPrefix, bind-answer, ret-answer, bad-answer, eat-answer, span-answer, look-answer, strict-answer, lookTwo-answer, judge-answer, settle-answer, blame-answer, kept-answer, loop-answer}
+use Rattle.grammar.specs.Laws.{StrongPrefix, bind-answer, ret-answer, bad-answer, eat-answer, span-answer, look-answer, strict-answer, lookTwo-answer, judge-answer}
+use Rattle.grammar.specs.Laws.{settle-answer, blame-answer, kept-answer, loop-answer}
 
 infixl 10 _>>_ _>>=_
 pub record G (A : Type 0) : Type 0 where

@@ -8,7 +8,9 @@ use lib.ListN.{length, take, length-append}
 use lib.Seq.{take-append-seam}
 use lib.Dec.{ltb, eqb}
 use borrow.Author.Tests.{ltb-true, lt-ltb, le-ltb, eq-eqb, ne-eqb}
-use Rattle.grammar.specs.Parse.{Out, done, fault, cut, Parser, Turn, again, last, before, samePlace, thenOut, bindP, retP, badP, lookP, strictOut, strictP, lookTwoP, verdict, judgeOut, judgeP, settleFault, settleOut, settleP, blameOut, blameP, keptOut, keptP, eatP, spanP, turnP, turnOut, loopF, loopP, stateTurn, stateOut, stateF, loopState}
+use Rattle.grammar.specs.Parse.{Out, done, fault, cut, Parser, Turn, again, last, before, samePlace, thenOut, bindP, retP, badP, lookP, strictOut, strictP, lookTwoP, verdict}
+use Rattle.grammar.specs.Parse.{judgeOut, judgeP, settleFault, settleOut, settleP, blameOut, blameP, keptOut, keptP, eatP, spanP, turnP, turnOut, loopF, loopP, stateTurn}
+use Rattle.grammar.specs.Parse.{stateOut, stateF, loopState}
 
 -- 0 is not 1
 pub nope : {X : Type 0} → _≡_ {A = ℕ} 0 1 → X

@@ -8,7 +8,8 @@ use lib.ListN.{length, take, length-append}
 use lib.Dec.{ltb}
 use borrow.Author.Tests.{ltb-true, lt-ltb, le-ltb}
 use Rattle.grammar.specs.Parse.{Out, done, fault, cut, Parser, Turn, again, last, thenOut, bindP, retP, before, keptOut, keptP, strictOut, strictP, turnOut, loopP}
-use Rattle.grammar.specs.Laws.{nope, Follows, follows-self, follows-refl, follows-app, StrongPrefix, cuts, faults, dones, before-app, strict-less, loop-step, loop-again, loop-last, loop-fault, loop-cut}
+use Rattle.grammar.specs.Laws.{nope, Follows, follows-self, follows-refl, follows-app, StrongPrefix, cuts, faults, dones, before-app, strict-less, loop-step, loop-again}
+use Rattle.grammar.specs.Laws.{loop-last, loop-fault, loop-cut}
 use Rattle.grammar.specs.Grammar.{G, added, oneItem, items}
 
 -- ---- the law by an answer

@@ -16,7 +16,8 @@ use Rattle.xml.specs.CodeLaws.{look-at, place-left}
 use Rattle.xml.specs.declared.Scan.{Scan}
 use Rattle.xml.specs.declared.Scan.the-variants as Scans
 use Rattle.markup.specs.Settled.{settledScan}
-use Rattle.markup.specs.Items.{ItemFound, passed, starts, ends, markupItem, itemByTwo, itemByByte, behindOne, contentItem, itemOut, itemPlaced, ItemInside, ItemReads, ItemReadsBy, miscOf, startTagOf}
+use Rattle.markup.specs.Items.{ItemFound, passed, starts, ends, markupItem, itemByTwo, itemByByte, behindOne, contentItem, itemOut, itemPlaced, ItemInside, ItemReads}
+use Rattle.markup.specs.Items.{ItemReadsBy, miscOf, startTagOf}
 use Rattle.markup.proofs.Known.{reads-settle}
 use Rattle.markup.specs.declared.Item.{Item}
 use Rattle.markup.specs.declared.Item.the-variants.{Misc, StartTag, EndTag, Fault, Cut}

@@ -75,7 +75,8 @@ module _ {C : Type 0} (end : G (Unit {0})) (refusal : List ℕ → ℕ) (body : 
   by-first b s false true z = by-two b s
   by-first b s false false true = go (entity .run (b ∷ s))
     where
-      same : (t : Bool) (k : ℕ) (u : List ℕ) → thenOut {A = Unit {0}} (cond t (fault (min 5 k) u) (fault 5 u)) (λ w. badP 5) ≡ byItem u (thenOut {A = Unit {0}} (cond t (fault (min 5 k) u) (fault 5 u)) (λ w. retP passed))
+      same : (t : Bool) (k : ℕ) (u : List ℕ)
+          → thenOut {A = Unit {0}} (cond t (fault (min 5 k) u) (fault 5 u)) (λ w. badP 5) ≡ byItem u (thenOut {A = Unit {0}} (cond t (fault (min 5 k) u) (fault 5 u)) (λ w. retP passed))
       same true k u = refl
       same false k u = refl
 

@@ -95,7 +95,8 @@ pub fn store_all(
     powers: &mut [i8],
     base: usize,
 )
-    ensures { λ _. ⌜ Laid base (Code.smallNumbers (lent (now (small .entry)) (now («small_powers» .entry)))) (lent (now (coefficients .entry)) (now (powers .entry))) (lent (now (coefficients .exit)) (now (powers .exit))) ⌝ }
+    ensures { λ _. ⌜ Laid base (Code.smallNumbers (lent (now (small .entry)) (now («small_powers» .entry)))) (lent (now (coefficients .entry)) (now (powers .entry)))
+        (lent (now (coefficients .exit)) (now (powers .exit))) ⌝ }
 {
     let n = room::length(small, small_powers);
     let mut j = 0;

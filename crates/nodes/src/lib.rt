@@ -59,7 +59,8 @@ pub fn node_body(
     powers: &mut [i8],
     base: usize,
 ) -> NodeStep
-    ensures { λ r. ⌜ NodeReads ((Nodes.nodeBody (carriedOf name)) .run) (now (s .entry)) at base r (lent (now (coefficients .entry)) (now (powers .entry))) (lent (now (coefficients .exit)) (now (powers .exit))) ⌝ }
+    ensures { λ r. ⌜ NodeReads ((Nodes.nodeBody (carriedOf name)) .run) (now (s .entry)) at base r (lent (now (coefficients .entry)) (now (powers .entry)))
+        (lent (now (coefficients .exit)) (now (powers .exit))) ⌝ }
 {
     match name {
         CarriedNode::Matrix => {

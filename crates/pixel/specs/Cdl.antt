@@ -1,4 +1,5 @@
--- Document 01, ASC_CDL: 'fraction; x·slope + offset, held in 0..1 for Fwd; if Saturation is not 1: luma = 0.2126·r + 0.7152·g + 0.0722·b, luma + sat·(x − luma), held likewise; then times the out scale.'
+-- Document 01, ASC_CDL: 'fraction; x·slope + offset, held in 0..1 for Fwd; if Saturation is not 1: luma = 0.2126·r + 0.7152·g + 0.0722·b, luma + sat·(x − luma), held likewise;
+-- then times the out scale.'
 -- Only Power 1 is carried, so no power is taken.
 use mathlib.Core.Bool.{Bool, cond}
 use Prim.Native.Nat.{ℕ}

@@ -1,4 +1,5 @@
--- Document 01, LUT1D: 'fraction held in 0..1, p = fraction·(n − 1), i the largest index with i ≤ p, f = p − i. Entry i if i = n − 1 or f = 0; else e + f·(e' − e), held between the smaller and larger of the two entries.'
+-- Document 01, LUT1D: 'fraction held in 0..1, p = fraction·(n − 1), i the largest index with i ≤ p, f = p − i. Entry i if i = n − 1 or f = 0; else e + f·(e' − e), held between the
+-- smaller and larger of the two entries.'
 use mathlib.Core.Bool.{cond}
 use Prim.Native.Nat.{ℕ, zero, suc, _+_, _-_}
 use lib.Dec.{eqb}

@@ -19,5 +19,6 @@ module _ (sr sg sb or og ob sat : Float) (clamp : Bool) (inScale outScale : Floa
   unfolding cdlPixel toFractions toFraction toCodeValues toCodeValue
   unit-scales x = simp (i, o, one-one)
 
-  pub unit-run : (xs : List Float) {ys : List Float} → clamp ≡ true → ys ≡ eachPixel (cdlPixel sr sg sb or og ob sat true one one) xs → ys ≡ eachPixel (cdlPixel sr sg sb or og ob sat clamp inScale outScale) xs
+  pub unit-run : (xs : List Float) {ys : List Float} → clamp ≡ true → ys ≡ eachPixel (cdlPixel sr sg sb or og ob sat true one one) xs
+      → ys ≡ eachPixel (cdlPixel sr sg sb or og ob sat clamp inScale outScale) xs
   unit-run xs k e = e ∙ rw (← k) (each-same _ _ unit-scales xs)

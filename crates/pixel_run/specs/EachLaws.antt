@@ -96,7 +96,8 @@ pub passed-start : (f : Pixel → Pixel) (xs : List Float) → Passed f xs xs 0
 passed-start f xs = record { within = omega arith; whole = refl; done = done-start f xs }
 
 -- one pixel read, mapped and put back
-pub passed-more : {f : Pixel → Pixel} {xs₀ xs : List Float} {i : ℕ} {x y : Pixel} {ys : List Float} → Passed f xs₀ xs i → i + 2 < length xs → x ≡ pixelAt xs i → y ≡ f x → ys ≡ storedPixel xs i y → Passed f xs₀ ys (i + 3)
+pub passed-more : {f : Pixel → Pixel} {xs₀ xs : List Float} {i : ℕ} {x y : Pixel} {ys : List Float} → Passed f xs₀ xs i → i + 2 < length xs → x ≡ pixelAt xs i → y ≡ f x → ys ≡ storedPixel xs i y
+    → Passed f xs₀ ys (i + 3)
 passed-more {f} {xs₀} {xs} {i} {x} {y} {ys} p h ex ey es =
     let l : length ys ≡ length xs = ap length es ∙ length-stored xs i y in
     record { within = omega arith; whole = l ∙ p .whole; done = rw (es, ey, ex) (done-more f xs₀ xs i h (p .done)) }

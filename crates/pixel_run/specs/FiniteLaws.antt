@@ -30,7 +30,9 @@ zero-level (fin false n d) c h v =
     rw (eq-eqb (n * up d * 1) (0 * 1 * down d) (mul-one (n * up d) ∙ e ∙ sym (zero-mul (down d)))) refl
 
 round-zero : (c : ℕ) → 0 < c → eq (round binary64 false 0 c) F64.zero ≡ true
-round-zero c h = zero-level (round binary64 false 0 c) c h (round-exact binary64 false 0 c 0 0 h (pow-pos (prec binary64)) (pow-pos (low binary64 + suc (emax binary64))) (zero-mul (2 ^ low binary64) ∙ sym (zero-mul c)))
+round-zero c h =
+    zero-level (round binary64 false 0 c) c h
+    (round-exact binary64 false 0 c 0 0 h (pow-pos (prec binary64)) (pow-pos (low binary64 + suc (emax binary64))) (zero-mul (2 ^ low binary64) ∙ sym (zero-mul c)))
 
 cancels : (s : Bool) (a c : ℕ) → 0 < c → eq (sum binary64 s a (not s) a c) F64.zero ≡ true
 unfolding sum

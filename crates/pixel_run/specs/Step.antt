@@ -1,4 +1,5 @@
--- A prepared node's step on a pixel. Document 01: 'A prepared node is one of four kinds: Range with four and CDL with ten numbers, each carrying its own f64 parameters; Matrix and LUT1D with where their numbers stand. For a Matrix its three rows of four are handed over by value.'
+-- A prepared node's step on a pixel. Document 01: 'A prepared node is one of four kinds: Range with four and CDL with ten numbers, each carrying its own f64 parameters; Matrix and
+-- LUT1D with where their numbers stand. For a Matrix its three rows of four are handed over by value.'
 use mathlib.Core.List.{List}
 use lib.Dec.{T}
 use lib.Ieee.{Float, le}

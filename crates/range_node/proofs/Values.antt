@@ -70,7 +70,8 @@ module _ (m : Room) (r : RangeStep) (st : RangeState) (v : RangeStands m r st) w
   lacking = rw (there 0, there 1, there 2, there 3, number 0 (omega arith), number 1 (omega arith), number 2 (omega arith), number 3 (omega arith))
 
   four-numbers : (vs : List (Option Decimal)) → length vs ≡ 4
-      → map (orElse Decimals.zero) vs ≡ orElse Decimals.zero (getD vs 0 none) ∷ orElse Decimals.zero (getD vs 1 none) ∷ orElse Decimals.zero (getD vs 2 none) ∷ orElse Decimals.zero (getD vs 3 none) ∷ []
+      → map (orElse Decimals.zero) vs ≡ orElse Decimals.zero (getD vs 0 none) ∷ orElse Decimals.zero (getD vs 1 none) ∷ orElse Decimals.zero (getD vs 2 none) ∷ orElse Decimals.zero
+      (getD vs 3 none) ∷ []
   four-numbers [] q = absurd (omega arith)
   four-numbers (a ∷ []) q = absurd (omega arith)
   four-numbers (a ∷ b ∷ []) q = absurd (omega arith)

@@ -147,7 +147,8 @@ fn range_body(
     coefficients: &mut [i64],
     powers: &mut [i8],
 ) -> RangeStep
-    ensures { λ r. ⌜ ((st : Nodes.RangeState) → Code.RangeStands (lent (now (coefficients .entry)) (now (powers .entry))) state st → ReadsTo ((Nodes.rangeBody st (now (w .entry))) .run) (now (s .entry)) at (r .scan) (Code.RangeStands (lent (now (coefficients .exit)) (now (powers .exit))) r) (Unit {0})) ⌝ }
+    ensures { λ r. ⌜ ((st : Nodes.RangeState) → Code.RangeStands (lent (now (coefficients .entry)) (now (powers .entry))) state st
+        → ReadsTo ((Nodes.rangeBody st (now (w .entry))) .run) (now (s .entry)) at (r .scan) (Code.RangeStands (lent (now (coefficients .exit)) (now (powers .exit))) r) (Unit {0})) ⌝ }
 {
     if xml::same(w, b"Description") {
         return range_with(state, info::text_element(s, at, w));
@@ -169,7 +170,8 @@ fn range_child(
     powers: &mut [i8],
 ) -> RangeStep
     requires { ⌜ (at + 2 ≤ e) × (e ≤ length (now s)) ⌝ }
-    ensures { λ r. ⌜ ((st : Nodes.RangeState) → Code.RangeStands (lent (now (coefficients .entry)) (now (powers .entry))) state st → Goes Nodes.rangeHolder st (now (s .entry)) at e (r .scan) (Code.RangeStands (lent (now (coefficients .exit)) (now (powers .exit))) r) (Unit {0})) ⌝ }
+    ensures { λ r. ⌜ ((st : Nodes.RangeState) → Code.RangeStands (lent (now (coefficients .entry)) (now (powers .entry))) state st
+        → Goes Nodes.rangeHolder st (now (s .entry)) at e (r .scan) (Code.RangeStands (lent (now (coefficients .exit)) (now (powers .exit))) r) (Unit {0})) ⌝ }
 {
     let w = tags::part(s, at + 1, e);
     let found = state.found;

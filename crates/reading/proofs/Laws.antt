@@ -26,7 +26,8 @@ use Rattle.xml.specs.declared.Scan.the-variants as Scans
 use Rattle.xml.specs.Code.{scanOut, Inside}
 use Rattle.clf.specs.List.{Document, document, tail}
 use Rattle.clf.specs.Places.{nodeSpan}
-use Rattle.clf.specs.Reading.{Reading, accepted, faulty, unfit, mostBytes, nodesIn, nodesAmong, placeIn, readingBy, listReading, tailReading, textReading, readText, read, readAlone, askedFor, descriptionAsked}
+use Rattle.clf.specs.Reading.{Reading, accepted, faulty, unfit, mostBytes, nodesIn, nodesAmong, placeIn, readingBy, listReading, tailReading, textReading, readText, read}
+use Rattle.clf.specs.Reading.{readAlone, askedFor, descriptionAsked}
 use Rattle.clf.specs.Whole.{wholeNodes, wholePlace}
 use Rattle.clf.specs.Description.{noPart, partFrom, partAsked, descriptionPart}
 use Rattle.clf.proofs.Whole.{document-whole, place-whole}

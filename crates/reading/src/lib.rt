@@ -91,7 +91,8 @@ fn accepted(state: ListState) -> Answer
 
 // Reads a text into the table room.
 fn read_text(file: &[u8], coefficients: &mut [i64], powers: &mut [i8]) -> Answer
-    ensures { λ r. ⌜ ReadsInto (Reading.readText (roomLength (lent (now (coefficients .entry)) (now (powers .entry)))) (now (file .entry))) r (lent (now (coefficients .entry)) (now (powers .entry))) (lent (now (coefficients .exit)) (now (powers .exit))) ⌝ }
+    ensures { λ r. ⌜ ReadsInto (Reading.readText (roomLength (lent (now (coefficients .entry)) (now (powers .entry)))) (now (file .entry))) r (lent (now (coefficients .entry)) (now (powers .entry)))
+        (lent (now (coefficients .exit)) (now (powers .exit))) ⌝ }
 {
     let length = room::length(coefficients, powers);
     let step = file_text::file_list(file, 0, coefficients, powers);
@@ -108,7 +109,8 @@ fn read_text(file: &[u8], coefficients: &mut [i64], powers: &mut [i8]) -> Answer
 
 // Reads a file into the table room.
 pub fn read(file: &[u8], coefficients: &mut [i64], powers: &mut [i8]) -> Answer
-    ensures { λ r. ⌜ ReadsInto (Reading.read (roomLength (lent (now (coefficients .entry)) (now (powers .entry)))) (now (file .entry))) r (lent (now (coefficients .entry)) (now (powers .entry))) (lent (now (coefficients .exit)) (now (powers .exit))) ⌝ }
+    ensures { λ r. ⌜ ReadsInto (Reading.read (roomLength (lent (now (coefficients .entry)) (now (powers .entry)))) (now (file .entry))) r (lent (now (coefficients .entry)) (now (powers .entry)))
+        (lent (now (coefficients .exit)) (now (powers .exit))) ⌝ }
 {
     if too_long(file) {
         let length = room::length(coefficients, powers);

@@ -95,7 +95,8 @@ reads-text-in x m₀ m₁ text r l h =
       room = ap (λ (z : Look). z .room) q ∙ l .room;
     }
 
-pub wrote-read : (x : Look) → HasPlaces x → (id : List ℕ) (w : Written) (r : Answer) (out₀ out₁ : List ℕ) (m₀ m₁ : Room) → w ≡ writingAnswer (writing x id (length out₀)) → out₁ ≡ outputOf (writing x id (length out₀)) out₀
+pub wrote-read : (x : Look) → HasPlaces x → (id : List ℕ) (w : Written) (r : Answer) (out₀ out₁ : List ℕ) (m₀ m₁ : Room) → w ≡ writingAnswer (writing x id (length out₀))
+    → out₁ ≡ outputOf (writing x id (length out₀)) out₀
     → ReadsInto (read (roomLength m₀) (take (w .length) out₁)) r m₀ m₁ → WroteAndRead x id (record { wrote = w; answer = r }) out₀ out₁ m₀ m₁
 wrote-read x p id w r out₀ out₁ m₀ m₁ e o h =
     record {
@@ -132,7 +133,8 @@ part-front : (s : List ℕ) (n : ℕ) → n ≤ length s → partIn s 0 n ≡ ta
 unfolding partIn
 part-front s n h = let z : n - 0 ≡ n = omega arith in rw (le-leb n (length s) h, z) refl
 
-pub wrote-part-read : (x : Look) → HasPlaces x → (id : List ℕ) (w : Written) (r : Answer) (out₀ out₁ : List ℕ) (m₀ m₁ : Room) → w ≡ writingAnswer (writing x id (length out₀)) → out₁ ≡ outputOf (writing x id (length out₀)) out₀
+pub wrote-part-read : (x : Look) → HasPlaces x → (id : List ℕ) (w : Written) (r : Answer) (out₀ out₁ : List ℕ) (m₀ m₁ : Room) → w ≡ writingAnswer (writing x id (length out₀))
+    → out₁ ≡ outputOf (writing x id (length out₀)) out₀
     → length out₁ ≡ length out₀ → (t : List ℕ) → t ≡ partIn out₁ 0 (w .length) → ReadsInto (read (roomLength m₀) t) r m₀ m₁ → WroteAndRead x id (record { wrote = w; answer = r }) out₀ out₁ m₀ m₁
 wrote-part-read x p id w r out₀ out₁ m₀ m₁ e o l t q h =
     let n : w .length ≡ Text.writingLength (writing x id (length out₀)) = ap (λ (v : Written). v .length) e in
@@ -160,7 +162,8 @@ write-refuses x p id r out₀ out₁ e o = record {
   output = o;
   refuses = refuses x p (r .number)
       (λ v z. valid (isValid (x .list) (x .room)) (idRight id) (ltb (length out₀) (length text)) v (sym (ap (λ (w : Written). w .number) e) ∙ z))
-      (λ v. ap (λ (w : Written). w .number) e ∙ ap (λ (b : Bool). Text.writingNumber (cond b (cond (idRight id) (cond (ltb (length out₀) (length text)) (refused 17) (written text)) (refused 18)) (refused 16))) v);
+      (λ v. ap (λ (w : Written). w .number) e ∙ ap (λ (b : Bool). Text.writingNumber
+      (cond b (cond (idRight id) (cond (ltb (length out₀) (length text)) (refused 17) (written text)) (refused 18)) (refused 16))) v);
 }
   where
     text : List ℕ

@@ -69,7 +69,8 @@ module _ (s1 s2 s3 o1 o2 o3 p1 p2 p3 : Decimal) where
       (λ s r e. ap (λ (o : Out (List Decimal)). thenOut o (λ m. retP (six ++ m))) e)
 
   sop-reads : (t : List ℕ) → Each (Kept notBelowZero) slopes → Each (Kept anyNumber) (three o1 o2 o3) → Each (Kept onlyOne) (three p1 p2 p3)
-      → sopNode .run (bytes ">\n" ++ valueText (bytes "Slope") slopes (valueText (bytes "Offset") (three o1 o2 o3) (valueText (bytes "Power") (three p1 p2 p3) (bytes "</SOPNode>" ++ t)))) ≡ done nine t
+      → sopNode .run (bytes ">\n" ++ valueText (bytes "Slope") slopes (valueText (bytes "Offset") (three o1 o2 o3) (valueText (bytes "Power") (three p1 p2 p3) (bytes "</SOPNode>" ++ t)))) ≡ done nine
+      t
   unfolding sopNode
   sop-reads t ks ko kp =
       let z : List ℕ = bytes "</SOPNode>" ++ t in

@@ -70,7 +70,8 @@ matrix-rules = record { rest = λ w t. 0; texts = refl; opened = refl; in-free =
 
 module _ (i o : Depth) where
   pub matrix-reads : (wide : Bool) (ds : List Decimal) (t : List ℕ) → Each (Kept anyNumber) ds → length ds ≡ 3 * cond wide 4 3 → numbersOf (Matrix wide) ≡ length ds
-      → matrix .run (bytes " inBitDepth=\"" ++ (depthText i ++ (bytes "\" outBitDepth=\"" ++ (depthText o ++ (bytes "\"" ++ (bytes ">\n" ++ arrayText 3 (cond wide 4 3) ds (bytes "</Matrix>" ++ t)))))))
+      → matrix .run (bytes " inBitDepth=\"" ++ (depthText
+      i ++ (bytes "\" outBitDepth=\"" ++ (depthText o ++ (bytes "\"" ++ (bytes ">\n" ++ arrayText 3 (cond wide 4 3) ds (bytes "</Matrix>" ++ t)))))))
       ≡ done (record { kind = Matrix wide; input = i; output = o; numbers = ds }) t
   unfolding matrix
   matrix-reads wide ds t each c n =

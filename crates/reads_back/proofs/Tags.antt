@@ -95,7 +95,8 @@ module _ (rules : Rules) where
 
   -- the first byte of a name is a letter
   letter-turn : (attributes : List Attribute) (b : ℕ) (w : List ℕ) → isLetter b ≡ true
-      → turn (record { spaced = true; attributes = attributes }) (b ∷ w) ≡ thenOut ((attribute rules attributes) .run (b ∷ w)) (λ a. retP (again (record { spaced = false; attributes = attributes ++ a ∷ [] })))
+      → turn (record { spaced = true; attributes = attributes }) (b ∷ w) ≡ thenOut ((attribute rules attributes) .run (b ∷ w))
+      (λ a. retP (again (record { spaced = false; attributes = attributes ++ a ∷ [] })))
   letter-turn attributes b w h =
       let l : 65 ≤ b = letter-big b h in
       skip (isSpace b) _ _ (b ∷ w) (no-space b (omega arith))
@@ -103,7 +104,8 @@ module _ (rules : Rules) where
       ∙ skip (eqb b 47) _ _ (b ∷ w) (ne-eqb b 47 (λ e. omega arith))
 
   name-turn : (attributes : List Attribute) (w t : List ℕ) → isName w ≡ true
-      → turn (record { spaced = true; attributes = attributes }) (w ++ t) ≡ thenOut ((attribute rules attributes) .run (w ++ t)) (λ a. retP (again (record { spaced = false; attributes = attributes ++ a ∷ [] })))
+      → turn (record { spaced = true; attributes = attributes }) (w ++ t) ≡ thenOut ((attribute rules attributes) .run (w ++ t))
+      (λ a. retP (again (record { spaced = false; attributes = attributes ++ a ∷ [] })))
   unfolding isName
   name-turn attributes [] t h = nope cc
   name-turn attributes (b ∷ w) t h = letter-turn attributes b (w ++ t) (both-true (isLetter b) (every isNameByte w) h .0)

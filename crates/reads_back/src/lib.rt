@@ -28,7 +28,8 @@ pub fn write_and_read(
     new_coefficients: &mut [i64],
     new_powers: &mut [i8],
 ) -> WrittenRead
-    ensures { λ r. ⌜ Calls.WroteAndRead (lookOf list (lent (now (coefficients .entry)) (now (powers .entry)))) (now (id .entry)) r (now (out .entry)) (now (out .exit)) (lent (now («new_coefficients» .entry)) (now («new_powers» .entry))) (lent (now («new_coefficients» .exit)) (now («new_powers» .exit))) ⌝ }
+    ensures { λ r. ⌜ Calls.WroteAndRead (lookOf list (lent (now (coefficients .entry)) (now (powers .entry)))) (now (id .entry)) r (now (out .entry)) (now (out .exit))
+        (lent (now («new_coefficients» .entry)) (now («new_powers» .entry))) (lent (now («new_coefficients» .exit)) (now («new_powers» .exit))) ⌝ }
 {
     let wrote = writing::write(list, coefficients, powers, id, out);
     let end = wrote.length;

@@ -16,7 +16,8 @@ use Rattle.process_list.specs.declared.Node.{Node}
 use Rattle.process_list.specs.declared.ProcessList.{ProcessList}
 use Rattle.process_list.specs.declared.Verdict.{Verdict}
 use Rattle.process_list.specs.declared.Verdict.the-variants.{Accepted, NoNode, TooManyNodes, DepthDiffers, TooManyNumbers}
-use Rattle.process_list.specs.List.{Element, mostNodes, numbersOf, nodeOf, withPosition, total, placed, allNumbers, blankNode, listOf, nodesOf, nodeAt, replacedAt, placedList, capped, judged, verdict, verdictNumber, verdictPlace}
+use Rattle.process_list.specs.List.{Element, mostNodes, numbersOf, nodeOf, withPosition, total, placed, allNumbers, blankNode, listOf, nodesOf, nodeAt, replacedAt, placedList}
+use Rattle.process_list.specs.List.{capped, judged, verdict, verdictNumber, verdictPlace}
 use Rattle.process_list.proofs.Laws.{capped-exact, total-take, total-take-le}
 use Rattle.process_list.proofs.Lists.{Fine, accepted-fine, accepted-number, heads-length, placed-length, list-nodes, place-at, total-place, replaced-verdict, replaced-list}
 use Rattle.room.specs.Room.{Room, roomLength, laidIn, filledWith, resizedIn}
@@ -207,7 +208,8 @@ module _ (l : ProcessList) (m₀ : Room) (k : ℕ) (node : Node) (e : List ℕ) 
 -- ---- as the code goes
 
 -- the old numbers give way, and the element is read in their place
-pub stores : (l : ProcessList) (i : ℕ) (node : Node) (e : List ℕ) (m₀ m m₁ : Room) (old : Node) (a b u : ℕ) → old ≡ nodeAt l i → a ≡ capped (numbersOf (old .kind)) → b ≡ capped (numbersOf (node .kind))
+pub stores : (l : ProcessList) (i : ℕ) (node : Node) (e : List ℕ) (m₀ m m₁ : Room) (old : Node) (a b u : ℕ) → old ≡ nodeAt l i → a ≡ capped (numbersOf (old .kind))
+    → b ≡ capped (numbersOf (node .kind))
     → u ≡ capped (total (nodesOf l)) → m ≡ resizedIn (old .at) a b u m₀ → (step : NodeStep) → NodeReads (element .run) e 0 (old .at) step m m₁ → Stores l i node e m₀ m₁
 unfolding madeWay
 stores l i node e m₀ m m₁ old a b u qo qa qb qu qm step r = record { step = step; reads = rw (← qo, ← qa, ← qb, ← qu, ← qm) r }

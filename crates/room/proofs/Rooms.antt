@@ -7,7 +7,8 @@ use lib.IntN.{ℤ, pos}
 use lib.ListN.{length, length-map}
 use Rattle.decimal.specs.declared.Decimal.{Decimal}
 use Rattle.room.specs.Room.{Room, lent, roomLength, beyond, laid, stored, cleared, filled, coefficientParts, powerParts, storedIn, laidIn, clearedIn, clearedFrom, filledWith, resizedIn}
-use Rattle.room.proofs.Contents.{laid-none, laid-append, laid-more, laid-length, stored-length, SliceFrom, slice-refl, slice-trans, slice-laid, slice-cleared, cleared-from, cleared-whole, laid-cleared, filled-length, filled-behind, filled-over, resized-length}
+use Rattle.room.proofs.Contents.{laid-none, laid-append, laid-more, laid-length, stored-length, SliceFrom, slice-refl, slice-trans, slice-laid, slice-cleared, cleared-from}
+use Rattle.room.proofs.Contents.{cleared-whole, laid-cleared, filled-length, filled-behind, filled-over, resized-length}
 
 -- rooms of equal slices
 pub same-room : {c c′ p p′ : List ℤ} → c ≡ c′ → p ≡ p′ → lent c p ≡ lent c′ p′

@@ -14,7 +14,8 @@ use Rattle.shell_text.specs.declared.Command.{Command}
 use Rattle.shell_text.specs.declared.Decoded.{Decoded}
 use Rattle.shell_text.specs.Hex.{partOf, partLeft, DecodesPart, lastOf, lastLeft, DecodesLast}
 use Rattle.shell_text.specs.Lines.{isRun, lastNumber}
-use Rattle.shell_text.specs.Commands.{unknown, running, withBytes, firstStart, firstEnd, plainOf, plainLeft, numberedBy, numberedFrom, numberedOf, numberedLeft, underBy, underFrom, underOf, underLeft, shapeOf, byShape, letteredOf, letteredLeft, isLettered, commandOf, commandLeft, Says}
+use Rattle.shell_text.specs.Commands.{unknown, running, withBytes, firstStart, firstEnd, plainOf, plainLeft, numberedBy, numberedFrom, numberedOf, numberedLeft, underBy}
+use Rattle.shell_text.specs.Commands.{underFrom, underOf, underLeft, shapeOf, byShape, letteredOf, letteredLeft, isLettered, commandOf, commandLeft, Says}
 
 pub says-plain : (letter : ℕ) (s s' : List ℕ) (d : Decoded) (r : Command) → DecodesLast s 2 s' d → r ≡ withBytes letter 0 d → Says (plainOf letter s) (plainLeft s) r s'
 unfolding plainOf plainLeft

@@ -65,7 +65,8 @@ by-field n h =
 pub by-digits : (n : ℕ) → n % 4503599627370496 ≡ 0 → T (not (nanBits binary64 n))
 unfolding nanBits
 by-digits n h =
-    subst (λ (b : Bool). T (not (eqb (n % 9223372036854775808 / 4503599627370496) 2047 && not b))) (sym (eq-eqb (n % 4503599627370496) 0 h)) (and-false (eqb (n % 9223372036854775808 / 4503599627370496) 2047))
+    subst (λ (b : Bool). T (not (eqb (n % 9223372036854775808 / 4503599627370496) 2047 && not b))) (sym (eq-eqb (n % 4503599627370496) 0 h))
+    (and-false (eqb (n % 9223372036854775808 / 4503599627370496) 2047))
 
 -- a float that is equal to itself
 pub by-itself : (x : Float) → ne x x ≡ false → T (not (isNan x))
@@ -200,7 +201,9 @@ module _ (w₀ w : List ℕ) (i b : ℕ) (p : Passed w₀ w i) where
     pub passes-one : b < 256 → Passed w₀ (set w i b) (i + 1)
     passes-one k = record {
       rest = drop-set-lt (i + 1) w i b (omega arith) ∙ further;
-      bytes = p .bytes ∙ ap (λ (l : List ℕ). take i w ++ l) (decodes-one k ∙ ap (λ (n : ℕ). b ∷ bytesOf (drop n w₀)) twice) ∙ sym (append-assoc (take i w) (b ∷ []) _) ∙ ap (λ (l : List ℕ). l ++ bytesOf (drop (i + 1 + (i + 1)) w₀)) (sym taken);
+      bytes =
+          p .bytes ∙ ap (λ (l : List ℕ). take i w ++ l) (decodes-one k ∙ ap (λ (n : ℕ). b ∷ bytesOf (drop n w₀)) twice) ∙ sym (append-assoc (take i w) (b ∷ []) _)
+          ∙ ap (λ (l : List ℕ). l ++ bytesOf (drop (i + 1 + (i + 1)) w₀)) (sym taken);
       size = length-set w i b ∙ p .size;
     }
       where
@@ -302,7 +305,8 @@ module _ (s : List ℕ) (a e : ℕ) where
         line-is : l ≡ partLeft s a e
         unfolding partLeft
         line-is =
-            q ∙ ap (λ (x : List ℕ). take a s ++ (x ++ drop (e - a) (drop a s))) (p .bytes) ∙ ap (λ (x : List ℕ). take a s ++ x) (append-assoc (bytesOf (wordAt s a e)) (drop size-w (wordAt s a e)) (drop (e - a) (drop a s)) ∙ ap (λ (x : List ℕ). bytesOf (wordAt s a e) ++ x) back)
+            q ∙ ap (λ (x : List ℕ). take a s ++ (x ++ drop (e - a) (drop a s))) (p .bytes)
+            ∙ ap (λ (x : List ℕ). take a s ++ x) (append-assoc (bytesOf (wordAt s a e)) (drop size-w (wordAt s a e)) (drop (e - a) (drop a s)) ∙ ap (λ (x : List ℕ). bytesOf (wordAt s a e) ++ x) back)
             ∙ simp (le-ltb (length s) e h, lt-leb e a k, n)
 
         pub part-bytes : m * 2 ≡ e - a → DecodesPart s a e l (Hexes.Bytes a (a + m))

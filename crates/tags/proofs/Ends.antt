@@ -170,17 +170,21 @@ module _ (rules : Rules) (s : List ℕ) (at : ℕ) (attributes : Attributes) (sp
       )
 
       -- `>`
-      pub tag-open : getD s i 0 ≡ 62 → (e : TagEnd) → EndIs s attributes i e ((openEnd rules (attributesOf s attributes)) .run (drop i s)) → TagStops rules s at (record { end = e; attributes = attributes })
+      pub tag-open : getD s i 0 ≡ 62 → (e : TagEnd) → EndIs s attributes i e ((openEnd rules (attributesOf s attributes)) .run (drop i s))
+          → TagStops rules s at (record { end = e; attributes = attributes })
       tag-open g e x = ended-tag ((openEnd rules (attributesOf s attributes)) .run (drop i s)) e x
           (rw (q, eq-eqb (getD s i 0) 62 g)
-          (last-turn (loopP (turn rules)) (judgeOut (λ y. rules .opened (attributesOf s attributes)) (eatP (drop i s)) (drop i s)) (record { attributes = attributesOf s attributes; empty = false }) (drop i s)))
+          (last-turn (loopP (turn rules)) (judgeOut (λ y. rules .opened (attributesOf s attributes)) (eatP (drop i s)) (drop i s)) (record { attributes = attributesOf s attributes; empty = false })
+          (drop i s)))
 
       module _ (g : getD s i 0 ≡ 62 → ⊥) where
         -- `/>`
-        pub tag-empty : getD s i 0 ≡ 47 → (e : TagEnd) → EndIs s attributes i e ((emptyEnd rules (attributesOf s attributes)) .run (drop i s)) → TagStops rules s at (record { end = e; attributes = attributes })
+        pub tag-empty : getD s i 0 ≡ 47 → (e : TagEnd) → EndIs s attributes i e ((emptyEnd rules (attributesOf s attributes)) .run (drop i s))
+            → TagStops rules s at (record { end = e; attributes = attributes })
         tag-empty d e x = ended-tag ((emptyEnd rules (attributesOf s attributes)) .run (drop i s)) e x
             (rw (q, ne-eqb (getD s i 0) 62 g, eq-eqb (getD s i 0) 47 d)
-            (last-turn (loopP (turn rules)) (judgeOut (λ y. rules .emptied (attributesOf s attributes)) ((word (bytes "/>") 2) .run (drop i s)) (drop i s)) (record { attributes = attributesOf s attributes; empty = true }) (drop i s)))
+            (last-turn (loopP (turn rules)) (judgeOut (λ y. rules .emptied (attributesOf s attributes)) ((word (bytes "/>") 2) .run (drop i s)) (drop i s))
+            (record { attributes = attributesOf s attributes; empty = true }) (drop i s)))
 
         module _ (d : getD s i 0 ≡ 47 → ⊥) where
           -- any other byte where no white space stands before

@@ -113,7 +113,8 @@ none-more s attributes w i h q =
     rw add-one (named-skip w (firstOnes (attributeAt s attributes) i) (attributeAt s attributes i ∷ []) h ∙ named-none w (attributeAt s attributes i) q)
 
 -- it is found at i
-pub index-found : (s : List ℕ) (attributes : Attributes) (w : List ℕ) (i : ℕ) → NoneOf s attributes w i → i < attributes .count → i < 16 → same w ((attributeAt s attributes i) .name) ≡ true → IndexOf s attributes w i
+pub index-found : (s : List ℕ) (attributes : Attributes) (w : List ℕ) (i : ℕ) → NoneOf s attributes w i → i < attributes .count → i < 16 → same w ((attributeAt s attributes i) .name) ≡ true
+    → IndexOf s attributes w i
 unfolding attributesOf
 index-found s attributes w i h k k₂ q =
     let f : ℕ → Attribute = attributeAt s attributes in

@@ -536,7 +536,8 @@ fn attribute_named(
     attributes: Attributes,
 ) -> AttributeRead
     requires { ⌜ (at < e) × (e ≤ length (now s)) ⌝ }
-    ensures { λ r. ⌜ Code.AttributeIs (now (s .entry)) at r (Code.named (rulesOf kind) (Code.attributesOf (now (s .entry)) attributes) (part (now (s .entry)) at e) (drop e (now (s .entry))) (drop at (now (s .entry)))) ⌝ }
+    ensures { λ r. ⌜ Code.AttributeIs (now (s .entry)) at r (Code.named (rulesOf kind) (Code.attributesOf (now (s .entry)) attributes) (part (now (s .entry)) at e) (drop e (now (s .entry)))
+        (drop at (now (s .entry)))) ⌝ }
 {
     let k = name_fault(s, part(s, at, e), kind, attributes);
     if k != 0 {
@@ -552,7 +553,8 @@ fn attribute_named(
 
 // The attribute at `at`, behind those attributes.
 pub fn attribute(s: &[u8], at: usize, kind: TagKind, attributes: Attributes) -> AttributeRead
-    ensures { λ r. ⌜ (Code.attributeOut (now (s .entry)) at r ≡ (Xml.attribute (rulesOf kind) (Code.attributesOf (now (s .entry)) attributes)) .run (drop at (now (s .entry)))) × Code.AttributeInside (now (s .entry)) at r ⌝ }
+    ensures { λ r. ⌜ (Code.attributeOut (now (s .entry)) at r ≡ (Xml.attribute (rulesOf kind) (Code.attributesOf (now (s .entry)) attributes)) .run (drop at (now (s .entry))))
+        × Code.AttributeInside (now (s .entry)) at r ⌝ }
 {
     let r = xml::name(s, at);
     match r {

@@ -24,7 +24,8 @@ use Rattle.process_list.proofs.Lists.{same-depth, list-nodes, list-count, list-
 use Rattle.room.specs.Room.{Room, roomLength, filled, filledWith, coefficientParts, powerParts}
 use Rattle.room.proofs.Contents.{filled-run}
 use Rattle.room.proofs.Rooms.{same-room, length-at-most, filled-room}
-use Rattle.valid.specs.Valid.{every, pairs, numbersAt, elementOf, elementsOf, sound, shapeRight, carried, rulesHold, gapless, isBlank, isBlankList, isSmallMatrix, isZero, restZero, zeroFrom, isValid}
+use Rattle.valid.specs.Valid.{every, pairs, numbersAt, elementOf, elementsOf, sound, shapeRight, carried, rulesHold, gapless, isBlank, isBlankList, isSmallMatrix, isZero}
+use Rattle.valid.specs.Valid.{restZero, zeroFrom, isValid}
 use Rattle.valid.proofs.Laws.{numbers-length}
 use Rattle.valid.proofs.Elements.{both-true, Right, right-made, right-few, right-holds, Holds, valid-parts, valid-made}
 

@@ -140,7 +140,9 @@ module _ {w : List ℕ} {n : ℕ} {rule : Decimal → ℕ} {s : List ℕ} {at ba
       counted = v .counted;
       low = omega (arith, v .low);
       most = v .most;
-      out = v .out ∙ loop-again one (v .xs) (drop i s) (v .xs) (drop (i + 1) s) (turn true (eqb (getD s i 0) 60) q refl ∙ ap ((eat >> ret (again (v .xs))) .run) (here s i h)) (omega (arith, ap length (here s i h)));
+      out =
+          v .out ∙ loop-again one (v .xs) (drop i s) (v .xs) (drop (i + 1) s) (turn true (eqb (getD s i 0) 60) q refl ∙ ap ((eat >> ret (again (v .xs))) .run) (here s i h))
+          (omega (arith, ap length (here s i h)));
       room = v .room;
     }
 
@@ -178,7 +180,8 @@ module _ {w : List ℕ} {n : ℕ} {rule : Decimal → ℕ} {s : List ℕ} {at ba
         abbrev K : Out Decimal → Out (Turn (List Decimal) (List Decimal))
         K o = thenOut o (λ d. retP (again (v .xs ++ d ∷ [])))
 
-        apart : (o : Out ((Unit {0}) × List ℕ)) → thenOut {B = Turn (List Decimal) (List Decimal)} o (λ t. retP (again (v .xs ++ saidBy (tokenOf (t .1)) ∷ []))) ≡ thenOut (thenOut o (λ t. retP (saidBy (tokenOf (t .1))))) (λ d. retP (again (v .xs ++ d ∷ [])))
+        apart : (o : Out ((Unit {0}) × List ℕ))
+            → thenOut {B = Turn (List Decimal) (List Decimal)} o (λ t. retP (again (v .xs ++ saidBy (tokenOf (t .1)) ∷ []))) ≡ thenOut (thenOut o (λ t. retP (saidBy (tokenOf (t .1))))) (λ d. retP (again (v .xs ++ d ∷ [])))
         apart (done t r) = refl
         apart (fault k r) = refl
         apart cut = refl

@@ -159,7 +159,8 @@ fn stored_numbers(
     powers: &mut [i8],
     base: usize,
 ) -> Scan
-    ensures { λ r. ⌜ NumbersStored n ((Numbers.numbers (now (w .entry)) n (ruleOf rule)) .run) (now (s .entry)) at base r (lent (now (coefficients .entry)) (now (powers .entry))) (lent (now (coefficients .exit)) (now (powers .exit))) ⌝ }
+    ensures { λ r. ⌜ NumbersStored n ((Numbers.numbers (now (w .entry)) n (ruleOf rule)) .run) (now (s .entry)) at base r (lent (now (coefficients .entry)) (now (powers .entry)))
+        (lent (now (coefficients .exit)) (now (powers .exit))) ⌝ }
 {
     let mut i = at;
     let mut count: usize = 0;
@@ -200,7 +201,8 @@ fn stored_value(
     powers: &mut [i8],
     base: usize,
 ) -> Scan
-    ensures { λ r. ⌜ NumbersStored n ((Numbers.valueElement (now (w .entry)) n (ruleOf rule)) .run) (now (s .entry)) at base r (lent (now (coefficients .entry)) (now (powers .entry))) (lent (now (coefficients .exit)) (now (powers .exit))) ⌝ }
+    ensures { λ r. ⌜ NumbersStored n ((Numbers.valueElement (now (w .entry)) n (ruleOf rule)) .run) (now (s .entry)) at base r (lent (now (coefficients .entry)) (now (powers .entry)))
+        (lent (now (coefficients .exit)) (now (powers .exit))) ⌝ }
 {
     let tag = tags::start_tag(s, at, TagKind::Value);
     let end = tag.end;
@@ -233,7 +235,8 @@ pub fn numbers(
     powers: &mut [i8],
     base: usize,
 ) -> Scan
-    ensures { λ r. ⌜ NumbersRead n ((Numbers.numbers (now (w .entry)) n (ruleOf rule)) .run) (now (s .entry)) at base r (lent (now (coefficients .entry)) (now (powers .entry))) (lent (now (coefficients .exit)) (now (powers .exit))) ⌝ }
+    ensures { λ r. ⌜ NumbersRead n ((Numbers.numbers (now (w .entry)) n (ruleOf rule)) .run) (now (s .entry)) at base r (lent (now (coefficients .entry)) (now (powers .entry)))
+        (lent (now (coefficients .exit)) (now (powers .exit))) ⌝ }
 {
     let r = stored_numbers(s, at, w, n, rule, coefficients, powers, base);
     clear_at_fault(r, coefficients, powers, base);
@@ -251,7 +254,8 @@ pub fn value_element(
     powers: &mut [i8],
     base: usize,
 ) -> Scan
-    ensures { λ r. ⌜ NumbersRead n ((Numbers.valueElement (now (w .entry)) n (ruleOf rule)) .run) (now (s .entry)) at base r (lent (now (coefficients .entry)) (now (powers .entry))) (lent (now (coefficients .exit)) (now (powers .exit))) ⌝ }
+    ensures { λ r. ⌜ NumbersRead n ((Numbers.valueElement (now (w .entry)) n (ruleOf rule)) .run) (now (s .entry)) at base r (lent (now (coefficients .entry)) (now (powers .entry)))
+        (lent (now (coefficients .exit)) (now (powers .exit))) ⌝ }
 {
     let r = stored_value(s, at, w, n, rule, coefficients, powers, base);
     clear_at_fault(r, coefficients, powers, base);

@@ -142,7 +142,18 @@ start-short k i o t =
     let e : List ℕ = styleText k ++ (bytes ">\n" ++ t) in
     let d : List ℕ = depthText o ++ (bytes "\"" ++ e) in
     let c : List ℕ = depthText i ++ (bytes "\" outBitDepth=\"" ++ d) in
-    omega (arith, length-append (styleText k) (bytes ">\n" ++ t), length-append (depthText o) (bytes "\"" ++ e), length-append (depthText i) (bytes "\" outBitDepth=\"" ++ d), length-append (nameText k) (bytes " inBitDepth=\"" ++ c), name-short k, style-short k, depth-short i, depth-short o)
+    omega (
+      arith,
+      length-append (styleText k) (bytes ">\n" ++ t),
+      length-append (depthText o) (bytes "\"" ++ e),
+      length-append (depthText i) (bytes "\" outBitDepth=\"" ++ d),
+      length-append
+          (nameText k) (bytes " inBitDepth=\"" ++ c),
+      name-short k,
+      style-short k,
+      depth-short i,
+      depth-short o,
+    )
 
 end-short : (k : Kind) (t : List ℕ) → length (endText k t) ≤ 20 + length t
 unfolding endText

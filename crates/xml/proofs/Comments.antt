@@ -27,7 +27,8 @@ part-skip : (b : ℕ) (s : List ℕ) → eqb b dash ≡ false → commentPart .r
 unfolding commentPart
 part-skip b s q = rw q (go (spanP to-dash s))
   where
-    go : (o : Out (List ℕ)) → thenOut (thenOut (thenOut o (λ w. retP (b ∷ w))) (λ w. eatP)) (λ x. lookP (λ c. (afterDash c) .run)) ≡ thenOut (thenOut o (λ w. eatP)) (λ x. lookP (λ c. (afterDash c) .run))
+    go : (o : Out (List ℕ))
+        → thenOut (thenOut (thenOut o (λ w. retP (b ∷ w))) (λ w. eatP)) (λ x. lookP (λ c. (afterDash c) .run)) ≡ thenOut (thenOut o (λ w. eatP)) (λ x. lookP (λ c. (afterDash c) .run))
     go (done w r) = refl
     go (fault k r) = refl
     go cut = refl
@@ -60,7 +61,8 @@ module _ (u : Unit {0}) (r : List ℕ) where
     where
       by-second : (t : Bool) → eqb c dash ≡ t → length r < suc (suc (length s))
       by-second true e = ended (suc (suc (length s))) ((byte greaterThan 2) .run s) (sym (dash-dash c s e) ∙ q)
-      by-second false e = let z : _≡_ {A = Out (Turn (Unit {0}) (Unit {0}))} (done (again tt) (c ∷ s)) (done (again u) r) = sym (dash-other c s e) ∙ q in let w : c ∷ s ≡ r = cc in omega (arith, ap length w)
+      by-second false e =
+          let z : _≡_ {A = Out (Turn (Unit {0}) (Unit {0}))} (done (again tt) (c ∷ s)) (done (again u) r) = sym (dash-other c s e) ∙ q in let w : c ∷ s ≡ r = cc in omega (arith, ap length w)
 
   by-dash : (b : ℕ) (s : List ℕ) → commentPart .run (b ∷ s) ≡ done (again u) r → (commentPart .run s ≡ done (again u) r → length r < length s)
       → (t : Bool) → eqb b dash ≡ t → length r < suc (length s)

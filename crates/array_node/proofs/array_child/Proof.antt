@@ -33,7 +33,8 @@ returns-3 c =
     let p = i .before in
     let z = p .before .before in
     λ m₀ st v. rw (c .array-with2 .ensures)
-    (child-text (z .args .table) _ _ _ _ _ (p .part .ensures) (z .pre .0) (z .pre .1) m₀ _ _ st v (i .if1 .left) _ (sym (s .same .ensures) ∙ j .if2 .left) (sym (d .same2 .ensures) ∙ k .if3 .taken) (e .text-element .ensures))
+    (child-text (z .args .table) _ _ _ _ _ (p .part .ensures) (z .pre .0) (z .pre .1) m₀ _ _ st v (i .if1 .left) _ (sym (s .same .ensures) ∙ j .if2 .left) (sym (d .same2 .ensures) ∙ k .if3 .taken)
+    (e .text-element .ensures))
 
 returns-4 : tie.Need-returns-4
 returns-4 c =

@@ -9,19 +9,29 @@ returns c = rw (← c .before .before .same .ensures, c .before .if1 .taken) (c 
 
 returns-2 : tie.Need-returns-2
 unfolding cdlFaultOf
-returns-2 c = rw (← c .before .before .before .before .before .same .ensures, c .before .before .before .before .if1 .left, ← c .before .before .same2 .ensures, c .before .if2 .taken) (c .cdl-late2 .ensures)
+returns-2 c =
+    let t = c .before .before .before .before in
+    rw (← t .before .same .ensures, t .if1 .left, ← c .before .before .same2 .ensures, c .before .if2 .taken) (c .cdl-late2 .ensures)
 
 returns-3 : tie.Need-returns-3
 unfolding cdlFaultOf
-returns-3 c = rw (← c .before .before .before .before .before .before .before .before .same .ensures, c .before .before .before .before .before .before .before .if1 .left, ← c .before .before .before .before .before .same2 .ensures, c .before .before .before .before .if2 .left, ← c .before .before .same3 .ensures, c .before .if3 .taken, c .if4 .taken)
+returns-3 c =
+    let t = c .before .before .before .before in
+    let u = t .before .before .before in
+    rw (← u .before .same .ensures, u .if1 .left, ← t .before .same2 .ensures, t .if2 .left, ← c .before .before .same3 .ensures, c .before .if3 .taken, c .if4 .taken)
 
 returns-4 : tie.Need-returns-4
 unfolding cdlFaultOf
-returns-4 c = rw (← c .before .before .before .before .before .before .before .before .same .ensures, c .before .before .before .before .before .before .before .if1 .left, ← c .before .before .before .before .before .same2 .ensures, c .before .before .before .before .if2 .left, ← c .before .before .same3 .ensures, c .before .if3 .taken, c .if4 .left)
+returns-4 c =
+    let t = c .before .before .before .before in
+    let u = t .before .before .before in
+    rw (← u .before .same .ensures, u .if1 .left, ← t .before .same2 .ensures, t .if2 .left, ← c .before .before .same3 .ensures, c .before .if3 .taken, c .if4 .left)
 
 returns-5 : tie.Need-returns-5
 unfolding cdlFaultOf
-returns-5 c = rw (← c .before .before .before .before .before .before .before .same .ensures, c .before .before .before .before .before .before .if1 .left, ← c .before .before .before .before .same2 .ensures, c .before .before .before .if2 .left, ← c .before .same3 .ensures, c .if3 .left)
+returns-5 c =
+    let t = c .before .before .before in
+    rw (← t .before .before .before .before .same .ensures, t .before .before .before .if1 .left, ← t .before .same2 .ensures, t .if2 .left, ← c .before .same3 .ensures, c .if3 .left)
 
 pub cdl-fault-spec : {M : Type 1} → statement M
 cdl-fault-spec =

@@ -7,13 +7,20 @@ use Rattle.cdl_node.proofs.inner_child.Statement.{statement}
 use Rattle.cdl_node.proofs.inner_child.Tie as tie
 
 returns : tie.Need-returns
-returns c = λ m₀ l v. inner-refused (c .before .before .before .before .args .part) _ _ _ _ (c .before .before .part .ensures) (c .before .before .before .before .pre .0) (c .before .before .before .before .pre .1) _ _ (c .before .inner-fault .ensures) m₀ _ l v _ (c .if1 .taken)
+returns c =
+    let t = c .before .before .before .before in
+    λ m₀ l v. inner-refused (t .args .part) _ _ _ _ (c .before .before .part .ensures) (t .pre .0) (t .pre .1) _ _ (c .before .inner-fault .ensures) m₀ _ l v _ (c .if1 .taken)
 
 add-base : tie.Need-add-base
 add-base c = omega (arith, c .inner-base .ensures, base-nine (c .before .before .before .before .before .before .before .args .part), c .before .before .before .before .before .before .before .pre .2)
 
 returns-2 : tie.Need-returns-2
-returns-2 c = λ m₀ l v. inner-goes (c .before .before .before .before .before .before .before .before .before .before .before .before .args .part) _ _ _ _ (c .before .before .before .before .before .before .before .before .before .before .part .ensures) (c .before .before .before .before .before .before .before .before .before .before .before .before .pre .0) (c .before .before .before .before .before .before .before .before .before .before .before .before .pre .1) _ _ (c .before .before .before .before .before .before .before .before .before .inner-fault .ensures) m₀ _ l v (c .before .before .before .before .before .before .before .before .if1 .left) _ _ _ _ _ (c .before .before .before .before .before .before .before .inner-width .ensures) (c .before .before .before .before .before .before .inner-rule .ensures) (ap (λ (n : ℕ). n + c .before .before .before .before .before .before .before .before .before .before .before .before .args .count) (c .before .before .before .before .before .inner-base .ensures)) (c .before .before .value-element .ensures)
+returns-2 c =
+    let t = c .before .before .before .before .before in
+    let u = t .before .before .before in
+    λ m₀ l v. inner-goes (u .before .before .before .before .args .part) _ _ _ _ (u .before .before .part .ensures) (u .before .before .before .before .pre .0)
+    (u .before .before .before .before .pre .1) _ _ (u .before .inner-fault .ensures) m₀ _ l v (u .if1 .left) _ _ _ _ _ (t .before .before .inner-width .ensures) (t .before .inner-rule .ensures)
+    (ap (λ (n : ℕ). n + u .before .before .before .before .args .count) (t .inner-base .ensures)) (c .before .before .value-element .ensures)
 
 pub inner-child-spec : {M : Type 1} → statement M
 inner-child-spec =

@@ -24,7 +24,8 @@ returns-2 c =
     let read = next .before .before .before .before in
     let content = read .cdl-followed in
     let tag = read .before .before .before .before .start-tag in
-    cdl-node _ _ _ (tag .result) _ _ _ (content .result) _ (tag .ensures) (content .ensures) _ (next .scan .given .1) _ (c .before .cdl-style .ensures ∙ ap (λ (b : Bool). cond b FwdNoClamp Fwd) (c .before .before .style-is .ensures))
+    cdl-node _ _ _ (tag .result) _ _ _ (content .result) _ (tag .ensures) (content .ensures) _ (next .scan .given .1) _
+    (c .before .cdl-style .ensures ∙ ap (λ (b : Bool). cond b FwdNoClamp Fwd) (c .before .before .style-is .ensures))
     (stored .store-all .ensures) (c .finished .ensures)
 
 pub read-cdl-spec : {M : Type 1} → statement M

@@ -19,11 +19,15 @@ returns c = let a = c .before .before .before .args in no-threes (now (a .file))
 returns-2 : tie.Need-returns-2
 returns-2 c =
     let a = c .before .before .before .before .before .before .args in
-    no-number (now (a .file)) (lent (now (a .coefficients)) (now (a .powers))) (now (a .pixels)) (c .before .first-not-finite .result) (c .before .before .before .if1 .left) (c .before .first-not-finite .ensures) (c .if2 .taken)
+    no-number (now (a .file)) (lent (now (a .coefficients)) (now (a .powers))) (now (a .pixels)) (c .before .first-not-finite .result) (c .before .before .before .if1 .left)
+    (c .before .first-not-finite .ensures) (c .if2 .taken)
 
 -- src/lib.rt:81:5
 read-and-run-requires : tie.Need-read-and-run-requires
-read-and-run-requires c κs = slice-passes (now (c .before .before .before .before .before .before .before .before .before .args .pixels)) (c .before .before .before .before .first-not-finite .result) (c .before .before .before .before .before .before .if1 .left) (c .before .before .before .before .first-not-finite .ensures) (c .before .before .before .if2 .left)
+read-and-run-requires c κs =
+    let t = c .before .before .before in
+    let u = t .before .before .before in
+    slice-passes (now (u .before .before .before .args .pixels)) (t .before .first-not-finite .result) (u .if1 .left) (t .before .first-not-finite .ensures) (t .if2 .left)
 
 -- src/lib.rt:59:1
 -- src/lib.rt:59:1

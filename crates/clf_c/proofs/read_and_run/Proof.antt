@@ -17,7 +17,8 @@ use Rattle.running.proofs.run.Reads as run-reads
 returns : tie.Need-returns
 returns c =
     let a = c .before .before .before .before .before .before .before .before .before .before .args in
-    refused (now (a .file)) (lent (now (a .coefficients)) (now (a .powers))) (now (a .pixels)) (c .before .before .before .before .before .before .before .before .before .before .pre) (c .before .before .before .before .before .read .result) _ (c .before .before .before .before .before .read .ensures) (c .before .if1 .taken)
+    refused (now (a .file)) (lent (now (a .coefficients)) (now (a .powers))) (now (a .pixels)) (c .before .before .before .before .before .before .before .before .before .before .pre)
+    (c .before .before .before .before .before .read .result) _ (c .before .before .before .before .before .read .ensures) (c .before .if1 .taken)
 
 -- src/lib.rt:102:9
 -- src/lib.rt:104:17
@@ -28,7 +29,11 @@ returns c =
 returns-2 : tie.Need-returns-2
 returns-2 c =
     let a = c .before .before .before .before .before .before .before .before .before .before .before .before .before .before .before .before .before .args in
-    ran-through (now (a .file)) (lent (now (a .coefficients)) (now (a .powers))) (now (a .pixels)) (c .before .before .before .before .before .before .before .before .before .before .before .before .before .before .before .before .before .pre) (c .before .before .before .before .before .before .before .before .before .before .before .before .read .result) _ (c .before .before .before .before .before .before .before .before .before .before .before .before .read .ensures) (c .before .before .before .run .result) _ (c .before .before .before .run .ensures .0) (c .before .before .before .run .ensures .1) (c .before .before .before .before .before .before .before .before .if1 .left)
+    ran-through (now (a .file)) (lent (now (a .coefficients)) (now (a .powers))) (now (a .pixels))
+    (c .before .before .before .before .before .before .before .before .before .before .before .before .before .before .before .before .before .pre)
+    (c .before .before .before .before .before .before .before .before .before .before .before .before .read .result) _
+    (c .before .before .before .before .before .before .before .before .before .before .before .before .read .ensures) (c .before .before .before .run .result) _
+    (c .before .before .before .run .ensures .0) (c .before .before .before .run .ensures .1) (c .before .before .before .before .before .before .before .before .if1 .left)
 
 pub read-and-run-spec : {M : Type 1} → statement M
 read-and-run-spec =

@@ -33,7 +33,8 @@ returns-3 c =
     let if1 = c .before .if1 in
     let same = c .before .before .same in
     let part = c .before .before .before .before .part in
-    rw (← part .ensures) (none-found _ _ _ (c .no-part2 .ensures) (other-child (c .before .before .before .before .before .before .args .file .now) _ (c .before .before .before .before .before .before .args .e) (sym (same .ensures) ∙ if1 .left)))
+    rw (← part .ensures) (none-found _ _ _ (c .no-part2 .ensures)
+    (other-child (c .before .before .before .before .before .before .args .file .now) _ (c .before .before .before .before .before .before .args .e) (sym (same .ensures) ∙ if1 .left)))
 
 pub child-text-spec : {M : Type 1} → statement M
 child-text-spec =

@@ -24,13 +24,15 @@ returns-3 : tie.Need-returns-3
 returns-3 c =
     let f = c .before .before .failed2 in
     let t = c .before .before .before .before .before .before .before .before in
-    rw (f .ensures .0) (element-fault _ _ _ _ (f .ensures .1) _ 7 _ refl (λ z. omega arith) (rw (c .before .before .before .before .before .enum-told .given .1, t .scan .given .1) at (t .before .before .element-start .ensures)))
+    rw (f .ensures .0) (element-fault _ _ _ _ (f .ensures .1) _ 7 _ refl (λ z. omega arith)
+    (rw (c .before .before .before .before .before .enum-told .given .1, t .scan .given .1) at (t .before .before .element-start .ensures)))
 
 returns-4 : tie.Need-returns-4
 returns-4 c =
     let f = c .before .before .failed3 in
     let t = c .before .before .before .before .before .before .before .before in
-    rw (f .ensures .0) (element-fault _ _ _ _ (f .ensures .1) _ 5 _ refl (λ z. omega arith) (rw (c .before .before .before .before .before .enum-told2 .given .1, t .scan .given .1) at (t .before .before .element-start .ensures)))
+    rw (f .ensures .0) (element-fault _ _ _ _ (f .ensures .1) _ 5 _ refl (λ z. omega arith)
+    (rw (c .before .before .before .before .before .enum-told2 .given .1, t .scan .given .1) at (t .before .before .element-start .ensures)))
 
 pub element-spec : {M : Type 1} → statement M
 element-spec =

@@ -28,7 +28,9 @@ returns-3 : tie.Need-returns-3 Inv-loop μ-loop
 returns-3 c = search (scan, from-here, numberFrom·laws)
 
 loop-again : tie.Need-loop-again Inv-loop μ-loop
-loop-again c = let l = c .before .before .before .before .before in l .loop .inv ∙ digit-more (l .before .before .before .args .word .now) (l .loop .n) (c .with-digit .result) (l .loop .i) (omega arith) (omega arith) (omega arith) (c .with-digit .ensures)
+loop-again c =
+    let l = c .before .before .before .before .before in l .loop .inv
+    ∙ digit-more (l .before .before .before .args .word .now) (l .loop .n) (c .with-digit .result) (l .loop .i) (omega arith) (omega arith) (omega arith) (c .with-digit .ensures)
 
 returns-4 : tie.Need-returns-4 Inv-loop μ-loop
 returns-4 c = search (scan, from-here, numberFrom·laws)

@@ -32,7 +32,8 @@ returns-3 c =
     let if1 = c .before .before .before .before .before .before .before .before .if1 in
     let same = c .before .before .before .before .before .before .before .before .before .same in
     let part = c .before .before .before .before .before .before .before .before .before .before .before .part in
-    rw (← part .ensures, c .output-step .ensures) (child-output _ _ _ _ _ _ _ _ (sym (same .ensures) ∙ if1 .left) (sym (same2 .ensures) ∙ if2 .left) (sym (same3 .ensures) ∙ if3 .taken) (text-element3 .ensures))
+    rw (← part .ensures, c .output-step .ensures)
+    (child-output _ _ _ _ _ _ _ _ (sym (same .ensures) ∙ if1 .left) (sym (same2 .ensures) ∙ if2 .left) (sym (same3 .ensures) ∙ if3 .taken) (text-element3 .ensures))
 
 returns-4 : tie.Need-returns-4
 returns-4 c =
@@ -46,7 +47,8 @@ returns-4 c =
     let if1 = c .before .before .before .before .before .before .before .before .before .before .before .if1 in
     let same = c .before .before .before .before .before .before .before .before .before .before .before .before .same in
     let part = c .before .before .before .before .before .before .before .before .before .before .before .before .before .before .part in
-    rw (← part .ensures, c .info-step .ensures) (child-info _ _ _ _ _ _ _ _ (sym (same .ensures) ∙ if1 .left) (sym (same2 .ensures) ∙ if2 .left) (sym (same3 .ensures) ∙ if3 .left) (sym (same4 .ensures) ∙ if4 .taken) (info .ensures))
+    rw (← part .ensures, c .info-step .ensures)
+    (child-info _ _ _ _ _ _ _ _ (sym (same .ensures) ∙ if1 .left) (sym (same2 .ensures) ∙ if2 .left) (sym (same3 .ensures) ∙ if3 .left) (sym (same4 .ensures) ∙ if4 .taken) (info .ensures))
 
 same-length : tie.Need-same-length
 same-length c = (child-by-node (c .before .before .node-child .ensures)) .coefficients .size
@@ -67,7 +69,8 @@ returns-5 c =
     let if1 = c .before .before .before .before .before .before .before .before .before .before .before .before .before .before .before .if1 in
     let same = c .before .before .before .before .before .before .before .before .before .before .before .before .before .before .before .before .same in
     let part = c .before .before .before .before .before .before .before .before .before .before .before .before .before .before .before .before .before .before .part in
-    rw (← part .ensures) (child-node _ _ _ _ _ _ _ _ _ _ (sym (same .ensures) ∙ if1 .left) (sym (same2 .ensures) ∙ if2 .left) (sym (same3 .ensures) ∙ if3 .left) (sym (same4 .ensures) ∙ if4 .left) (node-name .ensures) (node-child .ensures))
+    rw (← part .ensures) (child-node _ _ _ _ _ _ _ _ _ _ (sym (same .ensures) ∙ if1 .left) (sym (same2 .ensures) ∙ if2 .left) (sym (same3 .ensures) ∙ if3 .left) (sym (same4 .ensures) ∙ if4 .left)
+    (node-name .ensures) (node-child .ensures))
 
 pub list-child-spec : {M : Type 1} → statement M
 list-child-spec =

@@ -3,7 +3,8 @@ use lib.ListN.{length}
 use Rattle.xml.specs.Elements.{infoContent, infoElement}
 use Rattle.xml.proofs.Answers.{failed}
 use Rattle.info.proofs.Behind.{rest-open, rest-empty, rest-fault, rest-cut}
-use Rattle.info.proofs.Contents.{ContentInv, content-start, content-ended, content-passed, content-forward, content-passed-failed, content-end, content-child, content-child-failed, element-unnamed, element-deep, element-rest}
+use Rattle.info.proofs.Contents.{ContentInv, content-start, content-ended, content-passed, content-forward, content-passed-failed, content-end, content-child}
+use Rattle.info.proofs.Contents.{content-child-failed, element-unnamed, element-deep, element-rest}
 use borrow.Author.Needs.{needs}
 use Prim.Native.Nat.{ℕ, _+_, _-_, _*_, _<_}
 use borrow.Fn.Kinds.{In}
@@ -94,7 +95,9 @@ content-returns : (t : ℕ) → content-lts.Need-returns (
   element-below t,
   element.Post,
 ) (content-at t) content.Post content-Inv-loop content-μ-loop
-content-returns t c = content-passed-failed (c .before .before .before .before .before .before .loop .inv) _ (failed (c .before .before .p .given .0 .0) (c .match2 .keys2)) (rw (c .before .before .p .given .1) at (c .before .before .before .before .piece-at .ensures))
+content-returns t c =
+    let t = c .before .before .before .before in
+    content-passed-failed (t .before .before .loop .inv) _ (failed (c .before .before .p .given .0 .0) (c .match2 .keys2)) (rw (c .before .before .p .given .1) at (t .piece-at .ensures))
 
 content-loop-less : (t : ℕ) → content-lts.Need-loop-less (
   piece-at-reads.Asked,
@@ -104,7 +107,9 @@ content-loop-less : (t : ℕ) → content-lts.Need-loop-less (
   element-below t,
   element.Post,
 ) (content-at t) content.Post content-Inv-loop content-μ-loop
-content-loop-less t c = omega (arith, content-forward (c .before .before .before .before .before .before .before .before .loop .inv) _ (rw (c .before .r .given .1) at (rw (c .before .before .before .before .p .given .1) at (c .before .before .before .before .before .before .piece-at .ensures))))
+content-loop-less t c =
+    let t = c .before .before .before .before in
+    omega (arith, content-forward (t .before .before .before .before .loop .inv) _ (rw (c .before .r .given .1) at (rw (t .p .given .1) at (t .before .before .piece-at .ensures))))
 
 content-loop-again : (t : ℕ) → content-lts.Need-loop-again (
   piece-at-reads.Asked,
@@ -114,7 +119,9 @@ content-loop-again : (t : ℕ) → content-lts.Need-loop-again (
   element-below t,
   element.Post,
 ) (content-at t) content.Post content-Inv-loop content-μ-loop
-content-loop-again t c = content-passed (c .before .before .before .before .before .before .before .before .loop .inv) _ (rw (c .before .r .given .1) at (rw (c .before .before .before .before .p .given .1) at (c .before .before .before .before .before .before .piece-at .ensures)))
+content-loop-again t c =
+    let t = c .before .before .before .before in
+    content-passed (t .before .before .before .before .loop .inv) _ (rw (c .before .r .given .1) at (rw (t .p .given .1) at (t .before .before .piece-at .ensures)))
 
 content-enum-told : (t : ℕ) → content-lts.Need-enum-told (
   piece-at-reads.Asked,
@@ -144,7 +151,9 @@ content-returns-2 : (t : ℕ) → content-lts.Need-returns-2 (
   element-below t,
   element.Post,
 ) (content-at t) content.Post content-Inv-loop content-μ-loop
-content-returns-2 t c = content-end (c .before .before .before .before .before .loop .inv) _ (rw (c .before .enum-told .given .1) at (c .before .before .before .piece-at .ensures)) (c .end-tag .ensures)
+content-returns-2 t c =
+    let t = c .before .before .before in
+    content-end (t .before .before .loop .inv) _ (rw (c .before .enum-told .given .1) at (t .piece-at .ensures)) (c .end-tag .ensures)
 
 content-enum-told-2 : (t : ℕ) → content-lts.Need-enum-told-2 (
   piece-at-reads.Asked,
@@ -184,7 +193,10 @@ content-returns-3 : (t : ℕ) → content-lts.Need-returns-3 (
   element-below t,
   element.Post,
 ) (content-at t) content.Post content-Inv-loop content-μ-loop
-content-returns-3 t c = content-child-failed (c .before .before .before .before .before .before .loop .inv) _ (rw (c .before .before .enum-told2 .given .1) at (c .before .before .before .before .piece-at .ensures)) (c .before .element .ensures) (failed (c .before .element .result) (c .match3 .keys2))
+content-returns-3 t c =
+    let t = c .before .before .before .before in
+    content-child-failed (t .before .before .loop .inv) _ (rw (c .before .before .enum-told2 .given .1) at (t .piece-at .ensures)) (c .before .element .ensures)
+    (failed (c .before .element .result) (c .match3 .keys2))
 
 content-loop-less-2 : (t : ℕ) → content-lts.Need-loop-less-2 (
   piece-at-reads.Asked,
@@ -204,7 +216,10 @@ content-loop-again-2 : (t : ℕ) → content-lts.Need-loop-again-2 (
   element-below t,
   element.Post,
 ) (content-at t) content.Post content-Inv-loop content-μ-loop
-content-loop-again-2 t c = content-child (c .before .before .before .before .before .before .before .before .loop .inv) _ (rw (c .before .before .before .before .enum-told2 .given .1) at (c .before .before .before .before .before .before .piece-at .ensures)) (rw (c .before .r2 .given .1) at (c .before .before .before .element .ensures))
+content-loop-again-2 t c =
+    let t = c .before .before .before in
+    let u = t .before .before .before in
+    content-child (u .before .before .loop .inv) _ (rw (t .before .enum-told2 .given .1) at (u .piece-at .ensures)) (rw (c .before .r2 .given .1) at (t .element .ensures))
 
 content-returns-4 : (t : ℕ) → content-lts.Need-returns-4 (
   piece-at-reads.Asked,
@@ -298,7 +313,9 @@ element-add-part : (t : ℕ) → element-lts.Need-add-part (
   content-below t,
   content.Post,
 ) (element-at t) element.Post
-element-add-part t c = omega (arith, (rw (c .before .before .before .before .before .before .r .given .1) at (c .before .before .before .before .before .before .before .before .open-name .ensures)) .inside)
+element-add-part t c =
+    let t = c .before .before .before .before .before .before in
+    omega (arith, (rw (t .r .given .1) at (t .before .before .open-name .ensures)) .inside)
 
 element-part-requires : (t : ℕ) → element-lts.Need-part-requires (
   open-name-reads.Asked,
@@ -334,7 +351,17 @@ element-content-requires : (t : ℕ) → element-lts.Need-content-requires (
   content-below t,
   content.Post,
 ) (element-at t) element.Post
-element-content-requires t c κs = (omega (arith, (rw (c .before .before .before .before .before .before .before .r .given .1) at (c .before .before .before .before .before .before .before .before .before .open-name .ensures)) .inside, rw (c .before .before .end .given .1) at (c .before .before .before .before .plain-tag .ensures .inside), c .before .before .before .before .before .before .before .before .before .before .before .pre), tt)
+element-content-requires t c κs =
+    let t = c .before .before .before .before in
+    let u = t .before .before .before in (
+      omega (
+        arith,
+        (rw (u .r .given .1) at (u .before .before .open-name .ensures)) .inside,
+        rw (c .before .before .end .given .1) at (t .plain-tag .ensures .inside),
+        u .before .before .before .before .pre,
+      ),
+      tt,
+    )
 
 element-enum-known-end-2 : (t : ℕ) → element-lts.Need-enum-known-end-2 (
   open-name-reads.Asked,
@@ -382,7 +409,13 @@ element-returns-3 : (t : ℕ) → element-lts.Need-returns-3 (
   content-below t,
   content.Post,
 ) (element-at t) element.Post
-element-returns-3 t c = element-rest _ _ _ _ (rw (c .before .before .before .before .before .before .before .before .r .given .1) at (c .before .before .before .before .before .before .before .before .before .before .open-name .ensures)) _ (c .before .before .before .before .before .before .if1 .left) (rest-open (infoContent (infoElement (c .before .before .before .before .before .before .before .before .before .before .before .before .args .left - 1)) _) _ _ (c .before .before .before .before .before .plain-tag .result) (c .before .before .before .before .before .plain-tag .ensures) _ _ (c .before .before .before .end .given .1) (rw (c .before .part .ensures) at (c .content .ensures)))
+element-returns-3 t c =
+    let t = c .before .before .before in
+    let u = t .before .before .before in
+    let v = u .before .before .before .before in
+    element-rest _ _ _ _ (rw (u .before .before .r .given .1) at (v .open-name .ensures)) _ (u .if1 .left)
+    (rest-open (infoContent (infoElement (v .before .before .args .left - 1)) _) _ _ (t .before .before .plain-tag .result) (t .before .before .plain-tag .ensures) _ _ (t .end .given .1)
+    (rw (c .before .part .ensures) at (c .content .ensures)))
 
 element-returns-4 : (t : ℕ) → element-lts.Need-returns-4 (
   open-name-reads.Asked,
@@ -394,7 +427,11 @@ element-returns-4 : (t : ℕ) → element-lts.Need-returns-4 (
   content-below t,
   content.Post,
 ) (element-at t) element.Post
-element-returns-4 t c = element-rest _ _ _ _ (rw (c .before .before .before .before .before .before .r .given .1) at (c .before .before .before .before .before .before .before .before .open-name .ensures)) _ (c .before .before .before .before .if1 .left) (rest-empty (infoContent (infoElement (c .before .before .before .before .before .before .before .before .before .before .args .left - 1)) _) _ _ (c .before .before .before .plain-tag .result) (c .before .before .before .plain-tag .ensures) _ (c .before .end2 .given .1))
+element-returns-4 t c =
+    let t = c .before .before .before in
+    let u = t .before .before .before in
+    element-rest _ _ _ _ (rw (u .r .given .1) at (u .before .before .open-name .ensures)) _ (t .before .if1 .left)
+    (rest-empty (infoContent (infoElement (u .before .before .before .before .args .left - 1)) _) _ _ (t .plain-tag .result) (t .plain-tag .ensures) _ (c .before .end2 .given .1))
 
 element-returns-5 : (t : ℕ) → element-lts.Need-returns-5 (
   open-name-reads.Asked,
@@ -406,7 +443,11 @@ element-returns-5 : (t : ℕ) → element-lts.Need-returns-5 (
   content-below t,
   content.Post,
 ) (element-at t) element.Post
-element-returns-5 t c = element-rest _ _ _ _ (rw (c .before .before .before .before .before .before .r .given .1) at (c .before .before .before .before .before .before .before .before .open-name .ensures)) _ (c .before .before .before .before .if1 .left) (rest-fault (infoContent (infoElement (c .before .before .before .before .before .before .before .before .before .before .args .left - 1)) _) _ _ (c .before .before .before .plain-tag .result) (c .before .before .before .plain-tag .ensures) _ _ (c .before .end3 .given .1))
+element-returns-5 t c =
+    let t = c .before .before .before in
+    let u = t .before .before .before in
+    element-rest _ _ _ _ (rw (u .r .given .1) at (u .before .before .open-name .ensures)) _ (t .before .if1 .left)
+    (rest-fault (infoContent (infoElement (u .before .before .before .before .args .left - 1)) _) _ _ (t .plain-tag .result) (t .plain-tag .ensures) _ _ (c .before .end3 .given .1))
 
 element-returns-6 : (t : ℕ) → element-lts.Need-returns-6 (
   open-name-reads.Asked,
@@ -418,7 +459,11 @@ element-returns-6 : (t : ℕ) → element-lts.Need-returns-6 (
   content-below t,
   content.Post,
 ) (element-at t) element.Post
-element-returns-6 t c = element-rest _ _ _ _ (rw (c .before .before .before .before .before .r .given .1) at (c .before .before .before .before .before .before .before .open-name .ensures)) _ (c .before .before .before .if1 .left) (rest-cut (infoContent (infoElement (c .before .before .before .before .before .before .before .before .before .args .left - 1)) _) _ _ (c .before .before .plain-tag .result) (c .before .before .plain-tag .ensures) (c .enum-told .given .1))
+element-returns-6 t c =
+    let t = c .before .before .before in
+    let u = t .before .before .before .before in
+    element-rest _ _ _ _ (rw (t .before .before .r .given .1) at (u .open-name .ensures)) _ (t .if1 .left)
+    (rest-cut (infoContent (infoElement (u .before .before .args .left - 1)) _) _ _ (c .before .before .plain-tag .result) (c .before .before .plain-tag .ensures) (c .enum-told .given .1))
 
 pub +content+element-spec : {M : Type 1} → statement M
 +content+element-spec = close μ-content μ-element (λ t. content-lts.spec (

@@ -14,7 +14,9 @@ returns-3 : tie.Need-returns-3
 returns-3 c = piece-cut _ _ (omega arith) (c .before .if2 .left) (c .if3 .taken)
 
 returns-4 : tie.Need-returns-4
-returns-4 c = piece-end (c .before .before .before .before .before .before .before .args .s .now) (c .before .before .before .before .before .before .before .args .at) (omega arith) (c .before .before .before .if2 .left) (omega arith) (c .if4 .taken)
+returns-4 c =
+    let t = c .before .before .before in
+    piece-end (t .before .before .before .before .args .s .now) (t .before .before .before .before .args .at) (omega arith) (t .if2 .left) (omega arith) (c .if4 .taken)
 
 returns-5 : tie.Need-returns-5
 returns-5 c = piece-comment _ _ (omega arith) (c .before .before .before .before .before .if2 .left) (omega arith) (c .before .before .if4 .left) _ (c .before .if5 .taken) (c .comment .ensures)
@@ -23,7 +25,10 @@ returns-6 : tie.Need-returns-6
 returns-6 c = piece-question _ _ (omega arith) (c .before .before .before .before .before .if2 .left) (omega arith) (c .before .before .if4 .left) (c .before .if5 .left) (c .if6 .taken)
 
 returns-7 : tie.Need-returns-7
-returns-7 c = piece-child (c .before .before .before .before .before .before .before .before .before .args .s .now) (c .before .before .before .before .before .before .before .before .before .args .at) (omega arith) (c .before .before .before .before .before .if2 .left) (omega arith) (c .before .before .if4 .left) (c .before .if5 .left) (c .if6 .left)
+returns-7 c =
+    let t = c .before .before .before .before .before in
+    let u = t .before .before .before .before in
+    piece-child (u .args .s .now) (u .args .at) (omega arith) (t .if2 .left) (omega arith) (c .before .before .if4 .left) (c .before .if5 .left) (c .if6 .left)
 
 pub piece-at-spec : {M : Type 1} → statement M
 piece-at-spec =

@@ -6,7 +6,9 @@ use Rattle.info.proofs.text_element.Statement.{statement}
 use Rattle.info.proofs.text_element.Tie as tie
 
 returns : tie.Need-returns
-returns c = text-rest _ _ _ _ (rest-open (textContent _) _ _ (c .before .before .before .before .plain-tag .result) (c .before .before .before .before .plain-tag .ensures) _ _ (c .before .before .end .given .1) (c .text-content .ensures))
+returns c =
+    let t = c .before .before .before .before in
+    text-rest _ _ _ _ (rest-open (textContent _) _ _ (t .plain-tag .result) (t .plain-tag .ensures) _ _ (c .before .before .end .given .1) (c .text-content .ensures))
 
 returns-2 : tie.Need-returns-2
 returns-2 c = text-rest _ _ _ _ (rest-empty (textContent _) _ _ (c .before .before .before .plain-tag .result) (c .before .before .before .plain-tag .ensures) _ (c .before .end2 .given .1))

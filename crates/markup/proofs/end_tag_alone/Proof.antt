@@ -23,10 +23,14 @@ part-same-end : tie.Need-part-same-end
 part-same-end c = omega (arith, (rw (c .before .r .given .1) at (c .before .before .before .close-name .ensures)) .inside)
 
 returns-2 : tie.Need-returns-2
-returns-2 c = end-same _ _ _ _ (rw (c .before .before .before .before .before .r .given .1) at (c .before .before .before .before .before .before .before .close-name .ensures)) _ (sym (c .before .before .same .ensures) ∙ c .before .if1 .taken) (c .spaces-byte .ensures)
+returns-2 c =
+    let t = c .before .before .before .before .before in
+    end-same _ _ _ _ (rw (t .r .given .1) at (t .before .before .close-name .ensures)) _ (sym (c .before .before .same .ensures) ∙ c .before .if1 .taken) (c .spaces-byte .ensures)
 
 returns-3 : tie.Need-returns-3
-returns-3 c = end-other _ _ _ _ (rw (c .before .before .before .before .r .given .1) at (c .before .before .before .before .before .before .close-name .ensures)) (sym (c .before .same .ensures) ∙ c .if1 .left)
+returns-3 c =
+    let t = c .before .before .before .before in
+    end-other _ _ _ _ (rw (t .r .given .1) at (t .before .before .close-name .ensures)) (sym (c .before .same .ensures) ∙ c .if1 .left)
 
 pub end-tag-alone-spec : {M : Type 1} → statement M
 end-tag-alone-spec =

@@ -12,7 +12,8 @@ returns-2 : tie.Need-returns-2
 returns-2 c = stranger-question _ _ (omega arith) _ (c .before .if1 .left) (c .if2 .taken)
 
 returns-3 : tie.Need-returns-3
-returns-3 c = rw (c .refused .ensures) (stranger-element _ _ (omega arith) _ (c .before .before .before .if1 .left) (c .before .open-name .result) (c .before .before .if2 .left) (c .before .open-name .ensures))
+returns-3 c =
+    rw (c .refused .ensures) (stranger-element _ _ (omega arith) _ (c .before .before .before .if1 .left) (c .before .open-name .result) (c .before .before .if2 .left) (c .before .open-name .ensures))
 
 pub forbidden-spec : {M : Type 1} → statement M
 forbidden-spec =

@@ -16,7 +16,11 @@ returns-3 : tie.Need-returns-3
 returns-3 c = markup-item _ _ (omega arith) (sym (c .before .before .before .is-space .ensures) ∙ c .before .before .if2 .left) _ (c .before .if3 .taken) (c .markup-item .ensures)
 
 returns-4 : tie.Need-returns-4
-returns-4 c = rw (c .misc-of .ensures, c .before .settled .ensures) (item-and _ _ (omega arith) (sym (c .before .before .before .before .before .before .is-space .ensures) ∙ c .before .before .before .before .before .if2 .left) (c .before .before .before .before .if3 .left) (c .before .before .entity .result) (c .before .before .before .if4 .taken) (c .before .before .entity .ensures))
+returns-4 c =
+    let t = c .before .before .before in
+    rw (c .misc-of .ensures, c .before .settled .ensures)
+    (item-and _ _ (omega arith) (sym (t .before .before .before .is-space .ensures) ∙ t .before .before .if2 .left) (t .before .if3 .left) (c .before .before .entity .result) (t .if4 .taken)
+    (c .before .before .entity .ensures))
 
 returns-5 : tie.Need-returns-5
 returns-5 c = item-bare _ _ (omega arith) (sym (c .before .before .before .is-space .ensures) ∙ c .before .before .if2 .left) (c .before .if3 .left) (c .if4 .left)

@@ -20,7 +20,9 @@ loop-less : tie.Need-loop-less Inv-loop μ-loop
 loop-less c = omega arith
 
 loop-again : tie.Need-loop-again Inv-loop μ-loop
-loop-again c = store-more _ _ _ _ _ _ _ _ (c .before .before .before .before .before .before .before .loop .inv) (omega arith) (c .before .before .before .before .before .number-at .ensures) (c .before .before .store .ensures)
+loop-again c =
+    let t = c .before .before .before .before .before in
+    store-more _ _ _ _ _ _ _ _ (t .before .before .loop .inv) (omega arith) (t .number-at .ensures) (c .before .before .store .ensures)
 
 same-length : tie.Need-same-length Inv-loop μ-loop
 same-length c = laid-from _ _ _ _ (c .before .loop .inv .room) .coefficients .size

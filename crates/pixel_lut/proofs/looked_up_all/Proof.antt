@@ -23,7 +23,8 @@ returns : tie.Need-returns
 unfolding lookedUpAll
 returns c =
     let k = c .before .before .before in
-    rw (← (k .before .before .column-of .ensures), ← (k .before .column-of2 .ensures), ← (k .column-of3 .ensures)) (simp (c .before .before .looked-up .ensures, c .before .looked-up2 .ensures, c .looked-up3 .ensures))
+    rw (← (k .before .before .column-of .ensures), ← (k .before .column-of2 .ensures), ← (k .column-of3 .ensures))
+    (simp (c .before .before .looked-up .ensures, c .before .looked-up2 .ensures, c .looked-up3 .ensures))
 
 pub looked-up-all-spec : {M : Type 1} → statement M
 looked-up-all-spec =

@@ -35,7 +35,8 @@ returns c =
     let s = c .before .before .before in
     let a = s .args in
     c .value .ensures
-    ∙ ap valueOf (same (getD (now (a .coefficients)) (a .k) (pos 0)) (getD (now (a .powers)) (a .k) (pos 0)) (record { sfits = c .before .before .t6 .given }) (record { sfits = c .before .t8 .given }))
+    ∙ ap valueOf (same (getD (now (a .coefficients)) (a .k) (pos 0)) (getD (now (a .powers)) (a .k) (pos 0)) (record { sfits = c .before .before .t6 .given })
+    (record { sfits = c .before .t8 .given }))
     ∙ sym (number-inside (lent (now (a .coefficients)) (now (a .powers))) (a .k) (s .pre))
 
 pub number-inside-spec : {M : Type 1} → statement M

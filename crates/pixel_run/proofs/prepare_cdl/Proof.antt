@@ -6,7 +6,21 @@ use Rattle.pixel_run.proofs.prepare_cdl.Tie as tie
 
 returns : tie.Need-returns
 unfolding cdlFrom
-returns c = simp (c .before .before .before .before .before .before .before .before .before .number-from .ensures, c .before .before .before .before .before .before .before .before .number-from2 .ensures, c .before .before .before .before .before .before .before .number-from3 .ensures, c .before .before .before .before .before .before .number-from4 .ensures, c .before .before .before .before .before .number-from5 .ensures, c .before .before .before .before .number-from6 .ensures, c .before .before .before .number-from7 .ensures, c .before .before .number-from8 .ensures, c .before .number-from9 .ensures, c .number-from10 .ensures)
+returns c =
+    let t = c .before .before .before in
+    let u = t .before .before .before in
+    simp (
+      u .before .before .before .number-from .ensures,
+      u .before .before .number-from2 .ensures,
+      u .before .number-from3 .ensures,
+      u .number-from4 .ensures,
+      t .before .before .number-from5 .ensures,
+      t .before .number-from6 .ensures,
+      t .number-from7 .ensures,
+      c .before .before .number-from8 .ensures,
+      c .before .number-from9 .ensures,
+      c .number-from10 .ensures,
+    )
 
 pub prepare-cdl-spec : {M : Type 1} → statement M
 prepare-cdl-spec =

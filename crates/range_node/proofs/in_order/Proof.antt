@@ -5,7 +5,16 @@ use Rattle.range_node.proofs.in_order.Tie as tie
 
 returns : tie.Need-returns
 unfolding orderedIn
-returns c = rw (← c .before .before .before .before .before .before .number-at .ensures, ← c .before .before .before .before .before .number-at2 .ensures, ← c .before .before .before .before .number-at3 .ensures, ← c .before .before .before .number-at4 .ensures, ← c .before .before .less .ensures, c .before .if1 .taken) (c .at-most .ensures)
+returns c =
+    let t = c .before .before .before in
+    rw (
+      ← t .before .before .before .number-at .ensures,
+      ← t .before .before .number-at2 .ensures,
+      ← t .before .number-at3 .ensures,
+      ← t .number-at4 .ensures,
+      ← c .before .before .less .ensures,
+      c .before .if1 .taken,
+    ) (c .at-most .ensures)
 
 returns-2 : tie.Need-returns-2
 unfolding orderedIn

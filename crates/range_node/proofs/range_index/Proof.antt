@@ -13,15 +13,26 @@ returns-2 c = rw (← c .before .before .before .before .same .ensures, c .befor
 
 returns-3 : tie.Need-returns-3
 unfolding rangeIndex
-returns-3 c = rw (← c .before .before .before .before .before .before .before .same .ensures, c .before .before .before .before .before .before .if1 .left, ← c .before .before .before .before .same2 .ensures, c .before .before .before .if2 .left, ← c .before .same3 .ensures, c .if3 .taken)
+returns-3 c =
+    let t = c .before .before .before in
+    let u = t .before .before .before in
+    rw (← u .before .same .ensures, u .if1 .left, ← t .before .same2 .ensures, t .if2 .left, ← c .before .same3 .ensures, c .if3 .taken)
 
 returns-4 : tie.Need-returns-4
 unfolding rangeIndex
-returns-4 c = rw (← c .before .before .before .before .before .before .before .before .before .before .same .ensures, c .before .before .before .before .before .before .before .before .before .if1 .left, ← c .before .before .before .before .before .before .before .same2 .ensures, c .before .before .before .before .before .before .if2 .left, ← c .before .before .before .before .same3 .ensures, c .before .before .before .if3 .left, ← c .before .same4 .ensures, c .if4 .taken)
+returns-4 c =
+    let t = c .before .before .before in
+    let u = t .before .before .before in
+    let v = u .before .before .before in
+    rw (← v .before .same .ensures, v .if1 .left, ← u .before .same2 .ensures, u .if2 .left, ← t .before .same3 .ensures, t .if3 .left, ← c .before .same4 .ensures, c .if4 .taken)
 
 returns-5 : tie.Need-returns-5
 unfolding rangeIndex
-returns-5 c = rw (← c .before .before .before .before .before .before .before .before .before .before .same .ensures, c .before .before .before .before .before .before .before .before .before .if1 .left, ← c .before .before .before .before .before .before .before .same2 .ensures, c .before .before .before .before .before .before .if2 .left, ← c .before .before .before .before .same3 .ensures, c .before .before .before .if3 .left, ← c .before .same4 .ensures, c .if4 .left)
+returns-5 c =
+    let t = c .before .before .before in
+    let u = t .before .before .before in
+    let v = u .before .before .before in
+    rw (← v .before .same .ensures, v .if1 .left, ← u .before .same2 .ensures, u .if2 .left, ← t .before .same3 .ensures, t .if3 .left, ← c .before .same4 .ensures, c .if4 .left)
 
 pub range-index-spec : {M : Type 1} → statement M
 range-index-spec =

@@ -9,7 +9,8 @@ use Rattle.reading.proofs.description.Tie as tie
 returns : tie.Need-returns
 returns c =
     let description-part = c .before .before .description-part in
-    part-is _ _ _ _ (description-part .ensures) refl (omega arith) (let e : (description-part .result .start + description-part .result .length) - description-part .result .start ≡ description-part .result .length = omega arith in rw e)
+    part-is _ _ _ _ (description-part .ensures) refl (omega arith)
+    (let e : (description-part .result .start + description-part .result .length) - description-part .result .start ≡ description-part .result .length = omega arith in rw e)
 
 pub description-spec : {M : Type 1} → statement M
 description-spec =

@@ -4,10 +4,19 @@ use Rattle.replacing.proofs.replace_node.Statement.{statement}
 use Rattle.replacing.proofs.replace_node.Tie as tie
 
 returns : tie.Need-returns
-returns c = rw (c .refused .ensures) (code-refused _ _ _ _ _ (c .before .before .before .before .before .before .before .before .before .before .pre) _ (c .before .before .before .before .before .before .before .before .replaced .ensures) _ (c .before .before .before .before .before .length .ensures) (c .before .before .before .before .judge .result) (c .before .before .before .before .judge .ensures) _ (c .before .before .before .refusal .ensures) (c .before .before .if1 .taken) _ (c .before .place .ensures))
+returns c =
+    let t = c .before .before .before in
+    let u = t .before .before .before .before .before in
+    rw (c .refused .ensures) (code-refused _ _ _ _ _ (u .before .before .pre) _ (u .replaced .ensures) _ (t .before .before .length .ensures) (t .before .judge .result) (t .before .judge .ensures) _
+    (t .refusal .ensures) (c .before .before .if1 .taken) _ (c .before .place .ensures))
 
 returns-2 : tie.Need-returns-2
-returns-2 c = code-replaced _ _ _ _ _ (c .before .before .before .before .before .before .before .before .before .before .before .before .before .before .pre) _ (c .before .before .before .before .before .before .before .before .before .before .before .before .replaced .ensures) _ (c .before .before .before .before .before .before .before .before .before .length .ensures) (c .before .before .before .before .before .before .before .before .judge .result) (c .before .before .before .before .before .before .before .before .judge .ensures) _ (c .before .before .before .before .before .before .before .refusal .ensures) (c .before .before .before .before .before .before .if1 .left) _ (c .before .before .before .store-element .ensures) _ (c .placed .ensures)
+returns-2 c =
+    let t = c .before .before .before in
+    let u = t .before .before .before in
+    let v = u .before .before .before in
+    code-replaced _ _ _ _ _ (v .before .before .before .before .before .pre) _ (v .before .before .before .replaced .ensures) _ (v .length .ensures) (u .before .before .judge .result)
+    (u .before .before .judge .ensures) _ (u .before .refusal .ensures) (u .if1 .left) _ (t .store-element .ensures) _ (c .placed .ensures)
 
 pub replace-node-spec : {M : Type 1} → statement M
 replace-node-spec =

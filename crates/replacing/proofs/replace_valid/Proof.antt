@@ -5,10 +5,15 @@ use Rattle.replacing.proofs.replace_valid.Statement.{statement}
 use Rattle.replacing.proofs.replace_valid.Tie as tie
 
 replace-node-requires : tie.Need-replace-node-requires
-replace-node-requires c κs = element-well _ _ _ _ (c .before .before .before .before .before .before .before .before .pre) _ (c .before .before .before .before .before .before .element-alone .ensures) (sym (c .before .before .before .before .judge-element .ensures) ∙ c .before .before .enum-told .given .1)
+replace-node-requires c κs =
+    let t = c .before .before .before .before in
+    element-well _ _ _ _ (t .before .before .before .before .pre) _ (t .before .before .element-alone .ensures) (sym (t .judge-element .ensures) ∙ c .before .before .enum-told .given .1)
 
 returns : tie.Need-returns
-returns c = rw (c .refused .ensures) (element-refused _ _ _ _ (c .before .before .before .before .before .before .before .before .pre) _ (c .before .before .before .before .before .before .element-alone .ensures) _ _ (sym (c .before .before .before .before .judge-element .ensures) ∙ c .before .before .j .given .1))
+returns c =
+    let t = c .before .before .before .before in
+    rw (c .refused .ensures) (element-refused _ _ _ _ (t .before .before .before .before .pre) _ (t .before .before .element-alone .ensures) _ _
+    (sym (t .judge-element .ensures) ∙ c .before .before .j .given .1))
 
 pub replace-valid-spec : {M : Type 1} → statement M
 replace-valid-spec =

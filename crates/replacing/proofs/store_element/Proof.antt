@@ -4,7 +4,12 @@ use Rattle.replacing.proofs.store_element.Statement.{statement}
 use Rattle.replacing.proofs.store_element.Tie as tie
 
 returns : tie.Need-returns
-returns c = stores _ _ _ _ _ _ _ (c .before .before .before .before .before .before .before .before .before .before .before .before .before .get .result) _ _ _ (c .before .before .before .before .before .before .before .before .before .before .before .before .before .get .ensures) (c .before .before .before .before .before .before .before .before .before .before .before .before .numbers-of .ensures) (c .before .before .before .before .before .before .before .before .before .before .before .numbers-of2 .ensures) (c .before .before .before .before .before .before .before .before .before .before .used .ensures) (c .before .before .before .before .before .before .before .resize .ensures) _ (c .before .before .element .ensures)
+returns c =
+    let t = c .before .before .before .before .before .before .before in
+    let u = t .before .before .before in
+    let v = u .before .before .before in
+    stores _ _ _ _ _ _ _ (v .get .result) _ _ _ (v .get .ensures) (u .before .before .numbers-of .ensures) (u .before .numbers-of2 .ensures) (u .used .ensures) (t .resize .ensures) _
+    (c .before .before .element .ensures)
 
 pub store-element-spec : {M : Type 1} → statement M
 store-element-spec =

@@ -5,7 +5,9 @@ use Rattle.tags.proofs.attribute.Statement.{statement}
 use Rattle.tags.proofs.attribute.Tie as tie
 
 attribute-named-requires : tie.Need-attribute-named-requires
-attribute-named-requires c κs = (omega (arith, (rw (c .before .r .given .1) at (c .before .before .before .name .ensures)) .inside), (rw (c .before .r .given .1) at (c .before .before .before .name .ensures)) .inside .1)
+attribute-named-requires c κs =
+    let t = c .before .before .before in
+    (omega (arith, (rw (c .before .r .given .1) at (t .name .ensures)) .inside), (rw (c .before .r .given .1) at (t .name .ensures)) .inside .1)
 
 returns : tie.Need-returns
 returns c = attribute-named _ _ _ _ _ _ (rw (c .before .before .r .given .1) at (c .before .before .before .before .name .ensures)) (c .attribute-named .ensures)

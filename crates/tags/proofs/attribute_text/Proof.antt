@@ -12,19 +12,39 @@ shared-slice-read-text-to : tie.Need-shared-slice-read-text-to
 shared-slice-read-text-to c = omega (arith, c .before .before .pre)
 
 returns : tie.Need-returns
-returns c = text-bad (rulesOf (c .before .before .before .before .before .before .before .before .before .before .args .kind)) (c .before .before .before .before .before .before .before .before .before .before .args .s .now) (c .before .before .before .before .before .before .before .before .before .before .args .at) (c .before .before .before .before .before .before .before .before .before .before .args .e) (c .before .before .before .before .before .before .before .before .before .before .args .q) (c .before .before .before .before .before .before .before .before .before .before .pre) _ (rw (c .before .before .before .before .before .r .given .1) at (c .before .before .before .before .before .before .before .text-to .ensures)) _ (rw (c .before .before .before .part .ensures, c .before .before .part2 .ensures) at (c .before .text-fault .ensures)) (c .if1 .taken)
+returns c =
+    let t = c .before .before .before in
+    let u = t .before .before .before .before in
+    let v = u .before .before .before in
+    text-bad (rulesOf (v .args .kind)) (v .args .s .now) (v .args .at) (v .args .e) (v .args .q) (v .pre) _ (rw (t .before .before .r .given .1) at (u .text-to .ensures)) _
+    (rw (t .part .ensures, c .before .before .part2 .ensures) at (c .before .text-fault .ensures)) (c .if1 .taken)
 
 returns-2 : tie.Need-returns-2
-returns-2 c = text-cut (rulesOf (c .before .before .before .before .before .before .before .before .before .before .before .args .kind)) (c .before .before .before .before .before .before .before .before .before .before .before .args .s .now) (c .before .before .before .before .before .before .before .before .before .before .before .args .at) (c .before .before .before .before .before .before .before .before .before .before .before .args .e) (c .before .before .before .before .before .before .before .before .before .before .before .args .q) (c .before .before .before .before .before .before .before .before .before .before .before .pre) _ (rw (c .before .before .before .before .before .before .r .given .1) at (c .before .before .before .before .before .before .before .before .text-to .ensures)) _ (rw (c .before .before .before .before .part .ensures, c .before .before .before .part2 .ensures) at (c .before .before .text-fault .ensures)) (c .before .if1 .left) (c .if2 .taken)
+returns-2 c =
+    let t = c .before .before .before in
+    let u = t .before .before .before in
+    let v = u .before .before .before .before .before in
+    text-cut (rulesOf (v .args .kind)) (v .args .s .now) (v .args .at) (v .args .e) (v .args .q) (v .pre) _ (rw (u .r .given .1) at (u .before .before .text-to .ensures)) _
+    (rw (t .before .part .ensures, t .part2 .ensures) at (c .before .before .text-fault .ensures)) (c .before .if1 .left) (c .if2 .taken)
 
 returns-3 : tie.Need-returns-3
-returns-3 c = text-done (rulesOf (c .before .before .before .before .before .before .before .before .before .before .before .args .kind)) (c .before .before .before .before .before .before .before .before .before .before .before .args .s .now) (c .before .before .before .before .before .before .before .before .before .before .before .args .at) (c .before .before .before .before .before .before .before .before .before .before .before .args .e) (c .before .before .before .before .before .before .before .before .before .before .before .args .q) (c .before .before .before .before .before .before .before .before .before .before .before .pre) _ (rw (c .before .before .before .before .before .before .r .given .1) at (c .before .before .before .before .before .before .before .before .text-to .ensures)) _ (rw (c .before .before .before .before .part .ensures, c .before .before .before .part2 .ensures) at (c .before .before .text-fault .ensures)) (c .before .if1 .left) (c .if2 .left)
+returns-3 c =
+    let t = c .before .before .before in
+    let u = t .before .before .before in
+    let v = u .before .before .before .before .before in
+    text-done (rulesOf (v .args .kind)) (v .args .s .now) (v .args .at) (v .args .e) (v .args .q) (v .pre) _ (rw (u .r .given .1) at (u .before .before .text-to .ensures)) _
+    (rw (t .before .part .ensures, t .part2 .ensures) at (c .before .before .text-fault .ensures)) (c .before .if1 .left) (c .if2 .left)
 
 returns-4 : tie.Need-returns-4
-returns-4 c = text-fault (rulesOf (c .before .before .before .before .before .before .args .kind)) (c .before .before .before .before .before .before .args .s .now) (c .before .before .before .before .before .before .args .at) (c .before .before .before .before .before .before .args .e) (c .before .before .before .before .before .before .args .q) (c .before .before .before .before .before .before .pre) _ _ (rw (c .before .r2 .given .1) at (c .before .before .before .text-to .ensures))
+returns-4 c =
+    let t = c .before .before .before in
+    let u = t .before .before .before in
+    text-fault (rulesOf (u .args .kind)) (u .args .s .now) (u .args .at) (u .args .e) (u .args .q) (u .pre) _ _ (rw (c .before .r2 .given .1) at (t .text-to .ensures))
 
 returns-5 : tie.Need-returns-5
-returns-5 c = text-ended (rulesOf (c .before .before .before .before .before .args .kind)) (c .before .before .before .before .before .args .s .now) (c .before .before .before .before .before .args .at) (c .before .before .before .before .before .args .e) (c .before .before .before .before .before .args .q) (c .before .before .before .before .before .pre) (rw (c .enum-told .given .1) at (c .before .before .text-to .ensures))
+returns-5 c =
+    let t = c .before .before .before .before .before in
+    text-ended (rulesOf (t .args .kind)) (t .args .s .now) (t .args .at) (t .args .e) (t .args .q) (t .pre) (rw (c .enum-told .given .1) at (c .before .before .text-to .ensures))
 
 pub attribute-text-spec : {M : Type 1} → statement M
 attribute-text-spec =

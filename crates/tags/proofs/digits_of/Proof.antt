@@ -24,7 +24,8 @@ loop-less : tie.Need-loop-less Inv-loop μ-loop
 loop-less c = omega arith
 
 loop-again : tie.Need-loop-again Inv-loop μ-loop
-loop-again c = digits-more _ _ _ (c .before .before .before .before .before .loop .inv) _ (omega arith) (sym (c .before .before .is-digit .ensures) ∙ not-false _ (c .before .if1 .left)) (c .with-digit .ensures)
+loop-again c =
+    digits-more _ _ _ (c .before .before .before .before .before .loop .inv) _ (omega arith) (sym (c .before .before .is-digit .ensures) ∙ not-false _ (c .before .if1 .left)) (c .with-digit .ensures)
 
 returns-2 : tie.Need-returns-2 Inv-loop μ-loop
 returns-2 c = digits-end _ _ _ (c .before .loop .inv) (omega arith)

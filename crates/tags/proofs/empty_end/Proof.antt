@@ -5,16 +5,29 @@ use Rattle.tags.proofs.empty_end.Statement.{statement}
 use Rattle.tags.proofs.empty_end.Tie as tie
 
 returns : tie.Need-returns
-returns c = empty-bad (rulesOf (c .before .before .before .before .before .before .before .before .args .kind)) (c .before .before .before .before .before .before .before .before .args .s .now) (c .before .before .before .before .before .before .before .before .args .attributes) (c .before .before .before .before .before .before .before .before .args .at) (c .before .before .before .before .before .before .before .before .pre) _ (rw (c .before .before .before .r .given .1) at (c .before .before .before .before .before .word .ensures)) _ (c .before .emptied .ensures) (c .if1 .taken)
+returns c =
+    let t = c .before .before .before in
+    let u = t .before .before .before .before .before in
+    empty-bad (rulesOf (u .args .kind)) (u .args .s .now) (u .args .attributes) (u .args .at) (u .pre) _ (rw (t .r .given .1) at (t .before .before .word .ensures)) _ (c .before .emptied .ensures)
+    (c .if1 .taken)
 
 returns-2 : tie.Need-returns-2
-returns-2 c = empty-done (rulesOf (c .before .before .before .before .before .before .before .before .args .kind)) (c .before .before .before .before .before .before .before .before .args .s .now) (c .before .before .before .before .before .before .before .before .args .attributes) (c .before .before .before .before .before .before .before .before .args .at) (c .before .before .before .before .before .before .before .before .pre) _ (rw (c .before .before .before .r .given .1) at (c .before .before .before .before .before .word .ensures)) _ (c .before .emptied .ensures) (c .if1 .left)
+returns-2 c =
+    let t = c .before .before .before in
+    let u = t .before .before .before .before .before in
+    empty-done (rulesOf (u .args .kind)) (u .args .s .now) (u .args .attributes) (u .args .at) (u .pre) _ (rw (t .r .given .1) at (t .before .before .word .ensures)) _ (c .before .emptied .ensures)
+    (c .if1 .left)
 
 returns-3 : tie.Need-returns-3
-returns-3 c = empty-fault (rulesOf (c .before .before .before .before .before .before .args .kind)) (c .before .before .before .before .before .before .args .s .now) (c .before .before .before .before .before .before .args .attributes) (c .before .before .before .before .before .before .args .at) (c .before .before .before .before .before .before .pre) _ _ (rw (c .before .r2 .given .1) at (c .before .before .before .word .ensures))
+returns-3 c =
+    let t = c .before .before .before in
+    let u = t .before .before .before in
+    empty-fault (rulesOf (u .args .kind)) (u .args .s .now) (u .args .attributes) (u .args .at) (u .pre) _ _ (rw (c .before .r2 .given .1) at (t .word .ensures))
 
 returns-4 : tie.Need-returns-4
-returns-4 c = empty-cut (rulesOf (c .before .before .before .before .before .args .kind)) (c .before .before .before .before .before .args .s .now) (c .before .before .before .before .before .args .attributes) (c .before .before .before .before .before .args .at) (c .before .before .before .before .before .pre) (rw (c .enum-told .given .1) at (c .before .before .word .ensures))
+returns-4 c =
+    let t = c .before .before .before .before .before in
+    empty-cut (rulesOf (t .args .kind)) (t .args .s .now) (t .args .attributes) (t .args .at) (t .pre) (rw (c .enum-told .given .1) at (c .before .before .word .ensures))
 
 pub empty-end-spec : {M : Type 1} → statement M
 empty-end-spec =

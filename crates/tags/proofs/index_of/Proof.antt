@@ -16,10 +16,16 @@ loop-holds : tie.Need-loop-holds Inv-loop μ-loop
 loop-holds c = (omega arith, omega arith, none-start (c .before .before .args .s .now) (c .before .before .args .t2) (c .before .before .args .w .now))
 
 returns : tie.Need-returns Inv-loop μ-loop
-returns c = index-none (c .before .before .before .before .before .args .s .now) (c .before .before .before .before .before .args .t2) (c .before .before .before .before .before .args .w .now) (c .before .before .loop .i) (c .before .before .loop .inv .2) (omega arith)
+returns c =
+    let t = c .before .before .before .before .before in
+    index-none (t .args .s .now) (t .args .t2) (t .args .w .now) (c .before .before .loop .i) (c .before .before .loop .inv .2) (omega arith)
 
 returns-2 : tie.Need-returns-2 Inv-loop μ-loop
-returns-2 c = index-found (c .before .before .before .before .before .before .before .before .before .before .args .s .now) (c .before .before .before .before .before .before .before .before .before .before .args .t2) (c .before .before .before .before .before .before .before .before .before .before .args .w .now) (c .before .before .before .before .before .before .before .loop .i) (c .before .before .before .before .before .before .before .loop .inv .2) (omega arith) (omega arith) (rw (c .before .before .part .ensures) at (sym (c .before .same-name .ensures) ∙ c .if2 .taken))
+returns-2 c =
+    let t = c .before .before .before .before .before .before .before in
+    let u = t .before .before .before in
+    index-found (u .args .s .now) (u .args .t2) (u .args .w .now) (t .loop .i) (t .loop .inv .2) (omega arith) (omega arith)
+    (rw (c .before .before .part .ensures) at (sym (c .before .same-name .ensures) ∙ c .if2 .taken))
 
 add-i : tie.Need-add-i Inv-loop μ-loop
 add-i c = omega arith
@@ -28,10 +34,19 @@ loop-less : tie.Need-loop-less Inv-loop μ-loop
 loop-less c = omega arith
 
 loop-again : tie.Need-loop-again Inv-loop μ-loop
-loop-again c = (omega arith, omega arith, none-more (c .before .before .before .before .before .before .before .before .before .before .args .s .now) (c .before .before .before .before .before .before .before .before .before .before .args .t2) (c .before .before .before .before .before .before .before .before .before .before .args .w .now) (c .before .before .before .before .before .before .before .loop .i) (c .before .before .before .before .before .before .before .loop .inv .2) (rw (c .before .before .part .ensures) at (sym (c .before .same-name .ensures) ∙ c .if2 .left)))
+loop-again c =
+    let t = c .before .before .before .before .before .before .before in
+    let u = t .before .before .before in (
+      omega arith,
+      omega arith,
+      none-more (u .args .s .now) (u .args .t2) (u .args .w .now) (t .loop .i) (t .loop .inv .2)
+          (rw (c .before .before .part .ensures) at (sym (c .before .same-name .ensures) ∙ c .if2 .left)),
+    )
 
 returns-3 : tie.Need-returns-3 Inv-loop μ-loop
-returns-3 c = index-none (c .before .before .before .before .args .s .now) (c .before .before .before .before .args .t2) (c .before .before .before .before .args .w .now) (c .before .loop .i) (c .before .loop .inv .2) (omega arith)
+returns-3 c =
+    let t = c .before .before .before .before in
+    index-none (t .args .s .now) (t .args .t2) (t .args .w .now) (c .before .loop .i) (c .before .loop .inv .2) (omega arith)
 
 pub index-of-spec : {M : Type 1} → statement M
 index-of-spec =

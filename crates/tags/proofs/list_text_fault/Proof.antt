@@ -10,7 +10,10 @@ returns-2 : tie.Need-returns-2
 returns-2 c = rw (← c .before .before .same .ensures, c .before .if1 .taken, ne-eqb _ _ (c .if2 .left))
 
 returns-3 : tie.Need-returns-3
-returns-3 c = rw (← c .before .before .before .before .before .before .before .same .ensures, c .before .before .before .before .before .before .if1 .left, ← c .before .before .before .before .same2 .ensures, c .before .before .before .if3 .taken, c .unless .ensures, c .before .same3 .ensures)
+returns-3 c =
+    let t = c .before .before .before in
+    let u = t .before .before .before in
+    rw (← u .before .same .ensures, u .if1 .left, ← t .before .same2 .ensures, t .if3 .taken, c .unless .ensures, c .before .same3 .ensures)
 
 returns-4 : tie.Need-returns-4
 returns-4 c = rw (← c .before .before .before .before .same .ensures, c .before .before .before .if1 .left, ← c .before .same2 .ensures, c .if3 .left)

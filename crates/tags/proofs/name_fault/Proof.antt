@@ -7,10 +7,15 @@ returns : tie.Need-returns
 returns c = rw (← c .before .is-named .ensures, c .if1 .taken)
 
 returns-2 : tie.Need-returns-2
-returns-2 c = rw (← c .before .before .is-named .ensures, c .before .if1 .left, sixteen (c .before .before .before .before .before .args .s .now) (c .before .before .before .before .before .args .attributes) (c .if2 .taken))
+returns-2 c =
+    let t = c .before .before .before .before .before in
+    rw (← c .before .before .is-named .ensures, c .before .if1 .left, sixteen (t .args .s .now) (t .args .attributes) (c .if2 .taken))
 
 returns-3 : tie.Need-returns-3
-returns-3 c = rw (← c .before .before .before .is-named .ensures, c .before .before .if1 .left, fewer (c .before .before .before .before .before .before .args .s .now) (c .before .before .before .before .before .before .args .attributes) (c .before .if2 .left), c .name-rule .ensures)
+returns-3 c =
+    let t = c .before .before .before in
+    let u = t .before .before .before in
+    rw (← t .is-named .ensures, c .before .before .if1 .left, fewer (u .args .s .now) (u .args .attributes) (c .before .if2 .left), c .name-rule .ensures)
 
 pub name-fault-spec : {M : Type 1} → statement M
 name-fault-spec =

@@ -5,10 +5,14 @@ use Rattle.tags.proofs.open_end.Statement.{statement}
 use Rattle.tags.proofs.open_end.Tie as tie
 
 returns : tie.Need-returns
-returns c = open-bad (rulesOf (c .before .before .before .args .kind)) (c .before .before .before .args .s .now) (c .before .before .before .args .attributes) (c .before .before .before .args .at) (c .before .before .before .pre) _ (c .before .opened .ensures) (c .if1 .taken)
+returns c =
+    let t = c .before .before .before in
+    open-bad (rulesOf (t .args .kind)) (t .args .s .now) (t .args .attributes) (t .args .at) (t .pre) _ (c .before .opened .ensures) (c .if1 .taken)
 
 returns-2 : tie.Need-returns-2
-returns-2 c = open-done (rulesOf (c .before .before .before .args .kind)) (c .before .before .before .args .s .now) (c .before .before .before .args .attributes) (c .before .before .before .args .at) (c .before .before .before .pre) _ (c .before .opened .ensures) (c .if1 .left)
+returns-2 c =
+    let t = c .before .before .before in
+    open-done (rulesOf (t .args .kind)) (t .args .s .now) (t .args .attributes) (t .args .at) (t .pre) _ (c .before .opened .ensures) (c .if1 .left)
 
 pub open-end-spec : {M : Type 1} → statement M
 open-end-spec =

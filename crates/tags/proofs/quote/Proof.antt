@@ -12,10 +12,14 @@ returns-2 : tie.Need-returns-2
 returns-2 c = quote-cut _ _ _ (rw (c .before .before .r .given .1) at (c .before .before .before .before .spaces .ensures)) (c .if1 .taken)
 
 returns-3 : tie.Need-returns-3
-returns-3 c = quote-is _ _ _ (rw (c .before .before .before .before .before .r .given .1) at (c .before .before .before .before .before .before .before .spaces .ensures)) (c .before .before .before .if1 .left) (sym (c .before .is-quote .ensures) ∙ c .if2 .taken)
+returns-3 c =
+    let t = c .before .before .before in
+    quote-is _ _ _ (rw (t .before .before .r .given .1) at (t .before .before .before .before .spaces .ensures)) (t .if1 .left) (sym (c .before .is-quote .ensures) ∙ c .if2 .taken)
 
 returns-4 : tie.Need-returns-4
-returns-4 c = quote-other _ _ _ (rw (c .before .before .before .before .before .r .given .1) at (c .before .before .before .before .before .before .before .spaces .ensures)) (c .before .before .before .if1 .left) (sym (c .before .is-quote .ensures) ∙ c .if2 .left)
+returns-4 c =
+    let t = c .before .before .before in
+    quote-other _ _ _ (rw (t .before .before .r .given .1) at (t .before .before .before .before .spaces .ensures)) (t .if1 .left) (sym (c .before .is-quote .ensures) ∙ c .if2 .left)
 
 pub quote-spec : {M : Type 1} → statement M
 quote-spec =

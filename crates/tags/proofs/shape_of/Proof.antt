@@ -26,7 +26,10 @@ returns-4 : tie.Need-returns-4
 returns-4 c = shape-none _ _ (c .before .before .before .before .before .before .before .digits-of .ensures) _ (c .before .columns-of .ensures) (c .if4 .taken)
 
 returns-5 : tie.Need-returns-5
-returns-5 c = shape-is _ _ (c .before .before .before .before .before .before .before .digits-of .ensures) _ (c .before .before .before .before .before .before .begins-with-zero .ensures) (c .before .before .before .before .before .if1 .left) (c .before .before .before .before .if2 .left) (c .before .before .before .if3 .left) _ (c .before .columns-of .ensures) (c .if4 .left)
+returns-5 c =
+    let t = c .before .before .before in
+    let u = t .before .before .before in
+    shape-is _ _ (u .before .digits-of .ensures) _ (u .begins-with-zero .ensures) (t .before .before .if1 .left) (t .before .if2 .left) (t .if3 .left) _ (c .before .columns-of .ensures) (c .if4 .left)
 
 pub shape-of-spec : {M : Type 1} → statement M
 shape-of-spec =

@@ -27,19 +27,33 @@ loop-less : tie.Need-loop-less Inv-loop μ-loop
 loop-less c = omega arith
 
 loop-again : tie.Need-loop-again Inv-loop μ-loop
-loop-again c = tag-space (rulesOf (c .before .before .before .before .before .before .before .args .kind)) (c .before .before .before .before .before .before .before .args .s .now) (c .before .before .before .before .before .before .before .args .at) (c .before .before .before .before .loop .attributes) (c .before .before .before .before .loop .spaced) (c .before .before .before .before .loop .i) (c .before .before .before .before .loop .inv) (c .before .before .before .loop-test .taken) (sym (c .before .is-space .ensures) ∙ c .if1 .taken)
+loop-again c =
+    let t = c .before .before .before in
+    let u = t .before .before .before .before in
+    tag-space (rulesOf (u .args .kind)) (u .args .s .now) (u .args .at) (t .before .loop .attributes) (t .before .loop .spaced) (t .before .loop .i) (t .before .loop .inv) (t .loop-test .taken)
+    (sym (c .before .is-space .ensures) ∙ c .if1 .taken)
 
 open-end-requires : tie.Need-open-end-requires Inv-loop μ-loop
 open-end-requires c κs = c .before .before .before .before .loop-test .taken
 
 returns : tie.Need-returns Inv-loop μ-loop
-returns c = tag-open (rulesOf (c .before .before .before .before .before .before .before .before .before .args .kind)) (c .before .before .before .before .before .before .before .before .before .args .s .now) (c .before .before .before .before .before .before .before .before .before .args .at) (c .before .before .before .before .before .before .loop .attributes) (c .before .before .before .before .before .before .loop .spaced) (c .before .before .before .before .before .before .loop .i) (c .before .before .before .before .before .before .loop .inv) (c .before .before .before .before .before .loop-test .taken) (sym (c .before .before .before .is-space .ensures) ∙ c .before .before .if1 .left) (c .before .if2 .taken) _ (c .open-end .ensures)
+returns c =
+    let t = c .before .before .before in
+    let u = t .before .before .before in
+    let v = u .before .before .before in
+    tag-open (rulesOf (v .args .kind)) (v .args .s .now) (v .args .at) (u .loop .attributes) (u .loop .spaced) (u .loop .i) (u .loop .inv) (t .before .before .loop-test .taken)
+    (sym (t .is-space .ensures) ∙ c .before .before .if1 .left) (c .before .if2 .taken) _ (c .open-end .ensures)
 
 empty-end-requires : tie.Need-empty-end-requires Inv-loop μ-loop
 empty-end-requires c κs = c .before .before .before .before .before .loop-test .taken
 
 returns-2 : tie.Need-returns-2 Inv-loop μ-loop
-returns-2 c = tag-empty (rulesOf (c .before .before .before .before .before .before .before .before .before .before .args .kind)) (c .before .before .before .before .before .before .before .before .before .before .args .s .now) (c .before .before .before .before .before .before .before .before .before .before .args .at) (c .before .before .before .before .before .before .before .loop .attributes) (c .before .before .before .before .before .before .before .loop .spaced) (c .before .before .before .before .before .before .before .loop .i) (c .before .before .before .before .before .before .before .loop .inv) (c .before .before .before .before .before .before .loop-test .taken) (sym (c .before .before .before .before .is-space .ensures) ∙ c .before .before .before .if1 .left) (c .before .before .if2 .left) (c .before .if3 .taken) _ (c .empty-end .ensures)
+returns-2 c =
+    let t = c .before .before .before in
+    let u = t .before .before .before in
+    let v = u .before .before .before .before in
+    tag-empty (rulesOf (v .args .kind)) (v .args .s .now) (v .args .at) (u .before .loop .attributes) (u .before .loop .spaced) (u .before .loop .i) (u .before .loop .inv) (u .loop-test .taken)
+    (sym (t .before .is-space .ensures) ∙ t .if1 .left) (c .before .before .if2 .left) (c .before .if3 .taken) _ (c .empty-end .ensures)
 
 add-i-2 : tie.Need-add-i-2 Inv-loop μ-loop
 add-i-2 c = omega (arith, (rw (c .before .before .a .given .1) at (c .before .before .before .before .attribute .ensures)) .1)
@@ -48,19 +62,45 @@ loop-less-2 : tie.Need-loop-less-2 Inv-loop μ-loop
 loop-less-2 c = omega (arith, (rw (c .before .before .a .given .1) at (c .before .before .before .before .attribute .ensures)) .1)
 
 loop-again-2 : tie.Need-loop-again-2 Inv-loop μ-loop
-loop-again-2 c = tag-attribute (rulesOf (c .before .before .before .before .before .before .before .before .before .before .before .before .before .before .before .args .kind)) (c .before .before .before .before .before .before .before .before .before .before .before .before .before .before .before .args .s .now) (c .before .before .before .before .before .before .before .before .before .before .before .before .before .before .before .args .at) (c .before .before .before .before .before .before .before .before .before .before .before .before .loop .attributes) (c .before .before .before .before .before .before .before .before .before .before .before .before .loop .spaced) (c .before .before .before .before .before .before .before .before .before .before .before .before .loop .i) (c .before .before .before .before .before .before .before .before .before .before .before .before .loop .inv) (c .before .before .before .before .before .before .before .before .before .before .before .loop-test .taken) (sym (c .before .before .before .before .before .before .before .before .before .is-space .ensures) ∙ c .before .before .before .before .before .before .before .before .if1 .left) (c .before .before .before .before .before .before .before .if2 .left) (c .before .before .before .before .before .before .if3 .left) (c .before .before .before .before .before .if4 .taken) _ _ _ ((rw (c .before .before .a .given .1) at (c .before .before .before .before .attribute .ensures)) .0) ((rw (c .before .before .a .given .1) at (c .before .before .before .before .attribute .ensures)) .1) _ (c .with-attribute .ensures)
+loop-again-2 c =
+    let t = c .before .before .before .before in
+    let u = t .before .before .before in
+    let v = u .before .before .before .before in
+    tag-attribute (rulesOf (v .before .before .before .before .args .kind)) (v .before .before .before .before .args .s .now) (v .before .before .before .before .args .at)
+    (v .before .loop .attributes) (v .before .loop .spaced) (v .before .loop .i) (v .before .loop .inv) (v .loop-test .taken) (sym (u .before .before .is-space .ensures) ∙ u .before .if1 .left)
+    (u .if2 .left) (t .before .before .if3 .left) (t .before .if4 .taken) _ _ _ ((rw (c .before .before .a .given .1) at (t .attribute .ensures)) .0)
+    ((rw (c .before .before .a .given .1) at (t .attribute .ensures)) .1) _ (c .with-attribute .ensures)
 
 returns-3 : tie.Need-returns-3 Inv-loop μ-loop
-returns-3 c = tag-fault (rulesOf (c .before .before .before .before .before .before .before .before .before .before .before .before .before .before .args .kind)) (c .before .before .before .before .before .before .before .before .before .before .before .before .before .before .args .s .now) (c .before .before .before .before .before .before .before .before .before .before .before .before .before .before .args .at) (c .before .before .before .before .before .before .before .before .before .before .before .loop .attributes) (c .before .before .before .before .before .before .before .before .before .before .before .loop .spaced) (c .before .before .before .before .before .before .before .before .before .before .before .loop .i) (c .before .before .before .before .before .before .before .before .before .before .before .loop .inv) (c .before .before .before .before .before .before .before .before .before .before .loop-test .taken) (sym (c .before .before .before .before .before .before .before .before .is-space .ensures) ∙ c .before .before .before .before .before .before .before .if1 .left) (c .before .before .before .before .before .before .if2 .left) (c .before .before .before .before .before .if3 .left) (c .before .before .before .before .if4 .taken) _ _ ((rw (c .before .a2 .given .1) at (c .before .before .before .attribute .ensures)) .0) ((rw (c .before .a2 .given .1) at (c .before .before .before .attribute .ensures)) .1)
+returns-3 c =
+    let t = c .before .before .before in
+    let u = t .before .before .before in
+    let v = u .before .before .before .before in
+    tag-fault (rulesOf (v .before .before .before .before .args .kind)) (v .before .before .before .before .args .s .now) (v .before .before .before .before .args .at) (v .before .loop .attributes)
+    (v .before .loop .spaced) (v .before .loop .i) (v .before .loop .inv) (v .loop-test .taken) (sym (u .before .before .is-space .ensures) ∙ u .before .if1 .left) (u .if2 .left)
+    (t .before .before .if3 .left) (t .before .if4 .taken) _ _ ((rw (c .before .a2 .given .1) at (t .attribute .ensures)) .0) ((rw (c .before .a2 .given .1) at (t .attribute .ensures)) .1)
 
 returns-4 : tie.Need-returns-4 Inv-loop μ-loop
-returns-4 c = tag-cut (rulesOf (c .before .before .before .before .before .before .before .before .before .before .before .before .before .args .kind)) (c .before .before .before .before .before .before .before .before .before .before .before .before .before .args .s .now) (c .before .before .before .before .before .before .before .before .before .before .before .before .before .args .at) (c .before .before .before .before .before .before .before .before .before .before .loop .attributes) (c .before .before .before .before .before .before .before .before .before .before .loop .spaced) (c .before .before .before .before .before .before .before .before .before .before .loop .i) (c .before .before .before .before .before .before .before .before .before .before .loop .inv) (c .before .before .before .before .before .before .before .before .before .loop-test .taken) (sym (c .before .before .before .before .before .before .before .is-space .ensures) ∙ c .before .before .before .before .before .before .if1 .left) (c .before .before .before .before .before .if2 .left) (c .before .before .before .before .if3 .left) (c .before .before .before .if4 .taken) ((rw (c .enum-told .given .1) at (c .before .before .attribute .ensures)) .0)
+returns-4 c =
+    let t = c .before .before .before in
+    let u = t .before .before .before in
+    let v = u .before .before .before in
+    tag-cut (rulesOf (v .before .before .before .before .args .kind)) (v .before .before .before .before .args .s .now) (v .before .before .before .before .args .at) (v .before .loop .attributes)
+    (v .before .loop .spaced) (v .before .loop .i) (v .before .loop .inv) (v .loop-test .taken) (sym (u .before .is-space .ensures) ∙ u .if1 .left) (t .before .before .if2 .left)
+    (t .before .if3 .left) (t .if4 .taken) ((rw (c .enum-told .given .1) at (c .before .before .attribute .ensures)) .0)
 
 returns-5 : tie.Need-returns-5 Inv-loop μ-loop
-returns-5 c = tag-other (rulesOf (c .before .before .before .before .before .before .before .before .before .before .args .kind)) (c .before .before .before .before .before .before .before .before .before .before .args .s .now) (c .before .before .before .before .before .before .before .before .before .before .args .at) (c .before .before .before .before .before .before .before .loop .attributes) (c .before .before .before .before .before .before .before .loop .spaced) (c .before .before .before .before .before .before .before .loop .i) (c .before .before .before .before .before .before .before .loop .inv) (c .before .before .before .before .before .before .loop-test .taken) (sym (c .before .before .before .before .is-space .ensures) ∙ c .before .before .before .if1 .left) (c .before .before .if2 .left) (c .before .if3 .left) (c .if4 .left)
+returns-5 c =
+    let t = c .before .before .before in
+    let u = t .before .before .before in
+    let v = u .before .before .before .before in
+    tag-other (rulesOf (v .args .kind)) (v .args .s .now) (v .args .at) (u .before .loop .attributes) (u .before .loop .spaced) (u .before .loop .i) (u .before .loop .inv) (u .loop-test .taken)
+    (sym (t .before .is-space .ensures) ∙ t .if1 .left) (c .before .before .if2 .left) (c .before .if3 .left) (c .if4 .left)
 
 returns-6 : tie.Need-returns-6 Inv-loop μ-loop
-returns-6 c = tag-end (rulesOf (c .before .before .before .before .args .kind)) (c .before .before .before .before .args .s .now) (c .before .before .before .before .args .at) (c .before .loop .attributes) (c .before .loop .spaced) (c .before .loop .i) (c .before .loop .inv) (c .loop-test .left)
+returns-6 c =
+    let t = c .before .before .before .before in
+    tag-end (rulesOf (t .args .kind)) (t .args .s .now) (t .args .at) (c .before .loop .attributes) (c .before .loop .spaced) (c .before .loop .i) (c .before .loop .inv) (c .loop-test .left)
 
 pub tag-parts-spec : {M : Type 1} → statement M
 tag-parts-spec =

@@ -19,7 +19,12 @@ loop-holds : tie.Need-loop-holds Inv-loop μ-loop
 loop-holds c = (search needs, goes-start _ _ _)
 
 loop-again : tie.Need-loop-again Inv-loop μ-loop
-loop-again c = let l = c .before .before .before .before .before .before in (search needs, goes-then (l .loop .inv .1) (text-more (l .before .before .before .args .text .now) (l .loop .i) (omega arith)) (c .before .before .put-byte .ensures))
+loop-again c =
+    let l = c .before .before .before .before .before .before in (
+      search needs,
+      goes-then (l .loop .inv .1) (text-more (l .before .before .before .args .text .now) (l .loop .i) (omega arith))
+          (c .before .before .put-byte .ensures),
+    )
 
 returns : tie.Need-returns Inv-loop μ-loop
 returns c = let l = c .before in goes-end (l .loop .inv .1) (text-whole (l .before .before .before .args .text .now) (l .loop .i) (omega arith) (omega arith))

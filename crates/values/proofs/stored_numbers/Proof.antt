@@ -29,16 +29,30 @@ same-length-2 : tie.Need-same-length-2 Inv-loop μ-loop
 same-length-2 c = numbers-from (c .before .before .before .before .before .before .before .loop .inv) .powers .size
 
 returns : tie.Need-returns Inv-loop μ-loop
-returns c = numbers-end (c .before .before .before .before .before .before .before .loop .inv) (omega arith) (sym (c .before .before .before .before .is-space .ensures) ∙ c .before .before .before .if1 .left) (c .before .before .if2 .taken) _ _ (c .before .too-few .ensures) (c .only-end .ensures)
+returns c =
+    let t = c .before .before .before in
+    numbers-end (t .before .before .before .before .loop .inv) (omega arith) (sym (t .before .is-space .ensures) ∙ t .if1 .left) (c .before .before .if2 .taken) _ _ (c .before .too-few .ensures)
+    (c .only-end .ensures)
 
 add-count : tie.Need-add-count Inv-loop μ-loop
 add-count c = omega (arith, c .before .before .before .before .before .before .before .before .before .before .before .before .before .before .loop .inv .low)
 
 loop-less-2 : tie.Need-loop-less-2 Inv-loop μ-loop
-loop-less-2 c = omega (arith, token-forward (c .before .before .before .before .before .before .before .before .before .before .before .before .before .before .loop .inv) (omega arith) (sym (c .before .before .before .before .before .before .before .before .before .before .before .is-space .ensures) ∙ c .before .before .before .before .before .before .before .before .before .before .if1 .left) (c .before .before .before .before .before .before .before .before .before .if2 .left) _ _ (rw (c .before .before .before .before .before .before .t .given .1) at (c .before .before .before .before .before .before .before .before .token-read .ensures)))
+loop-less-2 c =
+    let t = c .before .before .before .before .before .before in
+    let u = t .before .before .before in
+    omega (
+      arith,
+      token-forward (u .before .before .before .before .before .loop .inv) (omega arith) (sym (u .before .before .is-space .ensures) ∙ u .before .if1 .left) (u .if2 .left) _ _
+          (rw (t .t .given .1) at (t .before .before .token-read .ensures)),
+    )
 
 loop-again-2 : tie.Need-loop-again-2 Inv-loop μ-loop
-loop-again-2 c = numbers-token (c .before .before .before .before .before .before .before .before .before .before .before .before .before .before .loop .inv) (omega arith) (sym (c .before .before .before .before .before .before .before .before .before .before .before .is-space .ensures) ∙ c .before .before .before .before .before .before .before .before .before .before .if1 .left) (c .before .before .before .before .before .before .before .before .before .if2 .left) _ _ _ (rw (c .before .before .before .before .before .before .t .given .1) at (c .before .before .before .before .before .before .before .before .token-read .ensures)) (c .before .before .store .ensures)
+loop-again-2 c =
+    let t = c .before .before .before .before .before .before in
+    let u = t .before .before .before in
+    numbers-token (u .before .before .before .before .before .loop .inv) (omega arith) (sym (u .before .before .is-space .ensures) ∙ u .before .if1 .left) (u .if2 .left) _ _ _
+    (rw (t .t .given .1) at (t .before .before .token-read .ensures)) (c .before .before .store .ensures)
 
 same-length-3 : tie.Need-same-length-3 Inv-loop μ-loop
 same-length-3 c = numbers-from (c .before .before .before .before .before .before .before .before .before .loop .inv) .coefficients .size
@@ -47,7 +61,11 @@ same-length-4 : tie.Need-same-length-4 Inv-loop μ-loop
 same-length-4 c = numbers-from (c .before .before .before .before .before .before .before .before .before .loop .inv) .powers .size
 
 returns-2 : tie.Need-returns-2 Inv-loop μ-loop
-returns-2 c = numbers-token-fault (c .before .before .before .before .before .before .before .before .before .loop .inv) (omega arith) (sym (c .before .before .before .before .before .before .is-space .ensures) ∙ c .before .before .before .before .before .if1 .left) (c .before .before .before .before .if2 .left) _ _ (rw (c .before .t2 .given .1) at (c .before .before .before .token-read .ensures))
+returns-2 c =
+    let t = c .before .before .before in
+    let u = t .before .before .before in
+    numbers-token-fault (u .before .before .before .loop .inv) (omega arith) (sym (u .is-space .ensures) ∙ t .before .before .if1 .left) (t .before .if2 .left) _ _
+    (rw (c .before .t2 .given .1) at (t .token-read .ensures))
 
 same-length-5 : tie.Need-same-length-5 Inv-loop μ-loop
 same-length-5 c = numbers-from (c .before .before .before .before .before .before .before .before .loop .inv) .coefficients .size
@@ -56,7 +74,10 @@ same-length-6 : tie.Need-same-length-6 Inv-loop μ-loop
 same-length-6 c = numbers-from (c .before .before .before .before .before .before .before .before .loop .inv) .powers .size
 
 returns-3 : tie.Need-returns-3 Inv-loop μ-loop
-returns-3 c = numbers-token-cut (c .before .before .before .before .before .before .before .before .loop .inv) (omega arith) (sym (c .before .before .before .before .before .is-space .ensures) ∙ c .before .before .before .before .if1 .left) (c .before .before .before .if2 .left) (rw (c .enum-told .given .1) at (c .before .before .token-read .ensures))
+returns-3 c =
+    let t = c .before .before .before in
+    numbers-token-cut (t .before .before .before .before .before .loop .inv) (omega arith) (sym (t .before .before .is-space .ensures) ∙ t .before .if1 .left) (t .if2 .left)
+    (rw (c .enum-told .given .1) at (c .before .before .token-read .ensures))
 
 same-length-7 : tie.Need-same-length-7 Inv-loop μ-loop
 same-length-7 c = numbers-from (c .before .loop .inv) .coefficients .size

@@ -28,7 +28,8 @@ returns c =
 returns-2 : tie.Need-returns-2 Inv-loop μ-loop
 returns-2 c =
     let q : _ ≡ false = sym (c .before .before .before .before .ends-token .ensures) ∙ c .before .before .before .if1 .left in
-    token-failed _ _ _ (text-failed _ _ _ _ (c .before .before .before .before .before .before .before .loop .inv) (omega arith) q (not-less _ q) (c .before .before .if2 .taken) _ (failed (c .before .entity .result) (c .match .keys2)) (c .before .entity .ensures)) (failed (c .before .entity .result) (c .match .keys2))
+    token-failed _ _ _ (text-failed _ _ _ _ (c .before .before .before .before .before .before .before .loop .inv) (omega arith) q (not-less _ q) (c .before .before .if2 .taken) _
+    (failed (c .before .entity .result) (c .match .keys2)) (c .before .entity .ensures)) (failed (c .before .entity .result) (c .match .keys2))
 
 loop-less : tie.Need-loop-less Inv-loop μ-loop
 loop-less c = omega (arith, (rw (c .before .r .given .1) at (c .before .before .before .entity .ensures)) .inside)
@@ -36,7 +37,8 @@ loop-less c = omega (arith, (rw (c .before .r .given .1) at (c .before .before .
 loop-again : tie.Need-loop-again Inv-loop μ-loop
 loop-again c =
     let q : _ ≡ false = sym (c .before .before .before .before .before .before .ends-token .ensures) ∙ c .before .before .before .before .before .if1 .left in
-    text-and _ _ _ _ (c .before .before .before .before .before .before .before .before .before .loop .inv) (omega arith) q (not-less _ q) (c .before .before .before .before .if2 .taken) _ (rw (c .before .r .given .1) at (c .before .before .before .entity .ensures))
+    text-and _ _ _ _ (c .before .before .before .before .before .before .before .before .before .loop .inv) (omega arith) q (not-less _ q) (c .before .before .before .before .if2 .taken) _
+    (rw (c .before .r .given .1) at (c .before .before .before .entity .ensures))
 
 loop-less-2 : tie.Need-loop-less-2 Inv-loop μ-loop
 loop-less-2 c = omega arith

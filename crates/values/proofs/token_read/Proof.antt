@@ -15,10 +15,15 @@ part-number-end : tie.Need-part-number-end
 part-number-end c = omega (arith, (rw (c .before .r .given .1) at (c .before .before .before .token .ensures .reads)) .inside)
 
 returns : tie.Need-returns
-returns c = rw (c .judged .ensures) (token-number _ _ _ _ _ _ _ (rw (c .before .before .before .before .before .before .before .r .given .1) at (c .before .before .before .before .before .before .before .before .before .token .ensures)) (sym (c .before .before .t .given .1) ∙ c .before .before .before .before .number .ensures))
+returns c =
+    let t = c .before .before .before .before in
+    let u = t .before .before .before in
+    rw (c .judged .ensures) (token-number _ _ _ _ _ _ _ (rw (u .r .given .1) at (u .before .before .token .ensures)) (sym (c .before .before .t .given .1) ∙ t .number .ensures))
 
 returns-2 : tie.Need-returns-2
-returns-2 c = token-malformed _ _ _ _ _ _ (rw (c .before .before .before .before .before .r .given .1) at (c .before .before .before .before .before .before .before .token .ensures)) (sym (c .enum-told .given .1) ∙ c .before .before .number .ensures)
+returns-2 c =
+    let t = c .before .before .before .before .before in
+    token-malformed _ _ _ _ _ _ (rw (t .r .given .1) at (t .before .before .token .ensures)) (sym (c .enum-told .given .1) ∙ c .before .before .number .ensures)
 
 returns-3 : tie.Need-returns-3
 returns-3 c = token-fault _ _ _ _ _ _ _ (rw (c .before .r2 .given .1) at (c .before .before .before .token .ensures))

@@ -8,7 +8,12 @@ use Rattle.writing.proofs.put_list.Tie as tie
 
 returns : tie.Need-returns
 unfolding headText listText
-returns c = rw (← list-text) (wrote (puts-then (c .before .before .before .before .before .before .before .before .before .before .before .before .before .before .before .before .before .before .before .before .put .ensures) (puts-then (c .before .before .before .before .before .before .before .before .before .before .before .before .before .before .before .before .put2 .ensures) (puts-then (c .before .before .before .before .before .before .before .before .before .before .before .put3 .ensures) (puts-then (c .before .before .before .before .before .before .before .put-nodes .ensures) (c .before .before .put4 .ensures))))) (search needs))
+returns c =
+    let t = c .before .before .before .before .before .before .before in
+    let u = t .before .before .before .before in
+    let v = u .before .before .before .before .before in
+    rw (← list-text) (wrote (puts-then (v .before .before .before .before .put .ensures)
+    (puts-then (v .put2 .ensures) (puts-then (u .put3 .ensures) (puts-then (t .put-nodes .ensures) (c .before .before .put4 .ensures))))) (search needs))
 
 pub put-list-spec : {M : Type 1} → statement M
 put-list-spec =

@@ -37,9 +37,11 @@ returns-4 : tie.Need-returns-4
 returns-4 c =
     let a = c .before .before .before .before .before .before .before .before .before .before .before .before .args in
     let m = lent (a .coefficients .now) (a .powers .now) in
-    let v = sym (c .before .before .before .before .before .before .before .before .before .valid .ensures) ∙ not-false _ (c .before .before .before .before .before .before .before .before .if1 .left) in
+    let v =
+    sym (c .before .before .before .before .before .before .before .before .before .valid .ensures) ∙ not-false _ (c .before .before .before .before .before .before .before .before .if1 .left) in
     let i = sym (c .before .before .before .before .before .before .before .id-right .ensures) ∙ not-false _ (c .before .before .before .before .before .before .if2 .left) in
-    ends-written (a .list) m (a .id .now) (a .out .now) v i _ _ _ (c .before .before .before .before .before .text-length .ensures) (c .before .before .before .before .if3 .left) (c .before .before .put-list .ensures)
+    ends-written (a .list) m (a .id .now) (a .out .now) v i _ _ _ (c .before .before .before .before .before .text-length .ensures) (c .before .before .before .before .if3 .left)
+    (c .before .before .put-list .ensures)
 
 pub write-spec : {M : Type 1} → statement M
 write-spec =

@@ -10,10 +10,13 @@ returns : tie.Need-returns
 returns c = comment-cut _ _ (omega arith)
 
 returns-2 : tie.Need-returns-2
-returns-2 c = rw (c .blamed .ensures) (comment-none _ _ (omega arith) (c .before .before .word .result) (failed (c .before .before .word .result) (c .before .match .keys2)) (c .before .before .word .ensures))
+returns-2 c =
+    rw (c .blamed .ensures) (comment-none _ _ (omega arith) (c .before .before .word .result) (failed (c .before .before .word .result) (c .before .match .keys2)) (c .before .before .word .ensures))
 
 returns-3 : tie.Need-returns-3
-returns-3 c = rw (c .blamed2 .ensures) (comment-rest _ _ (omega arith) _ (c .before .comment-body .result) (rw (c .before .before .before .r .given .1) at (c .before .before .before .before .before .word .ensures)) (c .before .comment-body .ensures))
+returns-3 c =
+    let t = c .before .before .before in
+    rw (c .blamed2 .ensures) (comment-rest _ _ (omega arith) _ (c .before .comment-body .result) (rw (t .r .given .1) at (t .before .before .word .ensures)) (c .before .comment-body .ensures))
 
 pub comment-spec : {M : Type 1} → statement M
 comment-spec =

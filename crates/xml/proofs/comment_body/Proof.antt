@@ -20,7 +20,9 @@ returns : tie.Need-returns Inv-loop μ-loop
 returns c = comment-dash-end _ _ _ (c .before .before .before .before .loop .inv) (omega arith) (c .before .if1 .taken) (omega arith)
 
 returns-2 : tie.Need-returns-2 Inv-loop μ-loop
-returns-2 c = comment-last _ _ _ (c .before .before .before .before .before .before .before .loop .inv) (omega arith) (c .before .before .before .before .if1 .taken) (omega arith) _ (c .before .if3 .taken) (c .byte .ensures)
+returns-2 c =
+    let t = c .before .before .before .before in
+    comment-last _ _ _ (t .before .before .before .loop .inv) (omega arith) (t .if1 .taken) (omega arith) _ (c .before .if3 .taken) (c .byte .ensures)
 
 loop-less : tie.Need-loop-less Inv-loop μ-loop
 loop-less c = omega arith

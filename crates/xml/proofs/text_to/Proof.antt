@@ -26,13 +26,20 @@ returns-2 : tie.Need-returns-2 Inv-loop μ-loop
 returns-2 c = text-less _ _ _ _ (c .before .before .before .before .loop .inv) (omega arith) (ne-eqb _ _ (c .before .if1 .left)) (c .if2 .taken)
 
 returns-3 : tie.Need-returns-3 Inv-loop μ-loop
-returns-3 c = text-failed _ _ _ _ (c .before .before .before .before .before .before .before .loop .inv) (omega arith) (ne-eqb _ _ (c .before .before .before .before .if1 .left)) (c .before .before .before .if2 .left) (c .before .before .if3 .taken) _ (failed (c .before .entity .result) (c .match .keys2)) (c .before .entity .ensures)
+returns-3 c =
+    let t = c .before .before .before in
+    text-failed _ _ _ _ (t .before .before .before .before .loop .inv) (omega arith) (ne-eqb _ _ (t .before .if1 .left)) (t .if2 .left) (c .before .before .if3 .taken) _
+    (failed (c .before .entity .result) (c .match .keys2)) (c .before .entity .ensures)
 
 loop-less : tie.Need-loop-less Inv-loop μ-loop
 loop-less c = omega (arith, (rw (c .before .r .given .1) at (c .before .before .before .entity .ensures)) .inside)
 
 loop-again : tie.Need-loop-again Inv-loop μ-loop
-loop-again c = text-and _ _ _ _ (c .before .before .before .before .before .before .before .before .before .loop .inv) (omega arith) (ne-eqb _ _ (c .before .before .before .before .before .before .if1 .left)) (c .before .before .before .before .before .if2 .left) (c .before .before .before .before .if3 .taken) _ (rw (c .before .r .given .1) at (c .before .before .before .entity .ensures))
+loop-again c =
+    let t = c .before .before .before in
+    let u = t .before .before .before in
+    text-and _ _ _ _ (u .before .before .before .loop .inv) (omega arith) (ne-eqb _ _ (u .if1 .left)) (t .before .before .if2 .left) (t .before .if3 .taken) _
+    (rw (c .before .r .given .1) at (t .entity .ensures))
 
 loop-less-2 : tie.Need-loop-less-2 Inv-loop μ-loop
 loop-less-2 c = omega arith

@@ -15,24 +15,36 @@ use Rattle.shell_text.proofs.commands.unknown.Reads as unknown-reads
 -- src/commands.rt:99:9
 -- src/commands.rt:99:9
 returns : tie.Need-returns
-returns c = letters-one (c .before .before .before .before .before .before .before .args .letter) (c .before .before .before .before .before .shape .result) _ _ (c .before .before .plain .result) (c .before .before .before .before .before .shape .ensures) (c .before .before .before .before .if1 .taken) (c .before .before .plain .ensures)
+returns c =
+    let t = c .before .before .before .before in
+    letters-one (t .before .before .before .args .letter) (t .before .shape .result) _ _ (c .before .before .plain .result) (t .before .shape .ensures) (t .if1 .taken)
+    (c .before .before .plain .ensures)
 
 -- src/commands.rt:102:9
 -- src/commands.rt:102:9
 -- src/commands.rt:102:9
 returns-2 : tie.Need-returns-2
-returns-2 c = letters-two (c .before .before .before .before .before .before .before .before .args .letter) (c .before .before .before .before .before .before .shape .result) _ _ (c .before .before .numbered .result) (c .before .before .before .before .before .before .shape .ensures) (c .before .before .before .before .if2 .taken) (c .before .before .numbered .ensures)
+returns-2 c =
+    let t = c .before .before .before .before in
+    letters-two (t .before .before .before .before .args .letter) (t .before .before .shape .result) _ _ (c .before .before .numbered .result) (t .before .before .shape .ensures) (t .if2 .taken)
+    (c .before .before .numbered .ensures)
 
 -- src/commands.rt:105:9
 -- src/commands.rt:105:9
 -- src/commands.rt:105:9
 returns-3 : tie.Need-returns-3
-returns-3 c = letters-three (c .before .before .before .before .before .before .before .before .before .args .letter) (c .before .before .before .before .before .before .before .shape .result) _ _ (c .before .before .under-id .result) (c .before .before .before .before .before .before .before .shape .ensures) (c .before .before .before .before .if3 .taken) (c .before .before .under-id .ensures)
+returns-3 c =
+    let t = c .before .before .before .before in
+    let u = t .before .before .before in
+    letters-three (u .before .before .args .letter) (u .shape .result) _ _ (c .before .before .under-id .result) (u .shape .ensures) (t .if3 .taken) (c .before .before .under-id .ensures)
 
 -- src/commands.rt:107:5
 -- src/commands.rt:94:1
 returns-4 : tie.Need-returns-4
-returns-4 c = letters-none (c .before .before .before .before .before .before .args .letter) (c .before .before .before .before .shape .result) _ (c .unknown .result) (c .before .before .before .before .shape .ensures) (c .before .before .before .if1 .left) (c .before .before .if2 .left) (c .before .if3 .left) (c .unknown .ensures)
+returns-4 c =
+    let t = c .before .before .before in
+    letters-none (t .before .before .before .args .letter) (t .before .shape .result) _ (c .unknown .result) (t .before .shape .ensures) (t .if1 .left) (c .before .before .if2 .left)
+    (c .before .if3 .left) (c .unknown .ensures)
 
 pub lettered-spec : {M : Type 1} → statement M
 lettered-spec =

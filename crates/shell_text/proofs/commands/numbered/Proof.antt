@@ -23,12 +23,23 @@ use Rattle.tags.proofs.part.Reads as part-reads
 -- src/commands.rt:48:1
 -- src/commands.rt:48:1
 returns : tie.Need-returns
-returns c = says-numbered (c .before .before .before .before .before .before .before .before .before .before .before .before .before .before .args .letter) (now (c .before .before .before .before .before .before .before .before .before .before .before .before .before .before .args .line)) (c .before .before .before .before .before .before .before .before .before .before .before .next-field .result) (c .before .before .before .before .before .before .before .before .before .before .before .next-field .ensures) (c .before .before .before .before .before .before .before .before .number .result) _ (c .before .before .before .before .before .before .before .before .before .part .ensures) (c .before .before .before .before .before .before .before .before .number .ensures) _ _ (c .before .before .before .last-field .result) (c .with-bytes .result) (c .before .before .before .before .before .before .parsed .given .1) (c .before .before .before .last-field .ensures) (c .with-bytes .ensures)
+returns c =
+    let t = c .before .before .before in
+    let u = t .before .before .before in
+    let v = u .before .before .before in
+    says-numbered (v .before .before .before .before .before .args .letter) (now (v .before .before .before .before .before .args .line)) (v .before .before .next-field .result)
+    (v .before .before .next-field .ensures) (u .before .before .number .result) _ (v .part .ensures) (u .before .before .number .ensures) _ _ (t .last-field .result) (c .with-bytes .result)
+    (u .parsed .given .1) (t .last-field .ensures) (c .with-bytes .ensures)
 
 -- src/commands.rt:48:1
 -- src/commands.rt:48:1
 returns-2 : tie.Need-returns-2
-returns-2 c = says-no-number (c .before .before .before .before .before .before .before .before .before .args .letter) (now (c .before .before .before .before .before .before .before .before .before .args .line)) (c .before .before .before .before .before .before .next-field .result) (c .before .before .before .before .before .before .next-field .ensures) (c .before .before .before .number .result) _ (c .before .before .before .before .part .ensures) (c .before .before .before .number .ensures) (c .unknown .result) (c .before .enum-told .given .1) (c .unknown .ensures)
+returns-2 c =
+    let t = c .before .before .before in
+    let u = t .before .before .before in
+    let v = u .before .before .before in
+    says-no-number (v .args .letter) (now (v .args .line)) (u .next-field .result) (u .next-field .ensures) (t .number .result) _ (t .before .part .ensures) (t .number .ensures) (c .unknown .result)
+    (c .before .enum-told .given .1) (c .unknown .ensures)
 
 pub numbered-spec : {M : Type 1} → statement M
 numbered-spec =

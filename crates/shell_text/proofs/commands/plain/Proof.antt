@@ -12,7 +12,9 @@ use Rattle.shell_text.proofs.hex.last_field.Reads as last-field-reads
 -- src/commands.rt:40:1
 -- src/commands.rt:40:1
 returns : tie.Need-returns
-returns c = says-plain (c .before .before .before .before .before .before .args .letter) _ _ (c .before .before .before .last-field .result) (c .with-bytes .result) (c .before .before .before .last-field .ensures) (c .with-bytes .ensures)
+returns c =
+    let t = c .before .before .before in
+    says-plain (t .before .before .before .args .letter) _ _ (t .last-field .result) (c .with-bytes .result) (t .last-field .ensures) (c .with-bytes .ensures)
 
 pub plain-spec : {M : Type 1} → statement M
 plain-spec = tie.close (tie.spec (λ c κs. search needs) (λ c κs. search needs) (λ c. search needs) returns)

@@ -21,12 +21,21 @@ use Rattle.shell_text.proofs.lines.last_number.Reads as last-number-rea
 -- src/commands.rt:65:1
 -- src/commands.rt:65:1
 returns : tie.Need-returns
-returns c = says-under (c .before .before .before .before .before .before .before .before .before .before .before .before .before .args .letter) (now (c .before .before .before .before .before .before .before .before .before .before .before .before .before .args .line)) (c .before .before .before .before .before .before .before .before .before .before .next-field .result) (c .before .before .before .before .before .before .before .before .before .before .next-field .ensures) (c .before .before .before .before .before .before .before .before .last-number .result) (c .before .before .before .before .before .before .before .before .last-number .ensures) _ _ (c .before .before .before .decoded-part .result) (c .with-bytes .result) (c .before .before .before .before .before .before .parsed .given .1) (c .before .before .before .decoded-part .ensures) (c .with-bytes .ensures)
+returns c =
+    let t = c .before .before .before in
+    let u = t .before .before .before in
+    let v = u .before .before .before .before in
+    says-under (v .before .before .before .args .letter) (now (v .before .before .before .args .line)) (v .next-field .result) (v .next-field .ensures) (u .before .before .last-number .result)
+    (u .before .before .last-number .ensures) _ _ (t .decoded-part .result) (c .with-bytes .result) (u .parsed .given .1) (t .decoded-part .ensures) (c .with-bytes .ensures)
 
 -- src/commands.rt:65:1
 -- src/commands.rt:65:1
 returns-2 : tie.Need-returns-2
-returns-2 c = says-no-length (c .before .before .before .before .before .before .before .before .args .letter) (now (c .before .before .before .before .before .before .before .before .args .line)) (c .before .before .before .before .before .next-field .result) (c .before .before .before .before .before .next-field .ensures) (c .before .before .before .last-number .result) (c .before .before .before .last-number .ensures) (c .unknown .result) (c .before .enum-told .given .1) (c .unknown .ensures)
+returns-2 c =
+    let t = c .before .before .before in
+    let u = t .before .before .before .before .before in
+    says-no-length (u .args .letter) (now (u .args .line)) (t .before .before .next-field .result) (t .before .before .next-field .ensures) (t .last-number .result) (t .last-number .ensures)
+    (c .unknown .result) (c .before .enum-told .given .1) (c .unknown .ensures)
 
 pub under-id-spec : {M : Type 1} → statement M
 under-id-spec =

@@ -32,13 +32,22 @@ slice-read-joined-2 : tie.Need-slice-read-joined-2 Inv-loop μ-loop
 slice-read-joined-2 c = omega (arith, c .before .before .before .loop .inv .3 .size)
 
 returns : tie.Need-returns Inv-loop μ-loop
-returns c = let p = c .before .before .before .before .before .loop .inv .3 in ends _ _ (c .before .before .before .before .before .loop .i) (c .before .joined .result) p (omega (arith, p .size)) (stops _ _ (c .before .before .before .before .before .loop .i) (c .before .joined .result) p _ _ (omega arith) (omega arith) (c .before .joined .ensures) (omega (arith, p .size)) (c .if1 .taken))
+returns c =
+    let p = c .before .before .before .before .before .loop .inv .3 in ends _ _ (c .before .before .before .before .before .loop .i) (c .before .joined .result) p (omega (arith, p .size))
+    (stops _ _ (c .before .before .before .before .before .loop .i) (c .before .joined .result) p _ _ (omega arith) (omega arith) (c .before .joined .ensures) (omega (arith, p .size)) (c .if1 .taken))
 
 slice-write-word : tie.Need-slice-write-word Inv-loop μ-loop
 slice-write-word c = omega (arith, c .before .before .before .before .before .loop .inv .3 .size)
 
 loop-again : tie.Need-loop-again Inv-loop μ-loop
-loop-again c = let p = c .before .before .before .before .before .loop .inv .3 in (search needs, search needs, search needs, passes-one _ _ (c .before .before .before .before .before .loop .i) (c .before .joined .result) p _ _ (omega arith) (omega arith) (c .before .joined .ensures) (omega (arith, p .size)) (c .if1 .left))
+loop-again c =
+    let p = c .before .before .before .before .before .loop .inv .3 in (
+      search needs,
+      search needs,
+      search needs,
+      passes-one _ _ (c .before .before .before .before .before .loop .i)
+          (c .before .joined .result) p _ _ (omega arith) (omega arith) (c .before .joined .ensures) (omega (arith, p .size)) (c .if1 .left),
+    )
 
 returns-2 : tie.Need-returns-2 Inv-loop μ-loop
 returns-2 c = let p = c .before .loop .inv .3 in ends _ _ (c .before .loop .i) 0 p (omega (arith, p .size)) (few-bytes _ (c .before .loop .i + c .before .loop .i) (omega arith))

@@ -24,10 +24,18 @@ mul-if4 c =
     omega (arith, c .before .before .decode .ensures .count, bytes-half (wordAt (now (a .line)) (a .start) (a .end)), part-length (now (a .line)) (a .start) (a .end) (omega arith) (omega arith))
 
 returns-4 : tie.Need-returns-4
-returns-4 c = part-bytes _ _ _ (c .before .before .before .before .before .before .before .before .before .if1 .left) (c .before .before .before .before .before .before .before .before .if2 .left) (sym (c .before .before .before .before .before .before .is-none .ensures) ∙ c .before .before .before .before .before .if3 .left) _ _ (c .before .before .before .decode .result) (c .before .before .before .decode .ensures) refl (c .if4 .taken)
+returns-4 c =
+    let t = c .before .before .before in
+    let u = t .before .before .before in
+    part-bytes _ _ _ (u .before .before .before .if1 .left) (u .before .before .if2 .left) (sym (u .is-none .ensures) ∙ t .before .before .if3 .left) _ _ (t .decode .result) (t .decode .ensures) refl
+    (c .if4 .taken)
 
 returns-5 : tie.Need-returns-5
-returns-5 c = part-malformed _ _ _ (c .before .before .before .before .before .before .before .before .before .if1 .left) (c .before .before .before .before .before .before .before .before .if2 .left) (sym (c .before .before .before .before .before .before .is-none .ensures) ∙ c .before .before .before .before .before .if3 .left) _ _ (c .before .before .before .decode .result) (c .before .before .before .decode .ensures) refl (c .if4 .left)
+returns-5 c =
+    let t = c .before .before .before in
+    let u = t .before .before .before in
+    part-malformed _ _ _ (u .before .before .before .if1 .left) (u .before .before .if2 .left) (sym (u .is-none .ensures) ∙ t .before .before .if3 .left) _ _ (t .decode .result)
+    (t .decode .ensures) refl (c .if4 .left)
 
 pub decoded-part-spec : {M : Type 1} → statement M
 decoded-part-spec =

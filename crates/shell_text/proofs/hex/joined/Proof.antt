@@ -11,11 +11,15 @@ returns c = rw (← c .before .before .digit .ensures, le-leb 16 (c .before .bef
 
 returns-2 : tie.Need-returns-2
 unfolding joinedOf
-returns-2 c = rw (← c .before .before .before .digit .ensures, ← c .before .before .digit2 .ensures, lt-leb 16 (c .before .before .before .digit .result) (c .before .if1 .left), le-leb 16 (c .before .before .digit2 .result) (c .if2 .taken))
+returns-2 c =
+    let t = c .before .before .before in
+    rw (← t .digit .ensures, ← c .before .before .digit2 .ensures, lt-leb 16 (t .digit .result) (c .before .if1 .left), le-leb 16 (c .before .before .digit2 .result) (c .if2 .taken))
 
 returns-3 : tie.Need-returns-3
 unfolding joinedOf
-returns-3 c = rw (← c .before .before .before .digit .ensures, ← c .before .before .digit2 .ensures, lt-leb 16 (c .before .before .before .digit .result) (c .before .if1 .left), lt-leb 16 (c .before .before .digit2 .result) (c .if2 .left))
+returns-3 c =
+    let t = c .before .before .before in
+    rw (← t .digit .ensures, ← c .before .before .digit2 .ensures, lt-leb 16 (t .digit .result) (c .before .if1 .left), lt-leb 16 (c .before .before .digit2 .result) (c .if2 .left))
 
 pub joined-spec : {M : Type 1} → statement M
 joined-spec =

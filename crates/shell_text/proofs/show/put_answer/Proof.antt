@@ -7,7 +7,9 @@ use Rattle.shell_text.proofs.show.put_answer.Tie as tie
 
 returns : tie.Need-returns
 unfolding shownAnswer
-returns c = puts-then (c .before .before .before .before .before .before .before .before .before .before .before .put-digits .ensures) (puts-then (c .before .before .before .before .before .before .put .ensures) (c .before .before .put-digits2 .ensures))
+returns c =
+    let t = c .before .before .before .before .before .before in
+    puts-then (t .before .before .before .before .before .put-digits .ensures) (puts-then (t .put .ensures) (c .before .before .put-digits2 .ensures))
 
 pub put-answer-spec : {M : Type 1} → statement M
 put-answer-spec =

@@ -9,11 +9,15 @@ use Rattle.shell_text.proofs.show.put_either.Tie as tie
 
 returns : tie.Need-returns
 unfolding oneOf
-returns c = puts-by (λ b t. oneOf b (now (c .before .before .before .before .before .before .before .before .args .this)) (now (c .before .before .before .before .before .before .before .before .args .other)) ++ t) (c .before .before .before .before .if1 .taken) (c .before .before .put .ensures)
+returns c =
+    puts-by (λ b t. oneOf b (now (c .before .before .before .before .before .before .before .before .args .this))
+    (now (c .before .before .before .before .before .before .before .before .args .other)) ++ t) (c .before .before .before .before .if1 .taken) (c .before .before .put .ensures)
 
 returns-2 : tie.Need-returns-2
 unfolding oneOf
-returns-2 c = puts-by (λ b t. oneOf b (now (c .before .before .before .before .before .before .before .before .args .this)) (now (c .before .before .before .before .before .before .before .before .args .other)) ++ t) (c .before .before .before .before .if1 .left) (c .before .before .put2 .ensures)
+returns-2 c =
+    puts-by (λ b t. oneOf b (now (c .before .before .before .before .before .before .before .before .args .this))
+    (now (c .before .before .before .before .before .before .before .before .args .other)) ++ t) (c .before .before .before .before .if1 .left) (c .before .before .put2 .ensures)
 
 pub put-either-spec : {M : Type 1} → statement M
 put-either-spec =

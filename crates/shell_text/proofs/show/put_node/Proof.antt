@@ -7,7 +7,13 @@ use Rattle.shell_text.proofs.show.put_node.Tie as tie
 
 returns : tie.Need-returns
 unfolding shownNode
-returns c = puts-then (c .before .before .before .before .before .before .before .before .before .before .before .before .before .before .before .before .before .before .before .before .before .before .before .put .ensures) (puts-then (c .before .before .before .before .before .before .before .before .before .before .before .before .before .before .before .before .before .before .before .put-name .ensures) (puts-then (c .before .before .before .before .before .before .before .before .before .before .before .before .before .before .before .put-depths .ensures) (puts-then (c .before .before .before .before .before .before .before .before .before .before .before .put-form .ensures) (puts-then (c .before .before .before .before .before .before .put2 .ensures) (c .before .before .put-digits .ensures)))))
+returns c =
+    let t = c .before .before .before .before .before .before in
+    let u = t .before .before .before .before .before in
+    let v = u .before .before .before .before in
+    puts-then (v .before .before .before .before .before .before .before .before .put .ensures)
+    (puts-then (v .before .before .before .before .put-name .ensures)
+    (puts-then (v .put-depths .ensures) (puts-then (u .put-form .ensures) (puts-then (t .put2 .ensures) (c .before .before .put-digits .ensures)))))
 
 pub put-node-spec : {M : Type 1} → statement M
 put-node-spec =

@@ -7,7 +7,10 @@ use Rattle.shell_text.proofs.show.put_table.Tie as tie
 
 returns : tie.Need-returns
 unfolding tableText
-returns c = puts-then (c .before .before .before .before .before .before .before .before .before .before .before .before .before .before .before .put .ensures) (puts-then (c .before .before .before .before .before .before .before .before .before .before .before .put-digits .ensures) (puts-then (c .before .before .before .before .before .before .put2 .ensures) (c .before .before .put-digits2 .ensures)))
+returns c =
+    let t = c .before .before .before .before .before .before in
+    let u = t .before .before .before .before .before in
+    puts-then (u .before .before .before .before .put .ensures) (puts-then (u .put-digits .ensures) (puts-then (t .put2 .ensures) (c .before .before .put-digits2 .ensures)))
 
 pub put-table-spec : {M : Type 1} → statement M
 put-table-spec =

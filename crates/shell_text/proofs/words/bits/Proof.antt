@@ -23,10 +23,14 @@ loop-holds : tie.Need-loop-holds Inv-loop μ-loop
 loop-holds c = bits-whole _ (c .if1 .left)
 
 returns-2 : tie.Need-returns-2 Inv-loop μ-loop
-returns-2 c = sym (c .before .before .before .before .loop .inv ∙ bits-bad _ (c .before .before .before .before .loop .n) (c .before .before .before .before .loop .i) (c .before .digit .result) (omega arith) (c .before .digit .ensures) (c .if2 .taken))
+returns-2 c =
+    let t = c .before .before .before .before in
+    sym (t .loop .inv ∙ bits-bad _ (t .loop .n) (t .loop .i) (c .before .digit .result) (omega arith) (c .before .digit .ensures) (c .if2 .taken))
 
 loop-again : tie.Need-loop-again Inv-loop μ-loop
-loop-again c = c .before .before .before .before .loop .inv ∙ bits-more _ (c .before .before .before .before .loop .n) (c .before .before .before .before .loop .i) (c .before .digit .result) (omega arith) (c .before .digit .ensures) (c .if2 .left)
+loop-again c =
+    let t = c .before .before .before .before in
+    t .loop .inv ∙ bits-more _ (t .loop .n) (t .loop .i) (c .before .digit .result) (omega arith) (c .before .digit .ensures) (c .if2 .left)
 
 returns-3 : tie.Need-returns-3 Inv-loop μ-loop
 returns-3 c = sym (c .before .loop .inv ∙ bits-end _ (c .before .loop .n) (c .before .loop .i) (past _ (c .before .loop .i) (omega arith)))

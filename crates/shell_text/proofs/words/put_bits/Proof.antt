@@ -21,7 +21,10 @@ loop-holds : tie.Need-loop-holds Inv-loop μ-loop
 loop-holds c = digits-first _ _ _
 
 loop-again : tie.Need-loop-again Inv-loop μ-loop
-loop-again c = goes-then (c .before .before .before .before .before .before .before .loop .inv) (top-more (c .before .before .before .before .before .before .before .loop .i) (c .before .before .before .before .before .before .before .loop .rest) (c .before .before .before .before .before .glyph .result) (c .before .before .before .before .before .before .loop-test .taken) (c .before .before .before .before .before .glyph .ensures)) (c .before .before .put .ensures)
+loop-again c =
+    let t = c .before .before .before .before .before in
+    goes-then (t .before .before .loop .inv) (top-more (t .before .before .loop .i) (t .before .before .loop .rest) (t .glyph .result) (t .before .loop-test .taken) (t .glyph .ensures))
+    (c .before .before .put .ensures)
 
 returns : tie.Need-returns Inv-loop μ-loop
 returns c = goes-end (c .before .loop .inv) (top-none (c .before .loop .i) (c .before .loop .rest) (c .loop-test .left))

@@ -10,7 +10,9 @@ use Rattle.shell_text.proofs.words.put_word.Tie as tie
 
 returns : tie.Need-returns
 unfolding wordText
-returns c = puts-then (c .before .before .before .before .before .before .before .put .ensures) (puts-by (λ n t. bitsText n ++ t) (sym (not-itself _ (c .before .before .before .before .if1 .taken))) (c .before .before .put-bits .ensures))
+returns c =
+    puts-then (c .before .before .before .before .before .before .before .put .ensures)
+    (puts-by (λ n t. bitsText n ++ t) (sym (not-itself _ (c .before .before .before .before .if1 .taken))) (c .before .before .put-bits .ensures))
 
 float-to-bits-put-bits : tie.Need-float-to-bits-put-bits
 float-to-bits-put-bits c = by-itself _ (c .before .if1 .left)

@@ -11,7 +11,9 @@ put-content-requires c κs = c .before .before .before .before .before .before .
 
 returns : tie.Need-returns
 unfolding nodeText elementOf
-returns c = puts-then (c .before .before .before .before .before .before .before .before .before .before .put-start .ensures) (puts-then (c .before .before .before .before .before .before .put-content .ensures) (c .before .before .put-end .ensures))
+returns c =
+    let t = c .before .before .before .before .before .before in
+    puts-then (t .before .before .before .before .put-start .ensures) (puts-then (t .put-content .ensures) (c .before .before .put-end .ensures))
 
 pub put-node-spec : {M : Type 1} → statement M
 put-node-spec =

@@ -7,7 +7,9 @@ use Rattle.writing.proofs.names.put_end.Tie as tie
 
 returns : tie.Need-returns
 unfolding endText
-returns c = puts-then (c .before .before .before .before .before .before .before .before .before .before .before .put .ensures) (puts-then (c .before .before .before .before .before .before .before .put-name .ensures) (c .before .before .put2 .ensures))
+returns c =
+    let t = c .before .before .before .before .before .before .before in
+    puts-then (t .before .before .before .before .put .ensures) (puts-then (t .put-name .ensures) (c .before .before .put2 .ensures))
 
 pub put-end-spec : {M : Type 1} → statement M
 put-end-spec =

@@ -7,7 +7,12 @@ use Rattle.writing.proofs.names.put_start.Tie as tie
 
 returns : tie.Need-returns
 unfolding startText
-returns c = puts-then (c .before .before .before .before .before .before .before .before .before .before .before .before .before .before .before .before .before .before .before .put .ensures) (puts-then (c .before .before .before .before .before .before .before .before .before .before .before .before .before .before .before .put-name .ensures) (puts-then (c .before .before .before .before .before .before .before .before .before .before .before .put-depths .ensures) (puts-then (c .before .before .before .before .before .before .before .put-style .ensures) (c .before .before .put2 .ensures))))
+returns c =
+    let t = c .before .before .before .before .before .before .before in
+    let u = t .before .before .before .before in
+    let v = u .before .before .before .before in
+    puts-then (v .before .before .before .before .put .ensures)
+    (puts-then (v .put-name .ensures) (puts-then (u .put-depths .ensures) (puts-then (t .put-style .ensures) (c .before .before .put2 .ensures))))
 
 pub put-start-spec : {M : Type 1} → statement M
 put-start-spec =

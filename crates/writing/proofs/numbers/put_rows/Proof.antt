@@ -35,7 +35,9 @@ add-k : tie.Need-add-k Inv-loop μ-loop
 unfolding roomLength
 add-k c =
     let l = c .before .before .before .before .before .before .before .before .before .before in
-    let e = rows-left (c .before .before .before .before .before .before .before .before .before .before .before .before .args .rows) (c .before .before .before .before .before .before .before .before .before .before .before .before .args .columns) (l .loop .i) (omega arith) in
+    let e =
+    rows-left (c .before .before .before .before .before .before .before .before .before .before .before .before .args .rows)
+    (c .before .before .before .before .before .before .before .before .before .before .before .before .args .columns) (l .loop .i) (omega arith) in
     search needs
 
 loop-again : tie.Need-loop-again Inv-loop μ-loop

@@ -7,7 +7,13 @@ use Rattle.writing.proofs.numbers.put_value.Tie as tie
 
 returns : tie.Need-returns
 unfolding valueText
-returns c = puts-then (c .before .before .before .before .before .before .before .before .before .before .before .before .before .before .before .before .before .before .before .before .before .before .before .before .before .before .before .before .before .put .ensures) (puts-then (c .before .before .before .before .before .before .before .before .before .before .before .before .before .before .before .before .before .before .before .before .before .before .before .before .before .put2 .ensures) (puts-then (c .before .before .before .before .before .before .before .before .before .before .before .before .before .before .before .before .before .before .before .before .put3 .ensures) (puts-then (c .before .before .before .before .before .before .before .before .before .before .before .before .before .before .before .before .put-row .ensures) (puts-then (c .before .before .before .before .before .before .before .before .before .before .before .put4 .ensures) (puts-then (c .before .before .before .before .before .before .before .put5 .ensures) (c .before .before .put6 .ensures))))))
+returns c =
+    let t = c .before .before .before .before .before .before .before in
+    let u = t .before .before .before .before in
+    let v = u .before .before .before .before .before in
+    puts-then (v .before .before .before .before .before .before .before .before .before .before .before .before .before .put .ensures)
+    (puts-then (v .before .before .before .before .before .before .before .before .before .put2 .ensures)
+    (puts-then (v .before .before .before .before .put3 .ensures) (puts-then (v .put-row .ensures) (puts-then (u .put4 .ensures) (puts-then (t .put5 .ensures) (c .before .before .put6 .ensures))))))
 
 pub put-value-spec : {M : Type 1} → statement M
 put-value-spec =
