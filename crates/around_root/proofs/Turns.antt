@@ -42,7 +42,8 @@ module _ (s : List ℕ) (at i : ℕ) where
   unfolding prologue
   root-run b = loop-passed s at toRootP tt (λ j e l. ap after (between-misc strayEnd rootFault (λ w. ret w) s j e l)) (b .passed)
 
-  root-stops : {item : Item} → Behind s at item i → (r : Scan) → Failed r → before-root .run (drop i s) ≡ scanOut (λ e. close) s r → Inside 1 s i r → Reads 1 (prologue .run) noValue s at r
+  root-stops : {item : Item} → Behind s at item i → (r : Scan) → Failed r → before-root .run (drop i s) ≡ scanOut (λ e. close) s r → Inside 1 s i r
+      → Reads 1 (prologue .run) noValue s at r
   root-stops b (At e) f q n = absurd f
   root-stops b (Fault k p) f q n = record {
     out = sym (root-run b ∙ loop-fault toRootP tt (drop i s) k (drop p s) (ap after q));

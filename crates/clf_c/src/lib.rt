@@ -67,14 +67,14 @@ pub extern "C" fn clf_apply(
 {
     if pixels.len() % 3 != 0 {
         return FileCheck {
-            number: refusals::NOT_THREES,
+            number: 14,
             place: 0,
         };
     }
     let first = pixel_run::first_not_finite(pixels);
     if first < pixels.len() {
         return FileCheck {
-            number: refusals::NOT_FINITE,
+            number: 15,
             place: first as u64,
         };
     }

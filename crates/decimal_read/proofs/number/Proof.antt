@@ -4,12 +4,6 @@ use borrow.Author.Needs.{needs}
 use Rattle.decimal_read.proofs.number.Statement.{statement}
 use Rattle.decimal_read.proofs.number.Tie as tie
 
-returns : tie.Need-returns
-returns c = search read-none
-
-returns-2 : tie.Need-returns-2
-returns-2 c = search read-some
-
 pub number-spec : {M : Type 1} → statement M
 number-spec =
     tie.close
@@ -18,8 +12,8 @@ number-spec =
     (λ c κs. search needs)
     (λ c κs. search needs)
     (λ c. search needs)
-    returns
+    (λ c. search read-none)
     (λ c κs. search needs)
     (λ c κs. search needs)
     (λ c κs. search needs)
-    returns-2)
+    (λ c. search read-some))

@@ -10,14 +10,14 @@ Inv-loop value c₀ z₀ c z = Stripping value c z
 abbrev μ-loop : tie.MeasureT-loop
 μ-loop value c₀ z₀ c z = c
 
-loop-holds : tie.Need-loop-holds Inv-loop μ-loop
-loop-holds c = search strip-start
-
-loop-again : tie.Need-loop-again Inv-loop μ-loop
-loop-again c = search strip-more
-
-returns : tie.Need-returns Inv-loop μ-loop
-returns c = strip-done _ _ _ (c .before .before .pre .0) (c .before .before .pre .1) (c .before .loop .inv) (c .loop-test .left)
-
 pub strip-spec : {M : Type 1} → statement M
-strip-spec = tie.close (tie.spec Inv-loop μ-loop loop-holds (λ c. search needs) (λ c. search needs) loop-again returns)
+strip-spec =
+    tie.close
+    (tie.spec
+    Inv-loop
+    μ-loop
+    (λ c. search strip-start)
+    (λ c. search needs)
+    (λ c. search needs)
+    (λ c. search strip-more)
+    (λ c. strip-done _ _ _ (c .before .before .pre .0) (c .before .before .pre .1) (c .before .loop .inv) (c .loop-test .left)))

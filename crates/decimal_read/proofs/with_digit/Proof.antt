@@ -4,15 +4,16 @@ use borrow.Author.Needs.{needs}
 use Rattle.decimal_read.proofs.with_digit.Statement.{statement}
 use Rattle.decimal_read.proofs.with_digit.Tie as tie
 
-returns : tie.Need-returns
-returns c = (search held-small, search needs, search needs)
-
-returns-2 : tie.Need-returns-2
-returns-2 c = (search held-zero, search needs, search needs)
-
-returns-3 : tie.Need-returns-3
-returns-3 c = (search held-lost, search needs, search needs)
-
 pub with-digit-spec : {M : Type 1} → statement M
 with-digit-spec =
-    tie.close (tie.spec (λ c. search needs) (λ c. search needs) (λ c. search needs) (λ c. search needs) returns (λ c. search needs) returns-2 (λ c. search needs) returns-3)
+    tie.close
+    (tie.spec
+    (λ c. search needs)
+    (λ c. search needs)
+    (λ c. search needs)
+    (λ c. search needs)
+    (λ c. (search held-small, search needs, search needs))
+    (λ c. search needs)
+    (λ c. (search held-zero, search needs, search needs))
+    (λ c. search needs)
+    (λ c. (search held-lost, search needs, search needs)))

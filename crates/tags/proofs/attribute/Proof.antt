@@ -12,12 +12,6 @@ attribute-named-requires c κs =
 returns : tie.Need-returns
 returns c = attribute-named _ _ _ _ _ _ (rw (c .before .before .r .given .1) at (c .before .before .before .before .name .ensures)) (c .attribute-named .ensures)
 
-returns-2 : tie.Need-returns-2
-returns-2 c = attribute-fault _ _ _ _ _ _ (rw (c .before .r2 .given .1) at (c .before .before .before .name .ensures))
-
-returns-3 : tie.Need-returns-3
-returns-3 c = attribute-cut _ _ _ _ (rw (c .enum-told .given .1) at (c .before .before .name .ensures))
-
 pub attribute-spec : {M : Type 1} → statement M
 attribute-spec =
     tie.close
@@ -28,5 +22,5 @@ attribute-spec =
     (λ c. search needs)
     (λ c. search needs)
     returns
-    returns-2
-    returns-3)
+    (λ c. attribute-fault _ _ _ _ _ _ (rw (c .before .r2 .given .1) at (c .before .before .before .name .ensures)))
+    (λ c. attribute-cut _ _ _ _ (rw (c .enum-told .given .1) at (c .before .before .name .ensures))))

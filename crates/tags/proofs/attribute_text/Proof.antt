@@ -1,15 +1,8 @@
-use native.Mathlib.Omega.{arith}
 use Rattle.tags.specs.Rules.{rulesOf}
 use Rattle.tags.proofs.AttributeLaws.{text-bad, text-cut, text-done, text-fault, text-ended}
 use borrow.Author.Needs.{needs}
 use Rattle.tags.proofs.attribute_text.Statement.{statement}
 use Rattle.tags.proofs.attribute_text.Tie as tie
-
-sub-text-to : tie.Need-sub-text-to
-sub-text-to c = omega (arith, c .before .pre)
-
-shared-slice-read-text-to : tie.Need-shared-slice-read-text-to
-shared-slice-read-text-to c = omega (arith, c .before .before .pre)
 
 returns : tie.Need-returns
 returns c =
@@ -50,8 +43,8 @@ pub attribute-text-spec : {M : Type 1} → statement M
 attribute-text-spec =
     tie.close
     (tie.spec
-    sub-text-to
-    shared-slice-read-text-to
+    (λ c. search needs)
+    (λ c. search needs)
     (λ c κs. search needs)
     (λ c. search needs)
     (λ c κs. search needs)

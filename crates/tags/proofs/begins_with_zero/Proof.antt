@@ -3,16 +3,10 @@ use borrow.Author.Needs.{needs}
 use Rattle.tags.proofs.begins_with_zero.Statement.{statement}
 use Rattle.tags.proofs.begins_with_zero.Tie as tie
 
-returns : tie.Need-returns
-returns c = zero-none (c .before .args .text .now) (c .if1 .taken)
-
-returns-2 : tie.Need-returns-2
-returns-2 c = zero-some (c .before .before .args .text .now) (c .before .if1 .left)
-
 pub begins-with-zero-spec : {M : Type 1} → statement M
 begins-with-zero-spec =
     tie.close
     (tie.spec
-    returns
+    (λ c. zero-none (c .before .args .text .now) (c .if1 .taken))
     (λ c. search needs)
-    returns-2)
+    (λ c. zero-some (c .before .before .args .text .now) (c .before .if1 .left)))

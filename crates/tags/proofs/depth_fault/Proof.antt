@@ -2,12 +2,6 @@ use borrow.Author.Needs.{needs}
 use Rattle.tags.proofs.depth_fault.Statement.{statement}
 use Rattle.tags.proofs.depth_fault.Tie as tie
 
-returns : tie.Need-returns
-returns c = rw (← c .before .before .before .depth-of .ensures, c .before .d .given .1)
-
-returns-2 : tie.Need-returns-2
-returns-2 c = rw (← c .before .before .depth-of .ensures, c .enum-told .given .1)
-
 pub depth-fault-spec : {M : Type 1} → statement M
 depth-fault-spec =
     tie.close
@@ -15,5 +9,5 @@ depth-fault-spec =
     (λ c κs. search needs)
     (λ c. search needs)
     (λ c. search needs)
-    returns
-    returns-2)
+    (λ c. rw (← c .before .before .before .depth-of .ensures, c .before .d .given .1))
+    (λ c. rw (← c .before .before .depth-of .ensures, c .enum-told .given .1)))

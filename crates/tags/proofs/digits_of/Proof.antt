@@ -3,7 +3,7 @@ use mathlib.Core.Path.{sym, _∙_}
 use Prim.Native.Nat.{_-_}
 use lib.ListN.{length}
 use borrow.Author.Tests.{not-true, not-false}
-use Rattle.tags.proofs.Dims.{DigitsInv, digits-start, digits-more, digits-stop, digits-end}
+use Rattle.tags.proofs.Dims.{DigitsInv, digits-more, digits-stop, digits-end}
 use borrow.Author.Needs.{needs}
 use Rattle.tags.proofs.digits_of.Statement.{statement}
 use Rattle.tags.proofs.digits_of.Tie as tie
@@ -14,21 +14,12 @@ Inv-loop text n₀ i₀ n i = DigitsInv text n i
 abbrev μ-loop : tie.MeasureT-loop
 μ-loop text n₀ i₀ n i = length text - i
 
-loop-holds : tie.Need-loop-holds Inv-loop μ-loop
-loop-holds c = digits-start _
-
 returns : tie.Need-returns Inv-loop μ-loop
 returns c = digits-stop _ _ _ (c .before .before .before .before .loop .inv) (omega arith) (sym (c .before .is-digit .ensures) ∙ not-true _ (c .if1 .taken))
-
-loop-less : tie.Need-loop-less Inv-loop μ-loop
-loop-less c = omega arith
 
 loop-again : tie.Need-loop-again Inv-loop μ-loop
 loop-again c =
     digits-more _ _ _ (c .before .before .before .before .before .loop .inv) _ (omega arith) (sym (c .before .before .is-digit .ensures) ∙ not-false _ (c .before .if1 .left)) (c .with-digit .ensures)
-
-returns-2 : tie.Need-returns-2 Inv-loop μ-loop
-returns-2 c = digits-end _ _ _ (c .before .loop .inv) (omega arith)
 
 pub digits-of-spec : {M : Type 1} → statement M
 digits-of-spec =
@@ -36,12 +27,12 @@ digits-of-spec =
     (tie.spec
     Inv-loop
     μ-loop
-    loop-holds
+    (λ c. search needs)
     (λ c. search needs)
     (λ c κs. search needs)
     returns
     (λ c κs. search needs)
     (λ c. search needs)
-    loop-less
+    (λ c. search needs)
     loop-again
-    returns-2)
+    (λ c. digits-end _ _ _ (c .before .loop .inv) (omega arith)))

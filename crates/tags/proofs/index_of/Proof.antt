@@ -27,12 +27,6 @@ returns-2 c =
     index-found (u .args .s .now) (u .args .t2) (u .args .w .now) (t .loop .i) (t .loop .inv .2) (omega arith) (omega arith)
     (rw (c .before .before .part .ensures) at (sym (c .before .same-name .ensures) ∙ c .if2 .taken))
 
-add-i : tie.Need-add-i Inv-loop μ-loop
-add-i c = omega arith
-
-loop-less : tie.Need-loop-less Inv-loop μ-loop
-loop-less c = omega arith
-
 loop-again : tie.Need-loop-again Inv-loop μ-loop
 loop-again c =
     let t = c .before .before .before .before .before .before .before in
@@ -63,7 +57,7 @@ index-of-spec =
     (λ c κs. search needs)
     (λ c κs. search needs)
     returns-2
-    add-i
-    loop-less
+    (λ c. search needs)
+    (λ c. search needs)
     loop-again
     returns-3)

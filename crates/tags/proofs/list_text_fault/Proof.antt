@@ -1,13 +1,8 @@
+use Rattle.scanning.specs.Steps.{scan}
 use borrow.Author.Tests.{eq-eqb, ne-eqb}
 use borrow.Author.Needs.{needs}
 use Rattle.tags.proofs.list_text_fault.Statement.{statement}
 use Rattle.tags.proofs.list_text_fault.Tie as tie
-
-returns : tie.Need-returns
-returns c = rw (← c .before .before .same .ensures, c .before .if1 .taken, eq-eqb _ _ (c .if2 .taken))
-
-returns-2 : tie.Need-returns-2
-returns-2 c = rw (← c .before .before .same .ensures, c .before .if1 .taken, ne-eqb _ _ (c .if2 .left))
 
 returns-3 : tie.Need-returns-3
 returns-3 c =
@@ -15,21 +10,18 @@ returns-3 c =
     let u = t .before .before .before in
     rw (← u .before .same .ensures, u .if1 .left, ← t .before .same2 .ensures, t .if3 .taken, c .unless .ensures, c .before .same3 .ensures)
 
-returns-4 : tie.Need-returns-4
-returns-4 c = rw (← c .before .before .before .before .same .ensures, c .before .before .before .if1 .left, ← c .before .same2 .ensures, c .if3 .left)
-
 pub list-text-fault-spec : {M : Type 1} → statement M
 list-text-fault-spec =
     tie.close
     (tie.spec
     (λ c. search needs)
     (λ c κs. search needs)
-    returns
-    returns-2
+    (λ c. rw (← c .before .before .same .ensures, c .before .if1 .taken, eq-eqb _ _ (c .if2 .taken)))
+    (λ c. rw (← c .before .before .same .ensures, c .before .if1 .taken, ne-eqb _ _ (c .if2 .left)))
     (λ c. search needs)
     (λ c κs. search needs)
     (λ c. search needs)
     (λ c κs. search needs)
     (λ c κs. search needs)
     returns-3
-    returns-4)
+    (λ c. search scan))

@@ -1,12 +1,7 @@
+use Rattle.scanning.specs.Steps.{scan}
 use borrow.Author.Needs.{needs}
 use Rattle.tags.proofs.lut_dim_fault.Statement.{statement}
 use Rattle.tags.proofs.lut_dim_fault.Tie as tie
-
-returns : tie.Need-returns
-returns c = rw (← c .before .before .same .ensures, c .before .if1 .taken, c .lut-shape-fault .ensures)
-
-returns-2 : tie.Need-returns-2
-returns-2 c = rw (← c .before .same .ensures, c .if1 .left)
 
 pub lut-dim-fault-spec : {M : Type 1} → statement M
 lut-dim-fault-spec =
@@ -15,5 +10,5 @@ lut-dim-fault-spec =
     (λ c. search needs)
     (λ c κs. search needs)
     (λ c κs. search needs)
-    returns
-    returns-2)
+    (λ c. search scan)
+    (λ c. search scan))

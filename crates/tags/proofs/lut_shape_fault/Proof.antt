@@ -2,12 +2,6 @@ use borrow.Author.Needs.{needs}
 use Rattle.tags.proofs.lut_shape_fault.Statement.{statement}
 use Rattle.tags.proofs.lut_shape_fault.Tie as tie
 
-returns : tie.Need-returns
-returns c = rw (← c .before .before .before .shape-of .ensures, c .before .shape .given .1)
-
-returns-2 : tie.Need-returns-2
-returns-2 c = rw (← c .before .before .shape-of .ensures, c .enum-told .given .1)
-
 pub lut-shape-fault-spec : {M : Type 1} → statement M
 lut-shape-fault-spec =
     tie.close
@@ -15,5 +9,5 @@ lut-shape-fault-spec =
     (λ c κs. search needs)
     (λ c. search needs)
     (λ c. search needs)
-    returns
-    returns-2)
+    (λ c. rw (← c .before .before .before .shape-of .ensures, c .before .shape .given .1))
+    (λ c. rw (← c .before .before .shape-of .ensures, c .enum-told .given .1)))

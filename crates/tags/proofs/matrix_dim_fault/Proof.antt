@@ -1,3 +1,4 @@
+use Rattle.scanning.specs.Steps.{scan}
 use Rattle.tags.proofs.Words.{matrixShape·fault}
 use borrow.Author.Needs.{needs}
 use Rattle.tags.proofs.matrix_dim_fault.Statement.{statement}
@@ -5,9 +6,6 @@ use Rattle.tags.proofs.matrix_dim_fault.Tie as tie
 
 returns : tie.Need-returns
 returns c = rw (← c .before .before .before .before .before .same .ensures, c .before .before .before .before .if1 .taken, c .unless .ensures, c .before .either .ensures, matrixShape·fault)
-
-returns-2 : tie.Need-returns-2
-returns-2 c = rw (← c .before .same .ensures, c .if1 .left)
 
 pub matrix-dim-fault-spec : {M : Type 1} → statement M
 matrix-dim-fault-spec =
@@ -20,4 +18,4 @@ matrix-dim-fault-spec =
     (λ c κs. search needs)
     (λ c κs. search needs)
     returns
-    returns-2)
+    (λ c. search scan))

@@ -1,10 +1,8 @@
+use Rattle.scanning.specs.Steps.{scan}
 use Rattle.tags.proofs.Lists.{sixteen, fewer}
 use borrow.Author.Needs.{needs}
 use Rattle.tags.proofs.name_fault.Statement.{statement}
 use Rattle.tags.proofs.name_fault.Tie as tie
-
-returns : tie.Need-returns
-returns c = rw (← c .before .is-named .ensures, c .if1 .taken)
 
 returns-2 : tie.Need-returns-2
 returns-2 c =
@@ -22,7 +20,7 @@ name-fault-spec =
     tie.close
     (tie.spec
     (λ c κs. search needs)
-    returns
+    (λ c. search scan)
     returns-2
     (λ c κs. search needs)
     returns-3)

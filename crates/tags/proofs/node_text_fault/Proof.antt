@@ -1,12 +1,7 @@
+use Rattle.scanning.specs.Steps.{scan}
 use borrow.Author.Needs.{needs}
 use Rattle.tags.proofs.node_text_fault.Statement.{statement}
 use Rattle.tags.proofs.node_text_fault.Tie as tie
-
-returns : tie.Need-returns
-returns c = rw (← c .before .before .either .ensures, c .before .if1 .taken, c .depth-fault .ensures)
-
-returns-2 : tie.Need-returns-2
-returns-2 c = rw (← c .before .either .ensures, c .if1 .left)
 
 pub node-text-fault-spec : {M : Type 1} → statement M
 node-text-fault-spec =
@@ -16,5 +11,5 @@ node-text-fault-spec =
     (λ c. search needs)
     (λ c κs. search needs)
     (λ c κs. search needs)
-    returns
-    returns-2)
+    (λ c. search scan)
+    (λ c. search scan))

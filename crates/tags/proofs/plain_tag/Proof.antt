@@ -6,18 +6,12 @@ use borrow.Author.Needs.{needs}
 use Rattle.tags.proofs.plain_tag.Statement.{statement}
 use Rattle.tags.proofs.plain_tag.Tie as tie
 
-returns : tie.Need-returns
-returns c = open-at-once _ _ (c .before .before .if1 .taken) (c .if2 .taken)
-
-returns-2 : tie.Need-returns-2
-returns-2 c = plainly _ _ _ (ends-as (rulesOf Plain) _ _ (c .start-tag .result) (c .start-tag .ensures .0) (c .start-tag .ensures .1))
-
 pub plain-tag-spec : {M : Type 1} → statement M
 plain-tag-spec =
     tie.close
     (tie.spec
     (λ c. search needs)
     (λ c. search needs)
-    returns
+    (λ c. open-at-once _ _ (c .before .before .if1 .taken) (c .if2 .taken))
     (λ c κs. search needs)
-    returns-2)
+    (λ c. plainly _ _ _ (ends-as (rulesOf Plain) _ _ (c .start-tag .result) (c .start-tag .ensures .0) (c .start-tag .ensures .1))))

@@ -5,12 +5,6 @@ use borrow.Author.Needs.{needs}
 use Rattle.tags.proofs.quote.Statement.{statement}
 use Rattle.tags.proofs.quote.Tie as tie
 
-returns : tie.Need-returns
-returns c = quote-failed _ _ _ (failed (c .before .spaces .result) (c .match .keys2)) (c .before .spaces .ensures)
-
-returns-2 : tie.Need-returns-2
-returns-2 c = quote-cut _ _ _ (rw (c .before .before .r .given .1) at (c .before .before .before .before .spaces .ensures)) (c .if1 .taken)
-
 returns-3 : tie.Need-returns-3
 returns-3 c =
     let t = c .before .before .before in
@@ -27,8 +21,8 @@ quote-spec =
     (tie.spec
     (λ c κs. search needs)
     (λ c. search needs)
-    returns
-    returns-2
+    (λ c. quote-failed _ _ _ (failed (c .before .spaces .result) (c .match .keys2)) (c .before .spaces .ensures))
+    (λ c. quote-cut _ _ _ (rw (c .before .before .r .given .1) at (c .before .before .before .before .spaces .ensures)) (c .if1 .taken))
     (λ c. search needs)
     (λ c κs. search needs)
     (λ c. search needs)

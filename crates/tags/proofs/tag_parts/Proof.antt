@@ -14,27 +14,12 @@ Inv-loop s at kind attributes₀ spaced₀ i₀ attributes spaced i = TagInv (ru
 abbrev μ-loop : tie.MeasureT-loop
 μ-loop s at kind attributes₀ spaced₀ i₀ attributes spaced i = length s - i
 
-loop-holds : tie.Need-loop-holds Inv-loop μ-loop
-loop-holds c = rw (c .no-attributes .ensures) (tag-start _ _ _)
-
-shared-slice-read-b : tie.Need-shared-slice-read-b Inv-loop μ-loop
-shared-slice-read-b c = omega arith
-
-add-i : tie.Need-add-i Inv-loop μ-loop
-add-i c = omega arith
-
-loop-less : tie.Need-loop-less Inv-loop μ-loop
-loop-less c = omega arith
-
 loop-again : tie.Need-loop-again Inv-loop μ-loop
 loop-again c =
     let t = c .before .before .before in
     let u = t .before .before .before .before in
     tag-space (rulesOf (u .args .kind)) (u .args .s .now) (u .args .at) (t .before .loop .attributes) (t .before .loop .spaced) (t .before .loop .i) (t .before .loop .inv) (t .loop-test .taken)
     (sym (c .before .is-space .ensures) ∙ c .if1 .taken)
-
-open-end-requires : tie.Need-open-end-requires Inv-loop μ-loop
-open-end-requires c κs = c .before .before .before .before .loop-test .taken
 
 returns : tie.Need-returns Inv-loop μ-loop
 returns c =
@@ -44,9 +29,6 @@ returns c =
     tag-open (rulesOf (v .args .kind)) (v .args .s .now) (v .args .at) (u .loop .attributes) (u .loop .spaced) (u .loop .i) (u .loop .inv) (t .before .before .loop-test .taken)
     (sym (t .is-space .ensures) ∙ c .before .before .if1 .left) (c .before .if2 .taken) _ (c .open-end .ensures)
 
-empty-end-requires : tie.Need-empty-end-requires Inv-loop μ-loop
-empty-end-requires c κs = c .before .before .before .before .before .loop-test .taken
-
 returns-2 : tie.Need-returns-2 Inv-loop μ-loop
 returns-2 c =
     let t = c .before .before .before in
@@ -54,12 +36,6 @@ returns-2 c =
     let v = u .before .before .before .before in
     tag-empty (rulesOf (v .args .kind)) (v .args .s .now) (v .args .at) (u .before .loop .attributes) (u .before .loop .spaced) (u .before .loop .i) (u .before .loop .inv) (u .loop-test .taken)
     (sym (t .before .is-space .ensures) ∙ t .if1 .left) (c .before .before .if2 .left) (c .before .if3 .taken) _ (c .empty-end .ensures)
-
-add-i-2 : tie.Need-add-i-2 Inv-loop μ-loop
-add-i-2 c = omega (arith, (rw (c .before .before .a .given .1) at (c .before .before .before .before .attribute .ensures)) .1)
-
-loop-less-2 : tie.Need-loop-less-2 Inv-loop μ-loop
-loop-less-2 c = omega (arith, (rw (c .before .before .a .given .1) at (c .before .before .before .before .attribute .ensures)) .1)
 
 loop-again-2 : tie.Need-loop-again-2 Inv-loop μ-loop
 loop-again-2 c =
@@ -109,21 +85,21 @@ tag-parts-spec =
     Inv-loop
     μ-loop
     (λ c κs. search needs)
-    loop-holds
-    shared-slice-read-b
+    (λ c. rw (c .no-attributes .ensures) (tag-start _ _ _))
+    (λ c. search needs)
     (λ c κs. search needs)
-    add-i
-    loop-less
+    (λ c. search needs)
+    (λ c. search needs)
     loop-again
-    open-end-requires
+    (λ c κs. search needs)
     returns
-    empty-end-requires
+    (λ c κs. search needs)
     returns-2
     (λ c κs. search needs)
     (λ c. search needs)
     (λ c κs. search needs)
-    add-i-2
-    loop-less-2
+    (λ c. omega (arith, (rw (c .before .before .a .given .1) at (c .before .before .before .before .attribute .ensures)) .1))
+    (λ c. omega (arith, (rw (c .before .before .a .given .1) at (c .before .before .before .before .attribute .ensures)) .1))
     loop-again-2
     (λ c. search needs)
     returns-3

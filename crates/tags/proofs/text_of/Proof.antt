@@ -3,12 +3,6 @@ use borrow.Author.Needs.{needs}
 use Rattle.tags.proofs.text_of.Statement.{statement}
 use Rattle.tags.proofs.text_of.Tie as tie
 
-returns : tie.Need-returns
-returns c = text-found _ _ _ _ (c .before .before .before .index-of .ensures) (c .before .before .if1 .taken)
-
-returns-2 : tie.Need-returns-2
-returns-2 c = text-missing _ _ _ _ (c .before .index-of .ensures) (c .if1 .left)
-
 pub text-of-spec : {M : Type 1} → statement M
 text-of-spec =
     tie.close
@@ -18,5 +12,5 @@ text-of-spec =
     (λ c. search needs)
     (λ c. search needs)
     (λ c. search needs)
-    returns
-    returns-2)
+    (λ c. text-found _ _ _ _ (c .before .before .before .index-of .ensures) (c .before .before .if1 .taken))
+    (λ c. text-missing _ _ _ _ (c .before .index-of .ensures) (c .if1 .left)))

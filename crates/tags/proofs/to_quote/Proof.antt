@@ -4,9 +4,6 @@ use borrow.Author.Needs.{needs}
 use Rattle.tags.proofs.to_quote.Statement.{statement}
 use Rattle.tags.proofs.to_quote.Tie as tie
 
-returns : tie.Need-returns
-returns c = to-failed _ _ _ (failed (c .before .spaces .result) (c .match .keys2)) (c .before .spaces .ensures)
-
 returns-2 : tie.Need-returns-2
 returns-2 c =
     let t = c .before .before .before in
@@ -23,7 +20,7 @@ to-quote-spec =
     (tie.spec
     (λ c κs. search needs)
     (λ c. search needs)
-    returns
+    (λ c. to-failed _ _ _ (failed (c .before .spaces .result) (c .match .keys2)) (c .before .spaces .ensures))
     (λ c κs. search needs)
     (λ c. search needs)
     returns-2

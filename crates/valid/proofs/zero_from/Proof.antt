@@ -10,7 +10,7 @@ use Rattle.valid.proofs.zero_from.Tie as tie
 
 coefficients-zero-requires : tie.Need-coefficients-zero-requires
 unfolding roomLength
-coefficients-zero-requires c κs = omega arith
+coefficients-zero-requires c κs = search needs
 
 returns : tie.Need-returns
 unfolding zeroFrom
@@ -20,7 +20,7 @@ returns c =
 
 powers-zero-requires : tie.Need-powers-zero-requires
 unfolding roomLength
-powers-zero-requires c κs = omega arith
+powers-zero-requires c κs = search needs
 
 returns-2 : tie.Need-returns-2
 unfolding zeroFrom
