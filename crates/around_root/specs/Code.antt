@@ -9,10 +9,11 @@ use Rattle.xml.specs.declared.Scan.{Scan}
 use Rattle.xml.specs.declared.Scan.the-variants.{At, Fault}
 use Rattle.tags.specs.Code.{partIn}
 use Rattle.clf.specs.List.{declaration, prologue}
+use Rattle.refusals.specs.Refusals as Refusal
 
 -- the declaration, and what stands before the root, to the end of its name
 unfoldable pub beforeRoot : Parser (Unit {0})
-beforeRoot s = thenOut (blameOut ((word declaration 3) .run s) s) (λ u. prologue .run)
+beforeRoot s = thenOut (blameOut ((word declaration Refusal.formNotCarried) .run s) s) (λ u. prologue .run)
 
 -- a start tag before the root, whose `<` stands at `at` and whose name ends at e: the root's own, or 5
 unfoldable pub rootScan : List ℕ → ℕ → ℕ → Scan

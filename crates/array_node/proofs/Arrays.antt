@@ -1,14 +1,14 @@
 -- An Array, the children of a Matrix or LUT1D, and the node, by their parts. Assumes nothing.
 use mathlib.Core.Path.{_≡_, refl, sym, ap, _∙_, subst}
 use mathlib.Core.Bool.{Bool, true, false, cond, _||_}
-use mathlib.Core.List.{List, [], _∷_, _++_}
+use mathlib.Core.List.{List, []}
 use mathlib.Core.Option.{Option, none, some}
-use Prim.Native.Nat.{ℕ, suc, _+_, _≤_}
+use Prim.Native.Nat.{ℕ, _+_, _≤_}
 use native.Mathlib.Omega.{arith}
 use native.Mathlib.Nat.{add-zero}
-use lib.ListN.{length, drop}
+use lib.ListN.{length}
 use Rattle.decimal.specs.declared.Decimal.{Decimal}
-use Rattle.grammar.specs.Parse.{Out, done, fault, cut, Parser, bindP, retP, badP}
+use Rattle.grammar.specs.Parse.{fault, Parser, bindP, retP}
 use Rattle.grammar.specs.Laws.{nope}
 use Rattle.process_list.specs.declared.Kind.{Kind}
 use Rattle.process_list.specs.declared.Kind.the-variants.{Matrix}
@@ -26,7 +26,7 @@ use Rattle.tags.specs.Ended.{tagOf}
 use Rattle.tags.specs.declared.StartTag.{StartTag}
 use Rattle.values.specs.Code.{Laid, NumbersRead}
 use Rattle.clf.specs.Numbers.{numbers, anyNumber}
-use Rattle.clf.specs.Nodes.{isSome, arrayRules, arrayOf, array, ArrayState, noArray, arrayBody, tableNode, nodeRules, matrix, lut1d, Table}
+use Rattle.clf.specs.Nodes.{isSome, arrayRules, arrayOf, array, ArrayState, noArray, tableNode, nodeRules, matrix, lut1d, Table}
 use Rattle.node_parts.specs.Code.{NumbersIn, finishedNode, failedNode, NodeReads}
 use Rattle.node_parts.specs.Held.{Went, Goes, HeldAt, ReadsTo}
 use Rattle.node_parts.specs.declared.NodeStep.{NodeStep}

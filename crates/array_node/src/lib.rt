@@ -1,5 +1,4 @@
 // Matrix and LUT1D: Descriptions, then one Array, whose numbers go into the table room from `base` on.
-ghost use Rattle.process_list.specs.List.{Element};
 ghost use mathlib.Core.Path.{_≡_};
 ghost use mathlib.Core.Bool.{cond};
 ghost use Prim.Native.Nat.{_+_, _≤_};
@@ -267,7 +266,8 @@ pub fn table_node(
     powers: &mut [i8],
     base: usize,
 ) -> NodeStep
-    ensures { λ r. ⌜ NodeReads ((Code.nodeFor table) .run) (now (s .entry)) at base r (lent (now (coefficients .entry)) (now (powers .entry))) (lent (now (coefficients .exit)) (now (powers .exit))) ⌝ }
+    ensures { λ r. ⌜ NodeReads ((Code.nodeFor table) .run) (now (s .entry)) at base r
+        (lent (now (coefficients .entry)) (now (powers .entry))) (lent (now (coefficients .exit)) (now (powers .exit))) ⌝ }
 {
     let tag = tags::start_tag(s, at, node_tag(table));
     let end = tag.end;

@@ -2,13 +2,13 @@
 use mathlib.Core.Path.{_≡_, refl, sym, ap, _∙_, subst}
 use mathlib.Core.Bool.{Bool, true, false, cond}
 use mathlib.Core.List.{List, [], _∷_, _++_}
-use Prim.Native.Nat.{ℕ, zero, suc, _+_, _-_, _≤_, _<_}
+use Prim.Native.Nat.{ℕ, suc, _+_, _-_, _≤_, _<_}
 use native.Mathlib.Omega.{arith}
 use lib.Dec.{eqb, ltb}
-use lib.ListN.{length, drop, length-append, length-take, length-drop}
+use lib.ListN.{length, length-append, length-take, length-drop}
 use borrow.Author.Tests.{ltb-true, ltb-false, ne-eqb, eqb-true}
 use Rattle.decimal.specs.declared.Decimal.{Decimal}
-use Rattle.grammar.specs.Parse.{Parser, bindP, retP}
+use Rattle.grammar.specs.Parse.{Parser}
 use Rattle.grammar.specs.Laws.{nope}
 use Rattle.xml.specs.Bytes.{same, bytes}
 use Rattle.xml.specs.Xml.{Tag, startTag, endTag}
@@ -20,9 +20,9 @@ use Rattle.markup.specs.Next.{Behind}
 use Rattle.markup.specs.declared.Item.the-variants as Items
 use Rattle.tags.specs.Code.{partIn}
 use Rattle.tags.proofs.Words.{part-in}
-use Rattle.values.specs.Code.{Laid, NumbersRead}
+use Rattle.values.specs.Code.{NumbersRead}
 use Rattle.clf.specs.Numbers.{valueElement}
-use Rattle.clf.specs.Nodes.{holderRules, sopName}
+use Rattle.clf.specs.Nodes.{holderRules}
 use Rattle.node_parts.specs.Code.{NumbersIn}
 use Rattle.node_parts.specs.Held.{Went, Goes, HeldAt, ReadsTo}
 use Rattle.room.specs.Room.{Room, clearedFrom}

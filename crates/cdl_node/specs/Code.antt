@@ -23,6 +23,7 @@ use Rattle.node_parts.specs.Held.{ReadsTo}
 use Rattle.cdl_node.specs.declared.CdlPart.{CdlPart}
 use Rattle.cdl_node.specs.declared.CdlPart.the-variants.{Sop, Sat}
 use Rattle.cdl_node.specs.declared.CdlStep.{CdlStep}
+use Rattle.refusals.specs.Refusals as Refusal
 
 -- ---- SOPNode and SatNode
 
@@ -45,8 +46,8 @@ baseOf Sat = 9
 
 -- the fault of a name after n numbers, and the rule on the next ones
 abbrev pub faultOf : CdlPart → ℕ → List ℕ → ℕ
-faultOf Sop n w = cond (same w (sopName n)) 0 5
-faultOf Sat n w = cond (ltb n 1) (cond (same w (bytes "Saturation")) 0 5) 5
+faultOf Sop n w = cond (same w (sopName n)) 0 Refusal.wrongElement
+faultOf Sat n w = cond (ltb n 1) (cond (same w (bytes "Saturation")) 0 Refusal.wrongElement) Refusal.wrongElement
 
 abbrev pub rulesIn : CdlPart → ℕ → Decimal → ℕ
 rulesIn Sop n = sopRule n
@@ -56,7 +57,7 @@ rulesIn Sat n = notBelowZero
 abbrev pub innerHolder : CdlPart → Holder (List Decimal)
 innerHolder part = record {
   name = nameOf part;
-  missing = λ l. cond (ltb (length l) (topOf part)) 5 0;
+  missing = λ l. cond (ltb (length l) (topOf part)) Refusal.wrongElement 0;
   fault = λ l w. faultOf part (length l) w;
   body = λ l w. seq (valueElement w (widthOf part) (rulesIn part (length l))) (λ m. ret (l ++ m));
 }
@@ -76,9 +77,9 @@ pub record InnerStands (part : CdlPart) (m₀ m₁ : Room) (count : ℕ) (l : Li
 -- the fault of a name where SOPNode and SatNode were there or not
 unfoldable pub cdlFaultOf : Bool → Bool → List ℕ → ℕ
 cdlFaultOf sop sat w =
-    cond (same w (bytes "Description")) (cond (sop || sat) 5 0)
-    (cond (same w (bytes "SOPNode")) (cond (sop || sat) 5 0)
-    (cond (same w (bytes "SatNode")) (cond sat 5 0) 5))
+    cond (same w (bytes "Description")) (cond (sop || sat) Refusal.wrongElement 0)
+    (cond (same w (bytes "SOPNode")) (cond (sop || sat) Refusal.wrongElement 0)
+    (cond (same w (bytes "SatNode")) (cond sat Refusal.wrongElement 0) Refusal.wrongElement))
 
 -- the ten numbers where nothing was read: 'Absent parts read as 1, 0, 1 and 1'
 abbrev pub absentParts : List Decimal

@@ -1,5 +1,4 @@
 // ASC_CDL: Descriptions, then an optional SOPNode, then an optional SatNode.
-ghost use Rattle.process_list.specs.List.{Element};
 ghost use mathlib.Core.Path.{_≡_};
 ghost use mathlib.Core.Bool.{cond, _||_};
 ghost use mathlib.Core.List.{List, []};

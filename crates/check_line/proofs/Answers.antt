@@ -1,5 +1,5 @@
 -- The line for what reading answers. Assumes nothing.
-use mathlib.Core.Path.{_≡_, ap, _∙_}
+use mathlib.Core.Path.{_≡_, ap}
 use mathlib.Core.List.{List, _++_, append-assoc}
 use Prim.Native.Nat.{ℕ, _≤_, _<_}
 use borrow.Author.Tests.{eq-eqb, ne-eqb, lt-ltb, le-ltb}
@@ -8,7 +8,6 @@ use Rattle.process_list.specs.List.{nodesOf, total, capped}
 use Rattle.clf.specs.Reading.{read, readingNumber, readingPlace}
 use Rattle.reading.specs.declared.Answer.{Answer}
 use Rattle.reading.specs.Code.{readingAnswer}
-use Rattle.reading.specs.Counts.{nodeCount, numberCount}
 use Rattle.reading.proofs.Counts.{answer-count, answer-numbers}
 use Rattle.decimal_write.specs.Written.{digits}
 use Rattle.xml.specs.Bytes.{bytes}

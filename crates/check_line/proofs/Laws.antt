@@ -13,7 +13,6 @@ use Rattle.reading.specs.declared.Answer.{Answer}
 use Rattle.text_out.specs.Output.{Puts}
 use Rattle.text_out.proofs.Laws.{puts-zeros}
 use Rattle.xml.specs.Bytes.{bytes}
-use Rattle.check_line.specs.declared.Line.{Line}
 use Rattle.check_line.specs.Line.{lineFrom, acceptedText, refusalText, textOf, answerText}
 
 -- the line of a text that has been put into 80 zeros

@@ -2,10 +2,10 @@
 use mathlib.Core.Path.{_≡_, refl, sym, ap, _∙_, subst}
 use mathlib.Core.Bool.{Bool, true, false, cond}
 use mathlib.Core.List.{List, [], _∷_}
-use Prim.Native.Nat.{ℕ, zero, suc, _+_, _-_, _≤_, _<_}
+use Prim.Native.Nat.{ℕ, _+_, _-_, _≤_, _<_}
 use native.Mathlib.Omega.{arith}
 use lib.Dec.{eqb, leb, ltb}
-use lib.ListN.{length, set, length-map}
+use lib.ListN.{length, set}
 use borrow.Author.Tests.{eqb-true, eqb-false, ltb-true, leb-true, le-ltb}
 use Rattle.process_list.specs.declared.Verdict.{Verdict}
 use Rattle.process_list.specs.declared.Verdict.the-variants.{Accepted, NoNode, TooManyNodes, DepthDiffers, TooManyNumbers}
@@ -16,7 +16,7 @@ use Rattle.clf.specs.Reading.{Reading, accepted, faulty, unfit, mostBytes, plac
 use Rattle.clf.specs.Reading as R
 use Rattle.look.specs.Replacing.{element, Replacing, refused, replacingBy, listed, byElement, replace, listAfter}
 use Rattle.claims.specs.TriedFile.{asReplacing, spliced, Attempt, answers, tries, trying, attemptElement, attempt, answeredBy, byAttempt, fileCall, listCall, NotBefore}
-use Rattle.claims.specs.TriedFile.{InElement, AllInElement, SmallAttempt, Small, SameRun}
+use Rattle.claims.specs.TriedFile.{InElement, SmallAttempt, Small, SameRun}
 use Rattle.claims.proofs.Sound.{and-true}
 use Rattle.claims.proofs.Spliced.{Opened, opened, spliced-done, spliced-fault}
 use Rattle.claims.proofs.Rules.{Short, read-short}

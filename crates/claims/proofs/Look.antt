@@ -2,12 +2,11 @@
 use mathlib.Core.Path.{_≡_, refl, sym, ap, _∙_, subst}
 use mathlib.Core.Bool.{true}
 use mathlib.Core.List.{List, [], _∷_, map}
-use Prim.Native.Nat.{ℕ, _≤_, min}
+use Prim.Native.Nat.{ℕ, _≤_}
 use native.Mathlib.Omega.{arith}
 use lib.ListN.{length}
 use Rattle.process_list.specs.List.{Element, nodeOf, allNumbers, verdict}
 use Rattle.process_list.proofs.Lists.{Fine, accepted-fine}
-use Rattle.room.specs.Room.{roomLength, filledWith}
 use Rattle.room.proofs.Rooms.{filled-room, filled-again}
 use Rattle.valid.specs.Valid.{isValid}
 use Rattle.valid.specs.Valid as Valid
@@ -15,7 +14,7 @@ use Rattle.valid.proofs.Readings.{all-length, reading-valid, reading-elements}
 use Rattle.valid.proofs.Readings as Readings
 use Rattle.clf.specs.Reading.{Reading, accepted, mostBytes, nodesIn, readText, read}
 use Rattle.look.specs.Replacing.{Replacing, replaced, refused, replace, listAfter}
-use Rattle.claims.specs.TriedFile.{Attempt, attempt, fileCall, listCall, fileRun, Small, SameRun}
+use Rattle.claims.specs.TriedFile.{Attempt, attempt, fileCall, listCall, fileRun, Small}
 use Rattle.look.specs.Look.{Look, roomOf, holding, replaceIn, lookAfter}
 use Rattle.claims.specs.LookRuns.{readInto, lookRun, SameLook}
 use Rattle.claims.proofs.Rules.{Short, read-short, WholeElements, text-elements}

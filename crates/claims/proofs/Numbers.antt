@@ -1,4 +1,4 @@
--- What each run of numbers that is read is: as many as asked, each in range and isNormal, and each within its rule. Assumes nothing.
+-- What each run of numbers that is read is: as many as asked, each in range and normal, and each within its rule. Assumes nothing.
 use mathlib.Core.Path.{_≡_, refl}
 use mathlib.Core.Bool.{Bool, true, false, cond}
 use mathlib.Core.List.{List, [], _∷_, _++_}

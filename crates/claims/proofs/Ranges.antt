@@ -1,7 +1,7 @@
 -- What each Range that is read is. Assumes nothing.
 use Rattle.process_list.specs.declared.RangeStyle.{RangeStyle}
 use mathlib.Core.Path.{_≡_, refl}
-use mathlib.Core.Bool.{Bool, true, false, cond, not}
+use mathlib.Core.Bool.{Bool, true, false, cond}
 use mathlib.Core.List.{List, [], _∷_}
 use mathlib.Core.Option.{Option, none, some}
 use Prim.Native.Nat.{ℕ, zero, suc}

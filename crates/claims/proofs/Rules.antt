@@ -1,25 +1,23 @@
 -- Every accepted list keeps all rules of document 01; with its room it is what refusal 16 asks for. Assumes nothing.
-use mathlib.Core.Path.{_≡_, refl, ap, _∙_}
+use mathlib.Core.Path.{_≡_, refl}
 use mathlib.Core.Bool.{Bool, true, false, cond}
-use mathlib.Core.List.{List, [], _∷_, _++_, map}
+use mathlib.Core.List.{List, map}
 use Prim.Native.Nat.{ℕ, _≤_}
 use native.Mathlib.Omega.{arith}
 use borrow.Author.Tests.{ltb-false}
 use lib.Dec.{ltb}
-use lib.ListN.{length, length-map}
-use Rattle.decimal.specs.declared.Decimal.{Decimal}
+use lib.ListN.{length}
 use Rattle.process_list.specs.declared.Verdict.the-variants.{Accepted}
-use Rattle.process_list.specs.List.{Element, nodeOf, placed, listOf, allNumbers, verdict}
+use Rattle.process_list.specs.List.{Element, nodeOf, verdict}
 use Rattle.process_list.proofs.Lists.{heads-length, Fine, accepted-fine}
-use Rattle.room.specs.Room.{Room, roomLength, filledWith}
-use Rattle.valid.specs.Valid.{every, sound, isValid}
+use Rattle.room.specs.Room.{roomLength}
+use Rattle.valid.specs.Valid.{every, sound}
 use Rattle.valid.proofs.Readings.{all-length, made}
 use Rattle.grammar.specs.Laws.{nope}
 use Rattle.clf.specs.Reading.{accepted, faulty, mostBytes, readText, read}
 use Rattle.claims.specs.Rules.{Allowed}
-use Rattle.claims.proofs.Numbers.{Each}
 use Rattle.claims.proofs.Sound.{every-true}
-use Rattle.claims.proofs.Accepted.{SoundNode, Whole, text-whole}
+use Rattle.claims.proofs.Accepted.{Whole, text-whole}
 use Rattle.claims.specs.Theorems.{AcceptedKeepsRules, AcceptedIsValid}
 
 -- what is accepted is at most 16 MiB, and accepted without that limit

@@ -19,7 +19,9 @@ answer e cut = (1, length e)
 abbrev pub alone : List ℕ → ℕ × ℕ
 alone e = answer e (element .run e)
 
-pub starts : map alone (bytes "" ∷ bytes "<" ∷ bytes "<M" ∷ bytes "<Matrix" ∷ bytes "<MatrixX" ∷ bytes "<Foo" ∷ bytes " <Matrix" ∷ bytes "<Log" ∷ bytes "<Log/>x" ∷ bytes "<Matrix$" ∷ bytes "<LUT" ∷ bytes "<LUT2" ∷ bytes "<LUT3D " ∷ bytes "<Mat$" ∷ bytes "<ASC_CDL inBitDepth='8i' outBitDepth='8i'/> " ∷ bytes "<Range/> " ∷ [])
+pub starts : map alone (
+    bytes "" ∷ bytes "<" ∷ bytes "<M" ∷ bytes "<Matrix" ∷ bytes "<MatrixX" ∷ bytes "<Foo" ∷ bytes " <Matrix" ∷ bytes "<Log" ∷ bytes "<Log/>x"
+    ∷ bytes "<Matrix$" ∷ bytes "<LUT" ∷ bytes "<LUT2" ∷ bytes "<LUT3D " ∷ bytes "<Mat$" ∷ bytes "<ASC_CDL inBitDepth='8i' outBitDepth='8i'/> " ∷ bytes "<Range/> " ∷ [])
     ≡ (1, 0) ∷ (1, 1) ∷ (1, 2) ∷ (1, 7) ∷ (20, 0) ∷ (20, 0) ∷ (20, 0) ∷ (1, 4) ∷ (7, 0) ∷ (2, 7) ∷ (1, 4) ∷ (20, 0) ∷ (7, 0) ∷ (20, 0) ∷ (0, 43) ∷ (5, 6) ∷ []
 unfolding start element loopP same isSpace isLetter isDigit isNameByte isQuote spaces name text attribute isNamed startTag matrix range ascCdl lut1d depthOf
 starts = refl

@@ -8,6 +8,7 @@ use Prim.Native.Nat.{ℕ, _≤_}
 use lib.ListN.{length}
 use Rattle.clf.specs.Reading.{faulty, listReading, readText}
 use Rattle.claims.specs.Refusals.{isTextFault}
+use Rattle.refusals.specs.Refusals as Refusal
 
 -- more bytes t behind a text without fault, whose nodes are l: the same list, or a fault of the text, which is not placed before t
 pub data Behind (room : ℕ) (s : List ℕ) (l : List Element) (t : List ℕ) : Type 0 where
@@ -17,7 +18,7 @@ pub data Behind (room : ℕ) (s : List ℕ) (l : List Element) (t : List ℕ) : 
 -- the answer for a text, and for every longer one
 pub data Longer (room : ℕ) (s : List ℕ) : Type 0 where
   -- 'bytes end inside something unfinished or before the root': 1, its place the length
-  short : readText room s ≡ faulty 1 (length s) → Longer room s
+  short : readText room s ≡ faulty Refusal.cutShort (length s) → Longer room s
   -- a fault of the text, whose number is not 1: the same number and place, whatever follows
   atFault : (k p : ℕ) → isTextFault k ≡ true → readText room s ≡ faulty k p → ((t : List ℕ) → readText room (s ++ t) ≡ faulty k p) → Longer room s
   -- no fault in the text: the list is judged

@@ -41,7 +41,7 @@ attemptElement s w e (done n (b ∷ r)) = answers (refused Refusal.notOneNode (p
 attemptElement s w e (fault j r) = cond (eqb j Refusal.notOneNode) (answers (refused Refusal.notOneNode (placeIn e r))) (trying s w e)
 attemptElement s w e cut = answers (refused Refusal.cutShort (length e))
 
--- a file without a ProcessList is no accepted file, and its list no reading: 16
+-- a file whose text is at fault or cut is no accepted file, and its list no reading: 16. From an accepted file on, no file of a run is such a one
 abbrev pub attemptIn : List ℕ → ℕ → List ℕ → Out Document → Attempt
 attemptIn s k e (done d r) =
     cond (isNumbered k (length (nodesAmong (d .parts))))

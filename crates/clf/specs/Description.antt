@@ -13,6 +13,7 @@ use Rattle.clf.specs.Reading.{Reading, accepted, faulty, unfit, placeIn,
 
 -- 'Descriptions come first in it', so the first one inside a node is its first child: behind white space and comments alone
 
+-- white space and comments are passed; an end tag is 2 for `strayEnd`, so that `close` is never taken: a node without a child ends in a fault here, and has no Description
 abbrev pub toFirst : Part (List ℕ) → Turn (Unit {0}) (List ℕ)
 toFirst misc = again tt
 toFirst (child w) = last w

@@ -73,6 +73,7 @@ listTexts w t =
     cond (same w (bytes "id")) (cond (eqb (length t) 0) Refusal.wrongAttribute 0)
     (cond (same w (bytes "compCLFversion")) (cond (same t (bytes "3.0")) 0 Refusal.wrongVersion) 0)
 
+-- one of the two that is missing is 8
 abbrev pub listMissing : List Attribute → ℕ
 listMissing l = cond (isNamed (bytes "id") l && isNamed (bytes "compCLFversion") l) 0 Refusal.wrongAttribute
 
@@ -83,6 +84,7 @@ listRules = record { names = λ w. 0; texts = listTexts; opened = listMissing; e
 abbrev pub rootFault : List ℕ → ℕ
 rootFault w = cond (same w (bytes "ProcessList")) 0 Refusal.wrongElement
 
+-- an end tag is 2 for `strayEnd`, so that `close` is never taken
 abbrev pub toRoot : Part (List ℕ) → Turn (Unit {0}) (Unit {0})
 toRoot misc = again tt
 toRoot (child w) = last tt

@@ -18,7 +18,7 @@ use Rattle.process_list.specs.declared.CdlStyle.{CdlStyle}
 use Rattle.process_list.specs.declared.CdlStyle.the-variants.{Fwd, FwdNoClamp}
 use Rattle.process_list.specs.declared.Kind.{Kind}
 use Rattle.process_list.specs.declared.Kind.the-variants.{Matrix, Lut1d, Range, Cdl}
-use Rattle.process_list.specs.List.{Element, numbersOf}
+use Rattle.process_list.specs.List.{Element, numbersOf, mostEntries}
 use Rattle.grammar.specs.Grammar.{G, ret, bad, seq, _>>=_, _>>_}
 use Rattle.xml.specs.Bytes.{bytes, same, isDigit}
 use Rattle.xml.specs.Xml.{Attribute, isNamed, textOf, Rules, plain, Tag, startTag}
@@ -84,15 +84,16 @@ abbrev pub beginsWithZero : List ℕ → Bool
 beginsWithZero [] = false
 beginsWithZero (b ∷ t) = eqb b (code "0")
 
--- '`dim` n and 1 or 3 (digits, no leading zero, one space), n from 2 to 65,536'
+-- what stands behind the digits: one space and the columns, 1 or 3; 0 where it is neither
 unfoldable pub lutColumns : List ℕ → ℕ
 lutColumns t = cond (same t (bytes " 1")) 1 (cond (same t (bytes " 3")) 3 0)
 
+-- '`dim` n and 1 or 3 (digits, no leading zero, one space), n from 2 to 65,536'
 unfoldable pub lutShape : List ℕ → Option Kind
 lutShape t =
     let n = wholeFrom 0 t in
     let c = lutColumns (behindDigits t) in
-    cond (not (beginsWithZero t) && (leb 2 n && (leb n 65536 && ltb 0 c))) (some (Lut1d n c)) none
+    cond (not (beginsWithZero t) && (leb 2 n && (leb n mostEntries && ltb 0 c))) (some (Lut1d n c)) none
 
 -- another `dim`, or none, is 8; an empty Array has too few numbers
 abbrev pub arrayRules : (List ℕ → Option Kind) → Rules
@@ -196,6 +197,7 @@ allThere st = isThere 0 st && (isThere 1 st && (isThere 2 st && isThere 3 st))
 abbrev pub inOrder : RangeState → Bool
 inOrder st = less (valueAt 0 st) (valueAt 1 st) && atMost (valueAt 2 st) (valueAt 3 st)
 
+-- which children may stand there, judged at their `<`: 'Descriptions come first', then each value 'once'; anything else is 5
 abbrev pub rangeFault : RangeState → List ℕ → ℕ
 rangeFault st w =
     cond (same w (bytes "Description")) (cond (anyThere st) Refusal.wrongElement 0)
@@ -245,7 +247,7 @@ range = do
 abbrev pub holderRules : Rules
 holderRules = record { names = λ w. 0; texts = λ w t. 0; opened = λ l. 0; emptied = λ l. Refusal.wrongElement }
 
--- the element that follows so many numbers in a SOPNode; none where it has all
+-- the element that follows so many numbers in a SOPNode: each adds three, so that there are 0, 3, 6 or 9. Behind 9 none may follow, and no name is empty
 abbrev pub sopName : ℕ → List ℕ
 sopName n = cond (eqb n 0) (bytes "Slope") (cond (eqb n 3) (bytes "Offset") (cond (eqb n 6) (bytes "Power") []))
 
@@ -257,7 +259,7 @@ abbrev pub sopHolder : Holder (List Decimal)
 sopHolder = record {
   name = bytes "SOPNode";
   missing = λ l. cond (ltb (length l) 9) Refusal.wrongElement 0;
-  fault = λ l w. cond (same w (sopName (length l))) 0 5;
+  fault = λ l w. cond (same w (sopName (length l))) 0 Refusal.wrongElement;
   body = λ l w. seq (valueElement w 3 (sopRule (length l))) (λ m. ret (l ++ m));
 }
 
@@ -282,6 +284,7 @@ pub record CdlState : Type 0 where
 abbrev pub noCdl : CdlState
 noCdl = record { sop = none; sat = none }
 
+-- which children may stand there, judged at their `<`: 'Descriptions come first', then SOPNode, then SatNode, each once; anything else is 5
 abbrev pub cdlFault : CdlState → List ℕ → ℕ
 cdlFault st w =
     cond (same w (bytes "Description")) (cond (isSome (st .sop) || isSome (st .sat)) Refusal.wrongElement 0)

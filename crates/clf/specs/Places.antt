@@ -27,7 +27,7 @@ unfoldable pub spanOf : List (Part Child × List ℕ) → ℕ → ℕ → ℕ ×
 spanOf [] k at = (at, 0)
 spanOf (x ∷ l) k at = spanPart (x .0) k at (x .1) (λ j. spanOf l j (at + length (x .1)))
 
--- where node k, from 0, stands in a file
+-- where node k, from 0, stands in a file; the empty span at 0 where the text is at fault or cut, of which nothing is asked
 abbrev pub spanDocument : ℕ → Out Document → ℕ × ℕ
 spanDocument k (done d r) = spanOf (d .parts) k (length (d .start))
 spanDocument k (fault j r) = (0, 0)

@@ -16,7 +16,8 @@ use Rattle.refusals.specs.Refusals as Refusal
 abbrev pub mostBytes : ℕ
 mostBytes = 16777216
 
--- what reading answers: the nodes; or a fault of the text, with its number and its place; or a fault of the list, with its number and the number of its node
+-- what reading answers: the nodes; or a fault of the text, with its number and its place; or a fault of the list, with its number and the number of its node (0 for 12 and 13).
+-- `faulty` is also 4, and 19 where a node is asked for: both at 0
 pub data Reading : Type 0 where
   accepted : List Element → Reading
   faulty : ℕ → ℕ → Reading

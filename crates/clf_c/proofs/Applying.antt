@@ -5,11 +5,9 @@ use mathlib.Core.List.{List}
 use Prim.Native.Nat.{ℕ, _%_, _≤_, _<_}
 use native.Mathlib.Omega.{arith}
 use borrow.Author.Tests.{eq-eqb, ne-eqb, lt-ltb, le-ltb}
-use lib.Dec.{eqb}
 use lib.ListN.{length}
 use lib.Ieee.{Float}
-use Rattle.process_list.specs.declared.ProcessList.{ProcessList}
-use Rattle.process_list.specs.List.{Element, allNumbers, nodesOf, listOf, placed}
+use Rattle.process_list.specs.List.{Element, listOf, placed}
 use Rattle.room.specs.Room.{Room, roomLength}
 use Rattle.valid.specs.Valid.{isValid}
 use Rattle.grammar.specs.Laws.{nope}
@@ -20,11 +18,11 @@ use Rattle.reading.specs.declared.Answer.{Answer}
 use Rattle.reading.specs.Code.{readingAnswer, ReadsInto}
 use Rattle.pixel_run.specs.Finite.{firstNotFinite}
 use Rattle.running.specs.declared.Ran.{Ran}
-use Rattle.running.specs.Running.{notThrees, notFinite, ran, ranOf, pixelsOf, runNodes}
+use Rattle.running.specs.Running.{notThrees, notFinite, ran, ranOf, pixelsOf}
 use Rattle.running.specs.RunningLaws.{ran-accepted, pixels-accepted}
 use Rattle.clf_c.specs.declared.FileCheck.{FileCheck}
 use Rattle.clf_c.specs.Answers.{fileCheckOf}
-use Rattle.clf_c.specs.Applying.{sliceRefused, readInto, roomRead, runThrough, answer, applyOf, roomApplied, appliedTo, Applies}
+use Rattle.clf_c.specs.Applying.{sliceRefused, readingFor, roomRead, runThrough, answer, applyOf, roomApplied, appliedTo, Applies}
 
 -- ---- the slice
 module _ (xs : List Float) where
@@ -39,7 +37,7 @@ module _ (xs : List Float) where
 
 module _ (file : List ℕ) (m₀ : Room) (xs : List Float) where
   abbrev r₀ : Reading
-  r₀ = readInto file m₀
+  r₀ = readingFor file m₀
 
   -- refused by the slice, nothing changes
   slice-refused : (number place : ℕ) → (number ≡ 0 → ⊥) → sliceRefused xs ≡ true → applyOf file m₀ xs ≡ answer number place → Applies file m₀ xs (answer number place) m₀ xs

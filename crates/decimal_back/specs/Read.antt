@@ -1,4 +1,4 @@
--- What is read can be written: a number that a token stands for is in range and isNormal. Assumes nothing.
+-- What is read can be written: a number that a token stands for is in range and normal. Assumes nothing.
 use mathlib.Core.Path.{_≡_, refl, sym, ap, _∙_, subst}
 use mathlib.Core.Bool.{Bool, true, false, cond, _&&_}
 use mathlib.Core.List.{List, _++_}
@@ -40,7 +40,8 @@ module _ (f : Form) (small : Small (f .whole ++ f .fraction)) where
   form-normal = go (eqb (Read.digits f) 0) refl
     where
       go : (t : Bool) → eqb (Read.digits f) 0 ≡ t
-          → isNormal (cond t (record { coefficient = pos 0; power = pos 0 }) (record { coefficient = withSign (f .negative) (Read.digits f / 10 ^ trailing f); power = scale f +ℤ pos (trailing f) })) ≡ true
+          → isNormal (cond t (record { coefficient = pos 0; power = pos 0 })
+          (record { coefficient = withSign (f .negative) (Read.digits f / 10 ^ trailing f); power = scale f +ℤ pos (trailing f) })) ≡ true
       go true e = unfold isNormal in refl
       go false e =
           ended (record { coefficient = withSign (f .negative) (Read.digits f / 10 ^ trailing f); power = scale f +ℤ pos (trailing f) })
@@ -60,7 +61,7 @@ none-read : (d : Decimal) (k : ℕ) → tokenBy k none ≡ Number d → ⊥
 unfolding tokenBy
 none-read d k e = let z : _≡_ {A = ℕ} 0 1 = cc in omega arith
 
--- a number that a token stands for is in range and isNormal
+-- a number that a token stands for is in range and normal
 pub read-held : (l : List ℕ) (d : Decimal) → tokenOf l ≡ Number d → (inRange d ≡ true) × (isNormal d ≡ true)
 unfolding tokenOf formOf
 read-held l d = go (leb 1 (length (digitsOf (behindSign l)) + length (fractionOf (behindDigits (behindSign l)))) && isExponent (behindFraction (behindDigits (behindSign l))))

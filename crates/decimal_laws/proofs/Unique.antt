@@ -98,7 +98,11 @@ other-normal : (f : Form) → Small (f .whole ++ f .fraction) → (digits f ≡ 
     → Normal (record { coefficient = withSign (f .negative) (digits f / 10 ^ trailing f); power = scale f +ℤ pos (trailing f) })
 other-normal f small n h =
     let s : Stripped (digits f) (digits f / 10 ^ trailing f) (trailing f) = own-pair f small n in
-    record { within = h; zero = λ e. absurd (stripped-above s n (sym (size-with (f .negative) (digits f / 10 ^ trailing f)) ∙ e)); ends = λ m e. s .ends (ap (λ (k : ℕ). k % 10) (sym (size-with (f .negative) (digits f / 10 ^ trailing f))) ∙ e) }
+    record {
+      within = h;
+      zero = λ e. absurd (stripped-above s n (sym (size-with (f .negative) (digits f / 10 ^ trailing f)) ∙ e));
+      ends = λ m e. s .ends (ap (λ (k : ℕ). k % 10) (sym (size-with (f .negative) (digits f / 10 ^ trailing f))) ∙ e);
+    }
 
 form-normal : (f : Form) → Small (f .whole ++ f .fraction) → D.inRange (normal f) ≡ true → Normal (normal f)
 form-normal f small h = go (eqb (digits f) 0) refl

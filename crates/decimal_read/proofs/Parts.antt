@@ -41,7 +41,15 @@ module _ (t : List ℕ) (w : Run) (h : w .end ≤ length t) (s : w .held .value 
   fraction-some l e r q =
       let a : fractionOf (drop (w .end) t) ≡ digitsOf (drop (w .end + 1) t) = rw (here t (w .end) l, fractionOf·cons, eq-eqb (getD t (w .end) 0) 46 e) in
       let b : behindFraction (drop (w .end) t) ≡ behindDigits (drop (w .end + 1) t) = rw (here t (w .end) l, behindFraction·cons, eq-eqb (getD t (w .end) 0) 46 e) in
-      record { held = q .held ∙ ap (heldAll (w .held)) (sym a); count = q .count ∙ ap length (sym a); rest = q .rest ∙ sym b; place = omega (arith, q .place); within = q .within; small = q .small; few = q .few }
+      record {
+        held = q .held ∙ ap (heldAll (w .held)) (sym a);
+        count = q .count ∙ ap length (sym a);
+        rest = q .rest ∙ sym b;
+        place = omega (arith, q .place);
+        within = q .within;
+        small = q .small;
+        few = q .few;
+      }
 
 -- ── The exponent ──
 

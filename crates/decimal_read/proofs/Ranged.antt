@@ -144,7 +144,8 @@ module _ (s : Bool) (c a b : ℕ) where
   ranged-is = go (leb (10 ^ 15) c) refl
     where
       go : (t : Bool) → leb (10 ^ 15) c ≡ t
-          → cond t Malformed (cond (ltb (22 + a) b) Malformed (cond (ltb (44 + b) (22 + a)) Malformed (Number (record { coefficient = withSign s c; power = pos (22 + a - b) -ℤ pos 22 })))) ≡ accepted d
+          → cond t Malformed (cond (ltb (22 + a) b) Malformed (cond (ltb (44 + b) (22 + a)) Malformed (Number (record { coefficient = withSign s c; power = pos (22 + a - b) -ℤ pos 22 })))) ≡ accepted
+          d
       go true e = refused d (big s c (subℕ a b) (leb-true (10 ^ 15) c e))
       go false e = bottom (leb-false (10 ^ 15) c e) (ltb (22 + a) b) refl
 

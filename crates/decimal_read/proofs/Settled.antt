@@ -66,7 +66,8 @@ too-large s c a b h = rw (le-leb (10 ^ 15) c h)
 
 -- ── The last step ──
 
-module _ (f : Form) (h : Held) (up down : ℕ) (small : Small (f .whole ++ f .fraction)) (fits : h .value < 10 ^ 19) (stands : Stands (digits f) h) (power : (m : ℕ) → scale f +ℤ pos m ≡ subℕ (up + m) (length (f .fraction) + down)) where
+module _ (f : Form) (h : Held) (up down : ℕ) (small : Small (f .whole ++ f .fraction)) (fits : h .value < 10 ^ 19)
+    (stands : Stands (digits f) h) (power : (m : ℕ) → scale f +ℤ pos m ≡ subℕ (up + m) (length (f .fraction) + down)) where
   abbrev reached : Token
   reached = ranged (f .negative) (coefficientOf (h .value)) (22 + h .dropped + zerosOf (h .value) + up) (length (f .fraction) + down)
 

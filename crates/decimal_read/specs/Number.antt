@@ -132,7 +132,7 @@ normal f =
 
 -- ── The token ──
 
--- what a token of n bytes says that has no form, and one that has the form f: 'at most 64 bytes', and the limits, tokenBy on the normal form
+-- what a token of n bytes says that has no form, and one that has the form f: 'at most 64 bytes', and the limits, judged on the normal form
 unfoldable pub tokenBy : ℕ → Option Form → Token
 tokenBy n none = Malformed
 tokenBy n (some f) = cond (leb n 64 && inRange (normal f)) (Number (normal f)) Malformed

@@ -18,7 +18,7 @@ use Rattle.look.specs.Replacing as Replacing
 use Rattle.replacing.specs.Code.{AnswersWith, Replaced, lookOf}
 use Rattle.replacing.specs.Code as Replaces
 use Rattle.claims.specs.LookRuns.{lookRun}
-use Rattle.demand3.specs.Runs.{callPart, callsFrom, numbersSaid, placesSaid, CallsRun}
+use Rattle.demand3.specs.Runs.{callPart, callsFrom, CallsRun}
 
 -- ---- the bytes of an element
 data Order (m : ℕ) (n : ℕ) : Type 0 where

@@ -1,13 +1,12 @@
 -- DEMAND 3 of a reading and a run of calls, from the run of the definitions and the theorem on them. Assumes nothing.
 use mathlib.Core.Path.{_≡_, refl, sym, ap, subst, _∙_}
-use mathlib.Core.List.{List, [], _∷_, _++_, map}
+use mathlib.Core.List.{List, _++_, map}
 use Prim.Native.Nat.{ℕ}
 use lib.ListN.{length, take, drop, length-map}
 use lib.Seq.{take-at}
-use Rattle.decimal.specs.declared.Decimal.{Decimal}
 use Rattle.process_list.specs.declared.ProcessList.{ProcessList}
-use Rattle.process_list.specs.File.{fileList, file-list}
-use Rattle.process_list.specs.List.{Element, allNumbers}
+use Rattle.process_list.specs.File.{file-list}
+use Rattle.process_list.specs.List.{allNumbers}
 use Rattle.room.specs.Room.{Room, roomLength, filledWith}
 use Rattle.clf.specs.Reading.{Reading, nodesIn, read}
 use Rattle.reading.specs.declared.Answer.{Answer}
@@ -15,11 +14,10 @@ use Rattle.reading.specs.Code.{readingAnswer, ReadsInto}
 use Rattle.look.specs.Look.{Look, roomOf, holding}
 use Rattle.look.specs.Replacing as Replacing
 use Rattle.replacing.specs.Code.{lookOf}
-use Rattle.claims.specs.TriedFile.{fileRun, Small}
+use Rattle.claims.specs.TriedFile.{fileRun}
 use Rattle.claims.specs.LookRuns.{readInto, lookRun, SameLook}
 use Rattle.claims.proofs.Refusals.{number-accepted}
 use Rattle.claims.proofs.Look.{demand3-look}
-use Rattle.demand3.specs.declared.RunRead.{RunRead}
 use Rattle.demand3.specs.Runs.{numbersSaid, placesSaid, CallsRun, Demand3, ReadAndReplaced}
 use Rattle.demand3.proofs.Laws.{length-answers}
 

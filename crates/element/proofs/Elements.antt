@@ -1,12 +1,10 @@
 -- An element, by its start and what stands behind its name. Assumes nothing.
-use Rattle.process_list.specs.List.{Element}
+use Rattle.process_list.specs.List.{blankElement, Element}
 use mathlib.Core.Path.{_≡_, refl, ap, _∙_}
-use mathlib.Core.Bool.{false}
-use mathlib.Core.List.{List, []}
+use mathlib.Core.List.{List}
 use Prim.Native.Nat.{ℕ}
 use native.Mathlib.Omega.{arith}
 use Rattle.process_list.specs.declared.Kind.the-variants.{Matrix}
-use Rattle.process_list.specs.declared.Depth.the-variants.{I8}
 use Rattle.room.specs.Room.{Room, clearedFrom}
 use Rattle.grammar.specs.Parse.{Out, Parser, thenOut, bindP, judgeP}
 use Rattle.xml.specs.Code.{Inside, Reads, Failed}
@@ -33,9 +31,6 @@ carried-well Carrieds.Lut1d = refl
 carried-well Carrieds.Range = refl
 carried-well Carrieds.Cdl = refl
 
-anyNode : Element
-anyNode = record { kind = Matrix false; input = I8; output = I8; numbers = [] }
-
 module _ (s : List ℕ) (base : ℕ) where
   none : (m₀ m₁ : Room) → m₁ ≡ clearedFrom base m₀ → (n : NodeName) (r : Scan) → Failed r → Reads 0 judged (λ e. n) s 0 r → NodeReads (element .run) s 0 base (failedNode r) m₀ m₁
   unfolding element
@@ -44,8 +39,8 @@ module _ (s : List ℕ) (base : ℕ) where
       by : (y : Scan) → Failed y → Reads 0 judged (λ e. n) s 0 y → NodeReads (bindP judged body) s 0 base (failedNode y) m₀ m₁
       by (At e) f v = absurd f
       by (Fault k e) f v =
-          record { value = anyNode; out = ap (λ (o : Out NodeName). thenOut o body) (v .out); inside = v .inside; node = refl; all = tt; room = q }
-      by Cut f v = record { value = anyNode; out = ap (λ (o : Out NodeName). thenOut o body) (v .out); inside = tt; node = refl; all = tt; room = q }
+          record { value = blankElement; out = ap (λ (o : Out NodeName). thenOut o body) (v .out); inside = v .inside; node = refl; all = tt; room = q }
+      by Cut f v = record { value = blankElement; out = ap (λ (o : Out NodeName). thenOut o body) (v .out); inside = tt; node = refl; all = tt; room = q }
 
   -- no start
   pub element-none : (m₀ m₁ : Room) → m₁ ≡ clearedFrom base m₀ → (n : NodeName) (r : Scan) → Failed r → Reads 0 (start .run) (λ e. n) s 0 r → NodeReads (element .run) s 0 base (failedNode r) m₀ m₁

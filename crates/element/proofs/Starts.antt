@@ -2,14 +2,14 @@
 use mathlib.Core.Path.{_≡_, refl, sym, ap, _∙_}
 use mathlib.Core.Bool.{Bool, true, false, cond}
 use mathlib.Core.List.{List, [], _∷_}
-use Prim.Native.Nat.{ℕ, _≤_}
+use Prim.Native.Nat.{ℕ}
 use native.Mathlib.Omega.{arith}
 use lib.Dec.{eqb}
-use lib.ListN.{length, drop}
+use lib.ListN.{drop}
 use Rattle.grammar.specs.Parse.{Out, done, fault, cut, Parser}
 use Rattle.xml.specs.Bytes.{isNameByte}
 use Rattle.xml.specs.Among.{nameOr}
-use Rattle.xml.specs.Code.{scanOut, Inside, NameOr, noValue}
+use Rattle.xml.specs.Code.{scanOut, NameOr, noValue}
 use Rattle.xml.specs.declared.Scan.{Scan}
 use Rattle.xml.specs.declared.Scan.the-variants.{At, Fault, Cut}
 use Rattle.clf.specs.Nodes.{NodeName}

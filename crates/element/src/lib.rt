@@ -1,5 +1,4 @@
 // The element of a replacing call (document 01, Replacing): its start, by the seven node names, and the node behind its name.
-ghost use Rattle.process_list.specs.List.{Element};
 ghost use mathlib.Core.Path.{_≡_};
 ghost use Rattle.room.specs.Room.{lent};
 ghost use Rattle.nodes.specs.Code.{nameOf};

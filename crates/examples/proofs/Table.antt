@@ -1,4 +1,4 @@
--- The definitions outcome each starred example as document 01 says. Assumes nothing.
+-- The definitions answer each starred example as document 01 says. Assumes nothing.
 use mathlib.Core.Path.{_≡_, refl}
 use mathlib.Core.List.{map}
 use lib.Ieee.{add, sub, mul, div, lt, le, eq, ofInt, ofBits}

@@ -1,4 +1,4 @@
--- The starred examples of document 01 (Examples for both sides of a line): questions, what the definitions outcome, and what 01 says.
+-- The starred examples of document 01 (Examples for both sides of a line): questions, what the definitions answer, and what 01 says.
 use mathlib.Core.Bool.{true, false}
 use mathlib.Core.List.{List, [], _∷_, map}
 use Prim.Native.Nat.{ℕ}
@@ -33,7 +33,7 @@ pub data Outcome : Type 0 where
   refusal : ℕ → Outcome
   slice : ℕ → List Float → Outcome
 
--- ---- what the definitions outcome
+-- ---- what the definitions answer
 
 -- a token that says no number has the refusal that the only number of an element would have
 abbrev pub ofToken : Token → Outcome

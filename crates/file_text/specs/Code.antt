@@ -28,6 +28,7 @@ use Rattle.clf.specs.Reading.{nodesAmong, withChild}
 use Rattle.clf.specs.Whole.{WholeText, wholeText, wholeNodes, contentPlace, placeAmong}
 use Rattle.file_text.specs.declared.ListState.{ListState}
 use Rattle.file_text.specs.declared.ListStep.{ListStep}
+use Rattle.refusals.specs.Refusals as Refusal
 
 -- the nodes of a text without fault, or its fault
 abbrev pub afterRoot : Document → List ℕ → Out (List Element)
@@ -121,13 +122,13 @@ abbrev pub step : Scan → ListState → ListStep
 step scan st = record { scan = scan; state = st }
 
 abbrev pub inputStep : ℕ → ListState → Scan → ListStep
-inputStep at st scan = cond (st .input) (step (Scans.Fault 5 at) st) (step scan (flagged st true (st .output) (st .info)))
+inputStep at st scan = cond (st .input) (step (Scans.Fault Refusal.wrongElement at) st) (step scan (flagged st true (st .output) (st .info)))
 
 abbrev pub outputStep : ℕ → ListState → Scan → ListStep
-outputStep at st scan = cond (st .output) (step (Scans.Fault 5 at) st) (step scan (flagged st (st .input) true (st .info)))
+outputStep at st scan = cond (st .output) (step (Scans.Fault Refusal.wrongElement at) st) (step scan (flagged st (st .input) true (st .info)))
 
 abbrev pub infoStep : ℕ → ListState → Scan → ListStep
-infoStep at st scan = cond (st .info) (step (Scans.Fault 5 at) st) (step scan (flagged st (st .input) (st .output) true))
+infoStep at st scan = cond (st .info) (step (Scans.Fault Refusal.wrongElement at) st) (step scan (flagged st (st .input) (st .output) true))
 
 -- the place of the node that is wanted, after `count` nodes and one more, whose `<` stands at `at`
 unfoldable pub wantedStart : ℕ → ℕ → ℕ → ℕ → ℕ

@@ -51,6 +51,7 @@ module _ {A : Type 0} where
   lookP f [] = cut
   lookP f (b ∷ s) = f b (b ∷ s)
 
+  -- done without a byte read is cut: no definition here that is kept to a byte at least does so
   abbrev pub strictOut : Out A → List ℕ → Out A
   strictOut (done a r) s = cond (ltb (length r) (length s)) (done a r) cut
   strictOut (fault k r) s = fault k r
@@ -123,6 +124,7 @@ spanP test (b ∷ s) =
     cond (test b) more (done [] (b ∷ s))
 
 module _ {S B : Type 0} where
+  -- a turn that goes on without a byte read would never end: cut. No turn of the definitions here does so
   abbrev pub turnP : (S → Parser B) → Turn S B → List ℕ → Parser B
   turnP k (last b) s r = done b r
   turnP k (again st) s r = cond (ltb (length r) (length s)) (k st r) cut
@@ -132,6 +134,7 @@ module _ {S B : Type 0} where
   turnOut k (fault n r) s = fault n r
   turnOut k cut s = cut
 
+  -- at most n turns. A turn after which the loop goes on reads a byte at least, so that one turn more than there are bytes is enough: `zero` is never reached from `loopP`
   abbrev pub loopF : (S → Parser (Turn S B)) → ℕ → S → Parser B
   loopF f zero st s = cut
   loopF f (suc n) st s = turnOut (λ (st′ : S). loopF f n st′) (f st s) s

@@ -344,7 +344,7 @@ module _ {S A : Type 0} (item : S → G A) (next : S → A → Turn S (Unit {0})
         ∙ ap (λ (o : Out (List (A × List ℕ))). thenOut o (λ k. retP ((a, b ∷ d) ∷ k)))
         (ap (turns v₂) (sym (turns-flat xs v₂ u₂ r w₂)) ∙ w₂)
 
-    -- they are one item, which contentItem from each state where x led: the items are the same but for this one
+    -- they are one item, which leads from each state where x led: the items are the same but for this one
     pub splice-done : (a : A) → ((v : S) → (item v) .run (b ∷ d) ≡ done a []) → ((v : S) → next v a ≡ next v (x .0))
         → turns st (flat bs ++ ((b ∷ d) ++ (flat xs ++ r))) ≡ done (bs ++ (a, b ∷ d) ∷ xs) r
     splice-done a g n =

@@ -1,8 +1,8 @@
 -- Text-only elements. Assumes nothing.
 use mathlib.Core.List.{List}
 use Prim.Native.Nat.{ℕ}
-use Rattle.grammar.specs.Parse.{Parser, bindP}
-use Rattle.grammar.specs.Grammar.{G, ret, seq}
+use Rattle.grammar.specs.Parse.{Parser}
+use Rattle.grammar.specs.Grammar.{ret, seq}
 use mathlib.Core.Bool.{cond}
 use Rattle.xml.specs.Xml.{Tag, plain, startTag, textTo}
 use Rattle.xml.specs.Elements.{onlyEnd, textContent, textElement}

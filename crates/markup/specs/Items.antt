@@ -13,6 +13,7 @@ use Rattle.xml.specs.declared.Scan.{Scan}
 use Rattle.xml.specs.declared.Scan.the-variants as Scans
 use Rattle.markup.specs.declared.Item.{Item}
 use Rattle.markup.specs.declared.Item.the-variants as Items
+use Rattle.refusals.specs.Refusals as Refusal
 
 -- what stands between elements, by its first bytes: white space or a comment, which is passed; a start tag of a name; an end tag, of which nothing is read yet
 pub data ItemFound : Type 0 where
@@ -24,7 +25,7 @@ abbrev pub markupItem : ℕ → Parser ItemFound
 markupItem b s =
     cond (eqb b slash) (done ends s)
     (cond (eqb b exclamation) (thenOut (comment .run s) (λ u. retP passed))
-    (cond (eqb b question) (fault 3 s)
+    (cond (eqb b question) (fault Refusal.formNotCarried s)
     (thenOut (openName .run s) (λ w. retP (starts w)))))
 
 abbrev pub itemByTwo : Parser ItemFound
@@ -41,7 +42,7 @@ abbrev pub itemByByte : ℕ → Parser ItemFound
 itemByByte b s =
     cond (isSpace b) (done passed (behindOne s))
     (cond (eqb b lessThan) (itemByTwo s)
-    (cond (eqb b ampersand) (thenOut (settleP 5 (entity .run) s) (λ u. retP passed)) (fault 5 s)))
+    (cond (eqb b ampersand) (thenOut (settleP Refusal.wrongElement (entity .run) s) (λ u. retP passed)) (fault Refusal.wrongElement s)))
 
 unfoldable pub contentItem : Parser ItemFound
 contentItem = lookP itemByByte

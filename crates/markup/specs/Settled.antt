@@ -8,6 +8,7 @@ use Rattle.xml.specs.Bytes.{same, greaterThan}
 use Rattle.xml.specs.Xml.{spaces, byte, closeName}
 use Rattle.xml.specs.declared.Scan.{Scan}
 use Rattle.xml.specs.declared.Scan.the-variants.{At, Fault, Cut}
+use Rattle.refusals.specs.Refusals as Refusal
 
 -- the answer r of what stands at `at`, where the fault v there is known already: at one place the lowest number; 0 is no fault
 abbrev pub settledScan : ℕ → Scan → ℕ → Scan
@@ -24,8 +25,8 @@ refusedScan Cut k at = Cut
 
 -- white space, if any, and the byte c, or 2
 abbrev pub spacesByte : ℕ → G (Unit {0})
-spacesByte c = spaces >> byte c 2 >> ret tt
+spacesByte c = spaces >> byte c Refusal.notWellFormed >> ret tt
 
 -- an end tag of the name w, whatever lacks before it
 abbrev pub endAlone : List ℕ → G (Unit {0})
-endAlone w = judge (λ n. cond (same n w) 0 2) closeName >> spaces >> byte greaterThan 2 >> ret tt
+endAlone w = judge (λ n. cond (same n w) 0 Refusal.notWellFormed) closeName >> spaces >> byte greaterThan Refusal.notWellFormed >> ret tt

@@ -4,7 +4,7 @@ ghost use Prim.Native.Nat.{_+_, _<_};
 ghost use lib.ListN.{length};
 ghost use Rattle.xml.specs.Xml as Xml;
 ghost use Rattle.xml.specs.Elements as Elements;
-ghost use Rattle.xml.specs.Code.{Reads, part, noValue};
+ghost use Rattle.xml.specs.Code.{Reads, noValue};
 ghost use Rattle.markup.specs.Settled.{settledScan, refusedScan, spacesByte, endAlone};
 ghost use Rattle.markup.specs.Items.{ItemReads, ItemReadsBy, itemByTwo, miscOf, startTagOf};
 ghost use Rattle.markup.specs.Next.{NextReads};

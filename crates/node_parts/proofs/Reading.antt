@@ -1,12 +1,11 @@
 -- Answers one after the other, start tags and what follows them, and nodes, by their parts. Assumes nothing.
-use mathlib.Core.Path.{_≡_, refl, sym, ap, _∙_}
-use mathlib.Core.Bool.{Bool, true, false, cond}
-use mathlib.Core.List.{List, [], _∷_}
-use Prim.Native.Nat.{ℕ, zero, suc, _+_, _≤_, _<_}
+use mathlib.Core.Path.{_≡_, refl, ap, _∙_}
+use mathlib.Core.List.{List}
+use Prim.Native.Nat.{ℕ}
 use native.Mathlib.Omega.{arith}
-use lib.ListN.{length, drop}
-use Rattle.grammar.specs.Parse.{Out, done, fault, cut, Parser, thenOut, bindP, retP}
-use Rattle.xml.specs.Code.{scanOut, Inside, Reads, noValue, Failed}
+use lib.ListN.{length}
+use Rattle.grammar.specs.Parse.{Out, Parser, thenOut, bindP, retP}
+use Rattle.xml.specs.Code.{Inside, Reads, noValue, Failed}
 use Rattle.xml.specs.declared.Scan.{Scan}
 use Rattle.xml.specs.declared.Scan.the-variants.{At, Fault, Cut}
 use Rattle.room.specs.Room.{Room, clearedFrom}

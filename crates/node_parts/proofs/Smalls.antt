@@ -1,18 +1,17 @@
 -- The numbers of a small room, one by one. Assumes nothing.
 use mathlib.Core.Path.{_≡_, refl, sym, ap, _∙_}
-use mathlib.Core.Bool.{Bool, true, false, cond}
+use mathlib.Core.Bool.{Bool, cond}
 use mathlib.Core.List.{List, [], _∷_, _++_, map}
 use Prim.Native.Nat.{ℕ, zero, suc, _+_, _≤_, _<_, min}
 use native.Mathlib.Omega.{arith}
 use native.Mathlib.Numerals.{add-one}
 use lib.IntN.{ℤ, pos}
-use lib.Dec.{ltb}
 use lib.ListN.{length, take, getD, length-take}
 use lib.Seq.{take-suc, take-length}
 use borrow.Author.Tests.{lt-ltb, le-ltb}
 use Rattle.decimal.specs.declared.Decimal.{Decimal}
 use Rattle.decimal.specs.Decimal as Decimals
-use Rattle.room.specs.Room.{Room, lent, roomLength}
+use Rattle.room.specs.Room.{Room, roomLength}
 use Rattle.values.specs.Code.{Laid}
 use Rattle.node_parts.specs.Code.{smallNumberAt, numbersFrom, smallNumbers}
 use Rattle.values.proofs.Stored.{laid-none-yet, laid-then}

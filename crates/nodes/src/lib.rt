@@ -1,5 +1,4 @@
 // A node by its name.
-ghost use Rattle.process_list.specs.List.{Element};
 ghost use mathlib.Core.Path.{_≡_};
 ghost use Rattle.room.specs.Room.{lent};
 ghost use Rattle.clf.specs.Nodes as Nodes;

@@ -1,7 +1,7 @@
 -- The children of a Range, its content and the node, by their parts. Assumes nothing.
 use Rattle.process_list.specs.declared.RangeStyle.{RangeStyle}
 use mathlib.Core.Path.{_≡_, refl, sym, ap, _∙_}
-use mathlib.Core.Bool.{Bool, true, false, not}
+use mathlib.Core.Bool.{Bool, true, false}
 use mathlib.Core.List.{List, [], _∷_, map}
 use mathlib.Core.Option.{some}
 use Prim.Native.Nat.{ℕ, _+_, _≤_}

@@ -15,6 +15,7 @@ use Rattle.room.specs.Room.{Room}
 use Rattle.clf.specs.Nodes.{isSome, orElse, rangeIndex, RangeState}
 use Rattle.node_parts.specs.Code.{smallNumberAt, smallNumbers}
 use Rattle.range_node.specs.declared.RangeStep.{RangeStep}
+use Rattle.refusals.specs.Refusals as Refusal
 
 -- of four flags
 abbrev pub anyOf : List Bool → Bool
@@ -26,8 +27,8 @@ allOf l = getD l 0 false && (getD l 1 false && (getD l 2 false && getD l 3 false
 -- the fault of a name, after the values of these flags
 unfoldable pub faultOf : List Bool → List ℕ → ℕ
 faultOf l w =
-    cond (same w (bytes "Description")) (cond (anyOf l) 5 0)
-    (cond (ltb (rangeIndex w) 4) (cond (getD l (rangeIndex w) false) 5 0) 5)
+    cond (same w (bytes "Description")) (cond (anyOf l) Refusal.wrongElement 0)
+    (cond (ltb (rangeIndex w) 4) (cond (getD l (rangeIndex w) false) Refusal.wrongElement 0) Refusal.wrongElement)
 
 -- 'maxIn > minIn; maxOut ≥ minOut', of the numbers of a small room
 unfoldable pub orderedIn : Room → Bool
@@ -35,7 +36,7 @@ orderedIn m = less (smallNumberAt m 0) (smallNumberAt m 1) && atMost (smallNumbe
 
 -- what is missing at the end tag: a value that is not there is 5, values out of order are 21
 unfoldable pub missingOf : List Bool → Room → ℕ
-missingOf l m = cond (allOf l) (cond (orderedIn m) 0 21) 5
+missingOf l m = cond (allOf l) (cond (orderedIn m) 0 Refusal.ruleBroken) Refusal.wrongElement
 
 -- four zeros
 abbrev pub fourZeros : List Decimal

@@ -1,5 +1,4 @@
 // Range: Descriptions, then four values in any order.
-ghost use Rattle.process_list.specs.List.{Element};
 ghost use mathlib.Core.Path.{_≡_};
 ghost use mathlib.Core.Bool.{true, cond};
 ghost use Rattle.process_list.specs.declared.RangeStyle.the-variants.{Clamp, NoClamp};

@@ -19,6 +19,7 @@ use Rattle.reading.specs.declared.Answer.{Answer}
 use Rattle.reading.specs.declared.Checked.{Checked}
 use Rattle.reading.specs.declared.Judged.{Judged}
 use Rattle.reading.specs.declared.Judged.the-variants.{Accepted, Refused}
+use Rattle.refusals.specs.Refusals as Refusal
 
 -- ---- what reading answers
 
@@ -43,7 +44,7 @@ judgedBy = Lists.byVerdict Accepted Refused
 abbrev pub judgedScan : ℕ → Scan → Judged → Judged
 judgedScan length (Scans.At e) j = j
 judgedScan length (Scans.Fault k p) j = Refused k p
-judgedScan length Scans.Cut j = Refused 1 length
+judgedScan length Scans.Cut j = Refused Refusal.cutShort length
 
 unfoldable pub judgedStep : ℕ → ListStep → ℕ → Judged
 judgedStep length r room =
@@ -66,7 +67,7 @@ checkedBy Accepted = record { number = 0; place = 0 }
 checkedBy (Refused k p) = record { number = k; place = p }
 
 abbrev pub askedBy : Judged → ℕ → ℕ → Judged
-askedBy Accepted k count = cond (ltb 0 k && leb k count) Accepted (Refused 19 0)
+askedBy Accepted k count = cond (ltb 0 k && leb k count) Accepted (Refused Refusal.noSuchNode 0)
 askedBy (Refused n p) k count = Refused n p
 
 -- a text read without room: some room of one number was lent

@@ -11,10 +11,10 @@ use Rattle.process_list.specs.declared.ProcessList.{ProcessList}
 use Rattle.process_list.specs.declared.Verdict.the-variants.{Accepted}
 use Rattle.process_list.specs.List.{Element, nodeOf, allNumbers, placed, verdict}
 use Rattle.process_list.specs.File.{fileList, file-list}
-use Rattle.process_list.proofs.Lists.{list-length, heads-length, Fine, accepted-fine, fine-accepted}
+use Rattle.process_list.proofs.Lists.{list-length, heads-length, fine-accepted}
 use Rattle.room.specs.Room.{filledWith}
 use Rattle.room.proofs.Rooms.{filled-room, filled-equal, filled-beyond}
-use Rattle.valid.specs.Valid.{every, sound, isValid, elementsOf}
+use Rattle.valid.specs.Valid.{every, sound, isValid}
 use Rattle.valid.proofs.Readings.{all-length, parts}
 use Rattle.valid.proofs.Readings as Readings
 use Rattle.grammar.specs.Parse.{Out, done, before, thenOut, retP, keptOut, loopP}
@@ -156,7 +156,7 @@ module _ (x : Look) (p : HasPlaces x) (v : Valid x) where
           room = ap (λ (z : Look). z .room) q ∙ holding-in .1;
         }
 
-  -- what the room elementsHeld before does not matter
+  -- what the room held before does not matter
   module _ (y : Look) (e : EqualRoom x y) where
     holding-equal : (es : List Element) → holding y es ≡ holding x es
     unfolding holding
@@ -208,7 +208,7 @@ written-reads-in x p id out text e y h =
 pub read-self : (x : Look) → asRead x ≡ x
 read-self x = ap (λ (l : ProcessList). record { list = l; room = x .room }) (file-list (x .list))
 
--- what an accepted reading leaves, whatever list and room elementsHeld before, is valid
+-- what an accepted reading leaves, whatever list and room held before, is valid
 pub left-valid : (y : Look) (file : List ℕ) (x : Look) → ReadingLeaves y file x → Valid x
 left-valid y file x l =
     let es : List Element = (l .nodes) in

@@ -2,11 +2,11 @@
 use mathlib.Core.Path.{_≡_, refl, sym, ap, subst, _∙_}
 use mathlib.Core.Logic.{_↔_, _⊎_, inl, inr}
 use mathlib.Core.Bool.{Bool, true, false, cond, not}
-use mathlib.Core.List.{List, [], _∷_, _++_}
+use mathlib.Core.List.{List, [], _∷_}
 use Prim.Native.Nat.{ℕ, _-_, _≤_}
 use native.Mathlib.Omega.{arith}
 use borrow.Author.Tests.{ltb-false, le-leb}
-use lib.Dec.{eqb, ltb}
+use lib.Dec.{ltb}
 use lib.Ieee.{Float}
 use lib.ListN.{length, take, drop}
 use lib.Seq.{take-at}
@@ -20,13 +20,12 @@ use Rattle.room.specs.Room.{Room, roomLength}
 use Rattle.valid.specs.Valid.{isValid, elementsOf}
 use Rattle.tags.specs.Code.{partIn}
 use Rattle.clf.specs.Description.{bytesOf, partAsked, descriptionPart}
-use Rattle.clf.specs.Reading.{Reading, accepted, faulty, unfit, mostBytes, readingNumber, isNumbered, nodesIn, descriptionAsked, read}
-use Rattle.clf.specs.Reading as R
+use Rattle.clf.specs.Reading.{Reading, accepted, faulty, unfit, mostBytes, readingNumber, isNumbered, descriptionAsked, read}
 use Rattle.reading.specs.declared.Answer.{Answer}
 use Rattle.reading.specs.declared.Checked.{Checked}
 use Rattle.reading.specs.Code.{checkedOf, ReadsInto}
 use Rattle.reading.specs.Code as Reads
-use Rattle.look.specs.Look.{Look, roomOf, holding, replaceIn, lookAfter}
+use Rattle.look.specs.Look.{Look, replaceIn}
 use Rattle.look.specs.Replacing.{element, replacingBy, listed, byElement, replace}
 use Rattle.look.specs.Replacing as Replacing
 use Rattle.replacing.specs.Code.{lookOf, Replaced}
@@ -42,8 +41,7 @@ use Rattle.written_form.specs.Written as Text
 use Rattle.writing.specs.declared.Written.{Written}
 use Rattle.writing.specs.Writing.{writingAnswer}
 use Rattle.demand3.proofs.Whole.{read-look}
-use Rattle.reads_back.specs.declared.WrittenRead.{WrittenRead}
-use Rattle.reads_back.specs.Back.{HasPlaces, Valid, SomeReading, EqualRoom, asRead, ReadingLeaves, ReadingLeavesIn, writing}
+use Rattle.reads_back.specs.Back.{HasPlaces, SomeReading, asRead, ReadingLeaves, ReadingLeavesIn, writing}
 use Rattle.reads_back.specs.Calls.{ReadBack, ReadIn, WroteAndRead, Refuses16, WriteRefuses, RunRefuses, ReplaceRefuses, CheckedAndRead, Describes}
 use Rattle.reads_back.proofs.Back.{written-reads-back, written-reads-in, refusal-16}
 

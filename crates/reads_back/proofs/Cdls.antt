@@ -3,7 +3,7 @@ use Rattle.process_list.specs.declared.CdlStyle.{CdlStyle}
 use Rattle.process_list.specs.declared.CdlStyle.the-variants.{Fwd, FwdNoClamp}
 use Rattle.process_list.specs.List.{Element}
 use mathlib.Core.Path.{_≡_, refl, ap, _∙_}
-use mathlib.Core.Bool.{Bool, true, false, cond, not}
+use mathlib.Core.Bool.{true}
 use mathlib.Core.List.{List, [], _∷_, _++_}
 use mathlib.Core.Option.{none, some}
 use Prim.Native.Nat.{ℕ}

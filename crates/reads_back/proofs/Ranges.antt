@@ -3,7 +3,7 @@ use Rattle.process_list.specs.declared.RangeStyle.{RangeStyle}
 use Rattle.process_list.specs.declared.RangeStyle.the-variants.{Clamp, NoClamp}
 use Rattle.process_list.specs.List.{Element}
 use mathlib.Core.Path.{_≡_, refl, ap, _∙_}
-use mathlib.Core.Bool.{Bool, true, false, cond, not, _&&_}
+use mathlib.Core.Bool.{true, _&&_}
 use mathlib.Core.List.{List, [], _∷_, _++_}
 use mathlib.Core.Option.{Option, none, some}
 use Prim.Native.Nat.{ℕ}

@@ -1,4 +1,5 @@
-// What is promised of the code together, each as a contract here: a list written out and read back (demand 2), refusal 16 of every function that gives it, the file check beside reading, a Description beside its number.
+// What is promised of the code together, each as a contract here: a list written out and read back (demand 2), refusal 16 of every function that gives it,
+// the file check beside reading, a Description beside its number.
 ghost use mathlib.Core.Path.{_≡_};
 ghost use mathlib.Core.Bool.{true};
 ghost use mathlib.Core.Logic.{_↔_};

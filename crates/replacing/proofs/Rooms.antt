@@ -1,6 +1,5 @@
 -- The element in the place of node k: the verdict over the list, and list and room afterwards. Assumes nothing.
 use mathlib.Core.Path.{_≡_, refl, sym, ap, _∙_, subst}
-use mathlib.Core.Bool.{false}
 use mathlib.Core.List.{List, [], _∷_, map}
 use Prim.Native.Nat.{ℕ, zero, suc, _+_, _-_, _≤_, _<_}
 use native.Mathlib.Omega.{arith}
@@ -10,13 +9,11 @@ use lib.Seq.{getD-set-same}
 use Rattle.decimal.specs.declared.Decimal.{Decimal}
 use Rattle.grammar.specs.Parse.{done}
 use Rattle.grammar.specs.Laws.{nope}
-use Rattle.process_list.specs.declared.Kind.the-variants.{Matrix}
-use Rattle.process_list.specs.declared.Depth.the-variants.{I8}
 use Rattle.process_list.specs.declared.Node.{Node}
 use Rattle.process_list.specs.declared.ProcessList.{ProcessList}
 use Rattle.process_list.specs.declared.Verdict.{Verdict}
 use Rattle.process_list.specs.declared.Verdict.the-variants.{Accepted, NoNode, TooManyNodes, DepthDiffers, TooManyNumbers}
-use Rattle.process_list.specs.List.{Element, mostNodes, numbersOf, nodeOf, withPosition, total, placed, allNumbers, blankNode, listOf, nodesOf, nodeAt, replacedAt, placedList}
+use Rattle.process_list.specs.List.{blankElement, Element, mostNodes, numbersOf, nodeOf, withPosition, total, placed, allNumbers, blankNode, listOf, nodesOf, nodeAt, replacedAt, placedList}
 use Rattle.process_list.specs.List.{capped, judged, verdict, verdictNumber, verdictPlace}
 use Rattle.process_list.proofs.Laws.{capped-exact, total-take, total-take-le}
 use Rattle.process_list.proofs.Lists.{Fine, accepted-fine, accepted-number, heads-length, placed-length, list-nodes, place-at, total-place, replaced-verdict, replaced-list}
@@ -39,11 +36,8 @@ use Rattle.replacing.proofs.Calls.{leaves-refused, elements-length, by-
 
 -- ---- nodes of elements
 
-none : Element
-none = record { kind = Matrix false; input = I8; output = I8; numbers = [] }
-
-none-node : nodeOf none ≡ blankNode
-unfolding none nodeOf blankNode
+none-node : nodeOf blankElement ≡ blankNode
+unfolding nodeOf blankNode
 none-node = refl
 
 getD-map : {A B : Type 0} (f : A → B) (xs : List A) (k : ℕ) (d : A) → getD (map f xs) k (f d) ≡ f (getD xs k d)
@@ -51,12 +45,12 @@ getD-map f [] k d = refl
 getD-map f (x ∷ xs) zero d = refl
 getD-map f (x ∷ xs) (suc k) d = getD-map f xs k d
 
-head-at : (es : List Element) (k : ℕ) → getD (map nodeOf es) k blankNode .kind ≡ getD es k none .kind
+head-at : (es : List Element) (k : ℕ) → getD (map nodeOf es) k blankNode .kind ≡ getD es k blankElement .kind
 head-at es k =
-    ap (λ (d : Node). getD (map nodeOf es) k d .kind) (sym none-node) ∙ ap (λ (n : Node). n .kind) (getD-map nodeOf es k none) ∙ head-kind (getD es k none)
+    ap (λ (d : Node). getD (map nodeOf es) k d .kind) (sym none-node) ∙ ap (λ (n : Node). n .kind) (getD-map nodeOf es k blankElement) ∙ head-kind (getD es k blankElement)
 
 -- a node has no more numbers than all together
-part-few : (es : List Element) (k : ℕ) → k < length es → numbersOf (getD es k none .kind) ≤ total (map nodeOf es)
+part-few : (es : List Element) (k : ℕ) → k < length es → numbersOf (getD es k blankElement .kind) ≤ total (map nodeOf es)
 part-few es k h =
     let ns : List Node = map nodeOf es in
     let a = total-take ns k blankNode (rw heads-length h) in
@@ -155,17 +149,17 @@ module _ (l : ProcessList) (m₀ : Room) (k : ℕ) (node : Node) (e : List ℕ) 
     at-is : nodeAt l i .at ≡ total (take i (map nodeOf es))
     at-is = ap (λ (n : Node). n .at) old-node ∙ stands-at (0 + total (take i (map nodeOf es))) (getD (map nodeOf es) i blankNode) ∙ zero-add (total (take i (map nodeOf es)))
 
-    old-is : capped (numbersOf (nodeAt l i .kind)) ≡ numbersOf (getD es i none .kind)
+    old-is : capped (numbersOf (nodeAt l i .kind)) ≡ numbersOf (getD es i blankElement .kind)
     old-is =
         ap (λ (n : Node). capped (numbersOf (n .kind))) old-node
         ∙ ap (λ (n : _). capped (numbersOf n)) (stands-kind (0 + total (take i (map nodeOf es))) (getD (map nodeOf es) i blankNode) ∙ head-at es i)
-        ∙ capped-exact (numbersOf (getD es i none .kind)) (omega (arith, part-few es i inside, fine .holds))
+        ∙ capped-exact (numbersOf (getD es i blankElement .kind)) (omega (arith, part-few es i inside, fine .holds))
 
     new-is : capped (numbersOf (node .kind)) ≡ numbersOf (el .kind)
     new-is =
-        let g : getD new i none ≡ el = getD-set-same es i el none inside in
-        let h : numbersOf (getD new i none .kind) ≤ total (map nodeOf new) = part-few new i (rw length-set inside) in
-        let j : numbersOf (getD new i none .kind) ≡ numbersOf (el .kind) = ap (λ (b : Element). numbersOf (b .kind)) g in
+        let g : getD new i blankElement ≡ el = getD-set-same es i el blankElement inside in
+        let h : numbersOf (getD new i blankElement .kind) ≤ total (map nodeOf new) = part-few new i (rw length-set inside) in
+        let j : numbersOf (getD new i blankElement .kind) ≡ numbersOf (el .kind) = ap (λ (b : Element). numbersOf (b .kind)) g in
         ap (λ (n : Node). capped (numbersOf (n .kind))) (f .is) ∙ ap (λ (n : _). capped (numbersOf n)) (head-kind el)
         ∙ capped-exact (numbersOf (el .kind)) (omega (arith, fine-new .holds))
 
@@ -180,9 +174,10 @@ module _ (l : ProcessList) (m₀ : Room) (k : ℕ) (node : Node) (e : List ℕ) 
     unfolding madeWay
     room-is m₁ r =
         let w : Room → Room =
-        λ m. laidIn (total (take i (map nodeOf es))) (el .numbers) (resizedIn (total (take i (map nodeOf es))) (numbersOf (getD es i none .kind)) (numbersOf (el .kind)) (total (map nodeOf es)) m) in
+        λ m. laidIn (total (take i (map nodeOf es))) (el .numbers)
+        (resizedIn (total (take i (map nodeOf es))) (numbersOf (getD es i blankElement .kind)) (numbersOf (el .kind)) (total (map nodeOf es)) m) in
         let b : m₁ ≡ w m₀ = rw (at-is, old-is, new-is, used-is) at r in
-        b ∙ ap w (reading .room) ∙ replaced-in es i none inside (reading .sounds) el m₀ (f .all) (omega (arith, fine .holds)) (omega (arith, fine-new .holds))
+        b ∙ ap w (reading .room) ∙ replaced-in es i blankElement inside (reading .sounds) el m₀ (f .all) (omega (arith, fine .holds)) (omega (arith, fine-new .holds))
 
     module _ (m₁ : Room) (h : Stores l i node e m₀ m₁) where
       numbers-are : h .reads .value .numbers ≡ el .numbers

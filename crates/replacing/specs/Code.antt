@@ -23,6 +23,7 @@ use Rattle.reading.specs.declared.Judged.the-variants.{Accepted, Refused}
 use Rattle.look.specs.Replacing.{element}
 use Rattle.look.specs.Replacing as Replacing
 use Rattle.look.specs.Look.{Look, replaceIn, lookAfter}
+use Rattle.refusals.specs.Refusals as Refusal
 
 -- ---- what a call answers
 
@@ -58,11 +59,11 @@ refusedAnswer n p l = record { number = n; place = p; list = l }
 
 -- '16, 19, 4 (the element alone)', for an element of n bytes; 0 where none is given
 unfoldable pub callFault : Bool → ℕ → ℕ → ℕ → ℕ
-callFault valid count k n = cond valid (cond (isNumbered k count) (cond (ltb mostBytes n) 4 0) 19) 16
+callFault valid count k n = cond valid (cond (isNumbered k count) (cond (ltb mostBytes n) Refusal.tooLong 0) Refusal.noSuchNode) Refusal.noReading
 
 pub record CallFault (l : ProcessList) (m : Room) (k n r : ℕ) : Type 0 where
   pub number : r ≡ callFault (isValid l m) (length (Lists.nodesOf l)) k n
-  pub array : length (l .nodes) ≡ 32
+  pub array : length (l .nodes) ≡ Lists.mostNodes
 
 -- an element read without room: some room of one number was lent
 pub record ElementAlone (s : List ℕ) (r : NodeStep) : Type 0 where
@@ -72,9 +73,9 @@ pub record ElementAlone (s : List ℕ) (r : NodeStep) : Type 0 where
 
 -- 'bytes after' are 20 at the first of them
 abbrev pub judgedScan : ℕ → Scan → Judged
-judgedScan n (Scans.At e) = cond (ltb e n) (Refused 20 e) Accepted
+judgedScan n (Scans.At e) = cond (ltb e n) (Refused Refusal.notOneNode e) Accepted
 judgedScan n (Scans.Fault k p) = Refused k p
-judgedScan n Scans.Cut = Refused 1 n
+judgedScan n Scans.Cut = Refused Refusal.cutShort n
 
 -- the room in which the numbers of node i, from 0, have given way to as many zeros as the new node has numbers
 unfoldable pub madeWay : ProcessList → ℕ → Node → Room → Room
@@ -89,7 +90,7 @@ pub record Stores (l : ProcessList) (i : ℕ) (node : Node) (e : List ℕ) (m₀
 -- a call that 16, 19 and 4 do not refuse
 pub record Callable (l : ProcessList) (m : Room) (k : ℕ) (e : List ℕ) : Type 0 where
   pub valid : isValid l m ≡ true
-  pub array : length (l .nodes) ≡ 32
+  pub array : length (l .nodes) ≡ Lists.mostNodes
   pub first : 0 < k
   pub last : k ≤ length (Lists.nodesOf l)
   pub small : length e ≤ mostBytes

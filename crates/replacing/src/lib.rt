@@ -1,7 +1,7 @@
 // Replacing a node of a look by an element (document 01, Replacing): 16, 19, 4 (the element alone), then the element's own fault, then 10, 13.
 // The element is read twice: first alone, so that a refusal changes nothing, then into the room.
 ghost use mathlib.Core.Path.{_≡_};
-ghost use Prim.Native.Nat.{_≤_, _<_};
+ghost use Prim.Native.Nat.{_<_};
 ghost use lib.ListN.{length};
 ghost use Rattle.room.specs.Room.{lent};
 ghost use Rattle.replacing.specs.Code as Code;

@@ -1,13 +1,13 @@
 -- The laws of the room as a whole: each is a law of one slice, cited once for each slice. Assumes nothing.
-use mathlib.Core.Path.{_≡_, refl, sym, ap, _∙_}
-use mathlib.Core.List.{List, [], _∷_, _++_, map, map-append}
+use mathlib.Core.Path.{_≡_, refl, ap}
+use mathlib.Core.List.{List, [], _∷_, _++_, map-append}
 use Prim.Native.Nat.{ℕ, _+_, _≤_, min}
 use native.Mathlib.Omega.{arith}
 use lib.IntN.{ℤ, pos}
 use lib.ListN.{length, length-map}
 use Rattle.decimal.specs.declared.Decimal.{Decimal}
-use Rattle.room.specs.Room.{Room, lent, roomLength, beyond, laid, stored, cleared, filled, coefficientParts, powerParts, storedIn, laidIn, clearedIn, clearedFrom, filledWith, resizedIn}
-use Rattle.room.proofs.Contents.{laid-none, laid-append, laid-more, laid-length, stored-length, SliceFrom, slice-refl, slice-trans, slice-laid, slice-cleared, cleared-from}
+use Rattle.room.specs.Room.{Room, lent, roomLength, beyond, laid, cleared, coefficientParts, powerParts, storedIn, laidIn, clearedIn, clearedFrom, filledWith, resizedIn}
+use Rattle.room.proofs.Contents.{laid-none, laid-append, laid-more, laid-length, SliceFrom, slice-refl, slice-trans, slice-laid, slice-cleared, cleared-from}
 use Rattle.room.proofs.Contents.{cleared-whole, laid-cleared, filled-length, filled-behind, filled-over, resized-length}
 
 -- rooms of equal slices

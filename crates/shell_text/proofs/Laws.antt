@@ -7,7 +7,7 @@ use native.Mathlib.Omega.{arith}
 use native.Mathlib.Numerals.{add-one}
 use native.Mathlib.Nat.{add-assoc}
 use borrow.Author.Tests.{eq-eqb, ne-eqb, lt-ltb, le-ltb, le-leb, lt-leb}
-use lib.Dec.{T, eqb, ltb, leb}
+use lib.Dec.{T, eqb, leb}
 use lib.ListN.{length, take, drop, getD, set, length-set, length-drop, take-append-drop}
 use lib.Seq.{getD-drop, drop-drop, drop-set-lt, take-suc-set, length-take-le}
 use lib.Ieee.{Float, nan, inf, fin, binary64, ofBits, toBits, nanBits, isNan, eq, ne, level, up, down, div, ofFields}
@@ -20,7 +20,6 @@ use Rattle.fields.specs.Fields.{fieldFrom, wordNumber}
 use Rattle.tags.specs.Code.{partIn}
 use Rattle.shell_text.specs.declared.Decoded.{Decoded}
 use Rattle.shell_text.specs.declared.Decoded.the-variants as Hexes
-use Rattle.shell_text.specs.declared.Word.{Word}
 use Rattle.shell_text.specs.declared.Word.the-variants.{Bits, Malformed}
 use Rattle.shell_text.specs.Hex.{digitOf, glyphOf, joinedOf, bytesOf, Decodes, wordAt, isNone, partOf, partLeft, DecodesPart, isLast, lastOf, lastLeft, DecodesLast}
 use Rattle.shell_text.specs.Lines.{isRun, lastNumber, lineEnd}

@@ -16,13 +16,13 @@ use Rattle.shell_text.specs.declared.Decoded.the-variants.{Bytes, Malfor
 use Rattle.shell_text.specs.Hex.{partOf, partLeft, lastOf, lastLeft}
 use Rattle.shell_text.specs.Lines.{isRun, lastNumber}
 
--- 'A line that is none of these is answered `?`' (63)
+-- 'A line that is none of these is answered `?`'
 abbrev pub unknown : Command
-unknown = record { letter = 63; number = 0; start = 0; end = 0 }
+unknown = record { letter = code "?"; number = 0; start = 0; end = 0 }
 
--- the command X (88): its words are read by themselves
+-- the command X: its words are read by themselves
 abbrev pub running : Command
-running = record { letter = 88; number = 0; start = 0; end = 0 }
+running = record { letter = code "X"; number = 0; start = 0; end = 0 }
 
 -- a letter and a number, with the bytes of a field
 unfoldable pub withBytes : ℕ → ℕ → Decoded → Command
@@ -89,9 +89,9 @@ letteredOf letter s = byShape (shapeOf letter) (plainOf letter s) (numberedOf le
 unfoldable pub letteredLeft : ℕ → List ℕ → List ℕ
 letteredLeft letter s = byShape (shapeOf letter) (plainLeft s) (numberedLeft s) (underLeft s) s
 
--- a letter and a space (32) at least
+-- a letter and a space at least
 unfoldable pub isLettered : List ℕ → Bool
-isLettered s = leb 2 (length s) && eqb (getD s 1 0) 32
+isLettered s = leb 2 (length s) && eqb (getD s 1 0) (code " ")
 
 unfoldable pub commandOf : List ℕ → Command
 commandOf s = cond (isRun s) running (cond (isLettered s) (letteredOf (getD s 0 0) s) unknown)

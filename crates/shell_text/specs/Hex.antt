@@ -45,9 +45,9 @@ pub record Decodes (w w' : List ℕ) (n : ℕ) : Type 0 where
 abbrev pub wordAt : List ℕ → ℕ → ℕ → List ℕ
 wordAt s a e = take (e - a) (drop a s)
 
--- the part is `-` (45) alone: no bytes
+-- the part is `-` alone: no bytes
 unfoldable pub isNone : List ℕ → ℕ → ℕ → Bool
-isNone s a e = eqb (e - a) 1 && eqb (getD s a 0) 45
+isNone s a e = eqb (e - a) 1 && eqb (getD s a 0) (code "-")
 
 -- what the line's part from a up to e is: `-` alone is no bytes, else all of it has to be pairs of digits; an empty part, or one that is none of the line's, is malformed
 unfoldable pub partOf : List ℕ → ℕ → ℕ → Decoded

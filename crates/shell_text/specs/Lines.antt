@@ -9,6 +9,7 @@ use Rattle.fields.specs.declared.Parsed.the-variants.{Malformed}
 use Rattle.fields.specs.Fields.{fieldFrom, wordNumber}
 use Rattle.tags.specs.Code.{partIn}
 use Rattle.shell_text.specs.Hex.{isLast}
+use Rattle.refusals.specs.Refusals as Refusal
 
 -- the command X, alone or with a space behind it
 unfoldable pub isRun : List ℕ → Bool
@@ -18,7 +19,7 @@ isRun (x ∷ (b ∷ l)) = eqb x (code "X") && eqb b (code " ")
 
 -- 'so is a `W` whose text .. is no longer than its OUTLEN may be': refused with 17 for less room than was asked for
 unfoldable pub isTooLong : ℕ → ℕ → ℕ → Bool
-isTooLong number room length = eqb number 17 && ltb room length
+isTooLong number room length = eqb number Refusal.shortOutput && ltb room length
 
 -- the number in the last field from `at` on
 unfoldable pub lastNumber : List ℕ → ℕ → Parsed

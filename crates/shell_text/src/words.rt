@@ -1,7 +1,7 @@
 // The words of the command X: the 16 hex digits of an f64's bits.
 ghost use mathlib.Core.Path.{_≡_};
 ghost use mathlib.Core.List.{_++_};
-ghost use lib.Ieee.{binary64, ofBits, toBits};
+ghost use lib.Ieee.{binary64, ofBits};
 ghost use Rattle.text_out.specs.Output.{Puts};
 ghost use Rattle.shell_text.specs.Words as Words;
 use crate::Word;

@@ -15,7 +15,7 @@ use Rattle.xml.specs.Code.{part, ReadsFrom, noValue}
 use Rattle.xml.specs.CodeLaws.{look-at}
 use Rattle.xml.specs.declared.Scan.{Scan}
 use Rattle.xml.specs.declared.Scan.the-variants as Scans
-use Rattle.tags.specs.Code.{partIn, attributesOf, noAttributes, withAttribute, attributeOut, AttributeInside, EndInside, endOut, tagOut, openEnd, emptyEnd, EndIs}
+use Rattle.tags.specs.Code.{partIn, attributesOf, noAttributes, withAttribute, attributeOut, AttributeInside, EndInside, endOut, openEnd, emptyEnd, EndIs}
 use Rattle.tags.specs.Rules.{rulesOf}
 use Rattle.tags.specs.Places.{attributePlacesFrom, attributePlaces}
 use Rattle.tags.specs.Ended.{EndsAs, TagRead, TagStops, endPlaced, ended, ends-as, ends-placed}
@@ -130,7 +130,7 @@ last-turn k (done x r) b l = refl
 last-turn k (fault n r) b l = refl
 last-turn k cut b l = refl
 
-module _ (rules : Rules) (s : List ℕ) (at : ℕ) (attributes : Attributes) (spaced : Bool) (i : ℕ) (v : TagInv rules s at attributes spaced i) where
+module _ {rules : Rules} {s : List ℕ} {at : ℕ} {attributes : Attributes} {spaced : Bool} {i : ℕ} (v : TagInv rules s at attributes spaced i) where
   abbrev st : TagState
   st = state spaced (attributesOf s attributes)
 
@@ -241,7 +241,7 @@ unfolding isSpace
 open-at-once s at h g =
     let p : isSpace (getD s at 0) ≡ false = rw g refl in
     let v : TagStops plain s at (record { end = Open (at + 1); attributes = noAttributes }) =
-    tag-open plain s at noAttributes false at (tag-start plain s at) h p g (Open (at + 1)) (open-done plain s noAttributes at h 0 refl refl) in
+    tag-open (tag-start plain s at) h p g (Open (at + 1)) (open-done plain s noAttributes at h 0 refl refl) in
     ends-as plain s at (record { end = Open (at + 1); attributes = noAttributes }) (v .0) (v .1)
 
 -- `plain` is what a plain tag asks

@@ -26,6 +26,7 @@ use Rattle.tags.specs.declared.DepthRead.{DepthRead}
 use Rattle.tags.specs.declared.DepthRead.the-variants as Depths
 use Rattle.tags.specs.declared.ShapeRead.{ShapeRead}
 use Rattle.tags.specs.declared.ShapeRead.the-variants as Shapes
+use Rattle.refusals.specs.Refusals as Refusal
 
 -- the bytes of s from a up to e, none where e is no place of s
 unfoldable pub partIn : List ℕ → ℕ → ℕ → List ℕ
@@ -62,11 +63,11 @@ byteBefore s e = getD s (e - 1) 0
 
 -- white space and a quote
 abbrev pub quote : G ℕ
-quote = seq spaces (λ x. judge (λ b. cond (isQuote b) 0 2) eat)
+quote = seq spaces (λ x. judge (λ b. cond (isQuote b) 0 Refusal.notWellFormed) eat)
 
 -- behind the name, up to the first quote
 abbrev pub toQuote : G ℕ
-toQuote = seq spaces (λ x. seq (byte equals 2) (λ y. quote))
+toQuote = seq spaces (λ x. seq (byte equals Refusal.notWellFormed) (λ y. quote))
 
 -- the text of the attribute whose name ends at e begins at q: behind its first quote
 abbrev pub BeginsText : List ℕ → ℕ → ℕ → Type 0

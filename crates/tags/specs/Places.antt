@@ -13,7 +13,7 @@ placeBehind s (done a r) = length s - length r
 placeBehind s (fault k r) = 0
 placeBehind s cut = 0
 
--- these attributes put behind those attributes, as they stand in s from `at` on: a name begins behind the white space, and its text behind the first quote that follows it; the text's closing quote
+-- these attributes put behind those so far, as they stand in s from `at` on: a name begins behind the white space, and its text behind the first quote that follows it; the text's closing quote
 -- ends the attribute (01: 'quotes single or double, white space may surround `=`')
 unfoldable pub attributePlacesFrom : List ℕ → ℕ → List Attribute → Attributes → Attributes
 attributePlacesFrom s at [] attributes = attributes

@@ -551,7 +551,7 @@ fn attribute_named(
     }
 }
 
-// The attribute at `at`, behind those attributes.
+// The attribute at `at`, behind those so far.
 pub fn attribute(s: &[u8], at: usize, kind: TagKind, attributes: Attributes) -> AttributeRead
     ensures { λ r. ⌜ (Code.attributeOut (now (s .entry)) at r ≡ (Xml.attribute (rulesOf kind) (Code.attributesOf (now (s .entry)) attributes)) .run (drop at (now (s .entry))))
         × Code.AttributeInside (now (s .entry)) at r ⌝ }

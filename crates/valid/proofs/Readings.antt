@@ -27,7 +27,7 @@ use Rattle.room.proofs.Rooms.{same-room, length-at-most, filled-room}
 use Rattle.valid.specs.Valid.{every, pairs, numbersAt, elementOf, elementsOf, sound, shapeRight, carried, rulesHold, gapless, isBlank, isBlankList, isSmallMatrix, isZero}
 use Rattle.valid.specs.Valid.{restZero, zeroFrom, isValid}
 use Rattle.valid.proofs.Laws.{numbers-length}
-use Rattle.valid.proofs.Elements.{both-true, Right, right-made, right-few, right-holds, Holds, valid-parts, valid-made}
+use Rattle.valid.proofs.Elements.{both-true, Right, right-few, right-holds, Holds, valid-parts, valid-made}
 
 -- ---- lists of tests
 pub every-cons : {A : Type 0} (p : A → Bool) (x : A) (xs : List A) → every p (x ∷ xs) ≡ true → (p x ≡ true) × (every p xs ≡ true)

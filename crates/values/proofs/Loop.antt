@@ -181,7 +181,8 @@ module _ {w : List ℕ} {n : ℕ} {rule : Decimal → ℕ} {s : List ℕ} {at ba
         K o = thenOut o (λ d. retP (again (v .xs ++ d ∷ [])))
 
         apart : (o : Out ((Unit {0}) × List ℕ))
-            → thenOut {B = Turn (List Decimal) (List Decimal)} o (λ t. retP (again (v .xs ++ saidBy (tokenOf (t .1)) ∷ []))) ≡ thenOut (thenOut o (λ t. retP (saidBy (tokenOf (t .1))))) (λ d. retP (again (v .xs ++ d ∷ [])))
+            → thenOut {B = Turn (List Decimal) (List Decimal)} o (λ t. retP (again (v .xs ++ saidBy (tokenOf (t .1)) ∷ []))) ≡ thenOut (thenOut o (λ t. retP (saidBy (tokenOf (t .1)))))
+            (λ d. retP (again (v .xs ++ d ∷ [])))
         apart (done t r) = refl
         apart (fault k r) = refl
         apart cut = refl

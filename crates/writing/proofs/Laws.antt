@@ -4,14 +4,14 @@ use mathlib.Core.List.{List, [], _∷_, _++_}
 use Prim.Native.Nat.{ℕ, zero, suc, _+_, _-_, _*_, _≤_, _<_}
 use native.Mathlib.Omega.{arith}
 use lib.IntN.{ℤ, pos}
-use lib.ListN.{length, take, drop}
+use lib.ListN.{take, drop}
 use lib.Seq.{drop-cons, drop-drop, take-take, take-nil}
 use Rattle.decimal.specs.declared.Decimal.{Decimal}
 use Rattle.decimal_write.specs.Written.{writtenOf}
 use Rattle.room.specs.Room.{Room, roomLength}
 use Rattle.valid.specs.Valid.{pairs, decimalAt, numbersAt}
-use Rattle.text_out.specs.Output.{Goes, Puts}
-use Rattle.text_out.proofs.Laws.{puts-as, goes-start}
+use Rattle.text_out.specs.Output.{Goes}
+use Rattle.text_out.proofs.Laws.{goes-start}
 use Rattle.xml.specs.Bytes.{bytes}
 use Rattle.written_form.proofs.Tail.{spacedText, rowText, rowsText, valueText, rangeText, sopText, satText}
 

@@ -2,7 +2,7 @@
 use Rattle.process_list.specs.declared.RangeStyle.the-variants.{Clamp, NoClamp}
 use Rattle.process_list.specs.declared.CdlStyle.the-variants.{FwdNoClamp}
 use mathlib.Core.Path.{_≡_, refl}
-use mathlib.Core.Bool.{true, false}
+use mathlib.Core.Bool.{true}
 use mathlib.Core.List.{List, [], _∷_, _++_}
 use lib.IntN.{pos, negsuc}
 use Rattle.decimal.specs.declared.Decimal.{Decimal}

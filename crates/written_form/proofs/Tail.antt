@@ -1,6 +1,6 @@
 -- The written form in tail form: each text stands in front of what follows it, as the code puts it (`nodeText e t` is the text of the node e, then t).
 -- It is the text of the lines (`list-text`). Assumes nothing.
-use mathlib.Core.Path.{_≡_, refl, sym, ap, _∙_}
+use mathlib.Core.Path.{_≡_, refl, ap, _∙_}
 use mathlib.Core.List.{List, [], _∷_, _++_, append-assoc}
 use Prim.Native.Nat.{ℕ, zero, suc}
 use lib.ListN.{take, drop}

@@ -53,7 +53,7 @@ pub record ReadsFrom {A : Type 0} (n : ℕ) (p : Parser A) (value : ℕ → A) (
 abbrev pub noValue : ℕ → Unit {0}
 noValue e = tt
 
--- the same answer, a fault scanAt at `at`
+-- the same answer, a fault placed at `at`
 abbrev pub blamedScan : Scan → ℕ → Scan
 blamedScan (At e) at = At e
 blamedScan (Fault k p) at = Fault k at

@@ -68,7 +68,7 @@ forbidden b =
     cond (eqb b exclamation) (settle Refusal.formNotCarried comment >> bad Refusal.formNotCarried)
     (cond (eqb b question) (bad Refusal.formNotCarried) (judge (λ w. Refusal.wrongElement) openName >> bad Refusal.wrongElement))
 
--- at the `<` behind text or numbers: the end tag of this name, before which `missing` lacks, or what may not stand there
+-- at the `<` behind text or numbers: the end tag of this name (`missing` is the fault of what lacks before it, 0 is none), or what may not stand there
 unfoldable pub onlyEnd : List ℕ → ℕ → G (Unit {0})
 onlyEnd w missing = lookTwo (λ a b. cond (eqb b slash) (endTag w missing) (forbidden b))
 
@@ -111,6 +111,10 @@ infoElement (suc n) = do
   tag ← startTag plain
   infoRest (infoElement n) w tag
 
+-- 'elements holding elements may nest to depth 16'
+abbrev pub deepest : ℕ
+deepest = 16
+
 -- Info after its name: 'Info's children are at depth 1'
 unfoldable pub info : G (Unit {0})
-info = seq (startTag plain) (infoRest (infoElement 16) (bytes "Info"))
+info = seq (startTag plain) (infoRest (infoElement deepest) (bytes "Info"))

@@ -104,9 +104,13 @@ pub record Rules : Type 0 where
 abbrev pub plain : Rules
 plain = record { names = λ w. 0; texts = λ w t. 0; opened = λ l. 0; emptied = λ l. 0 }
 
+-- 'At most 16 attributes on a tag'
+abbrev pub mostAttributes : ℕ
+mostAttributes = 16
+
 -- 'At most 16 attributes on a tag, none twice': a second one of its name is 2, the seventeenth 3, at its first byte once its name has ended
 abbrev pub nameFault : Rules → List Attribute → List ℕ → ℕ
-nameFault rules attributes w = cond (isNamed w attributes) Refusal.notWellFormed (cond (leb 16 (length attributes)) Refusal.formNotCarried (rules .names w))
+nameFault rules attributes w = cond (isNamed w attributes) Refusal.notWellFormed (cond (leb mostAttributes (length attributes)) Refusal.formNotCarried (rules .names w))
 
 -- an attribute after others: 'white space may surround `=`'
 unfoldable pub attribute : Rules → List Attribute → G Attribute

@@ -4,8 +4,8 @@
 ghost use mathlib.Core.Path.{_≡_};
 ghost use mathlib.Core.List.{[]};
 ghost use Prim.Native.Nat.{_+_, _≤_, _<_};
-ghost use lib.ListN.{length, drop, getD};
-ghost use Rattle.grammar.specs.Parse.{spanP, loopP, blameP};
+ghost use lib.ListN.{length, getD};
+ghost use Rattle.grammar.specs.Parse.{spanP, loopP};
 ghost use Rattle.xml.specs.Bytes as Bytes;
 ghost use Rattle.xml.specs.Xml as Xml;
 ghost use Rattle.xml.specs.Code.{Reads, ReadsFrom, NameOr, part, noValue, blamedScan};

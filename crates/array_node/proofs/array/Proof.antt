@@ -1,4 +1,3 @@
-use Rattle.tags.specs.Rules.{rulesOf}
 use Rattle.values.specs.Code.{ruleOf}
 use Rattle.tags.specs.Ended.{tagOf}
 use Rattle.markup.proofs.Answers.{failed}

@@ -1,4 +1,4 @@
-use borrow.Author.Tests.{lt-ltb, le-ltb, eq-eqb, ne-eqb}
+use borrow.Author.Tests.{lt-ltb, le-ltb}
 use borrow.Author.Needs.{needs}
 use Rattle.cdl_node.proofs.inner_missing.Statement.{statement}
 use Rattle.cdl_node.proofs.inner_missing.Tie as tie

@@ -1,4 +1,4 @@
-use borrow.Author.Tests.{lt-ltb, le-ltb, eq-eqb, ne-eqb}
+use borrow.Author.Tests.{eq-eqb, ne-eqb}
 use Rattle.cdl_node.proofs.Inner.{empty-name}
 use borrow.Author.Needs.{needs}
 use Rattle.cdl_node.proofs.is_next_sop.Statement.{statement}

@@ -4,10 +4,6 @@ use Rattle.room.specs.Room.{lent}
 use borrow.Author.Needs.{needs}
 use Rattle.clf_c.proofs.clf_apply.Statement.{statement}
 use Rattle.clf_c.proofs.clf_apply.Tie as tie
-use Rattle.clf_c.proofs.clf_apply.Reads as reads
-use Rattle.clf_c.proofs.clf_apply.Lts as lts
-use Rattle.clf_c.proofs.read_and_run.Reads as read-and-run-reads
-use Rattle.pixel_run.proofs.first_not_finite.Reads as first-not-finite-reads
 
 -- src/lib.rt:69:9
 returns : tie.Need-returns

@@ -4,10 +4,6 @@ use Rattle.room.specs.Room.{lent}
 use borrow.Author.Needs.{needs}
 use Rattle.clf_c.proofs.read_and_run.Statement.{statement}
 use Rattle.clf_c.proofs.read_and_run.Tie as tie
-use Rattle.clf_c.proofs.read_and_run.Reads as reads
-use Rattle.clf_c.proofs.read_and_run.Lts as lts
-use Rattle.reading.proofs.read.Reads as read-reads
-use Rattle.running.proofs.run.Reads as run-reads
 
 -- src/lib.rt:94:9
 -- src/lib.rt:97:21

@@ -2,7 +2,7 @@ use mathlib.Core.Path.{_≡_, _∙_}
 use native.Mathlib.Omega.{arith}
 use Prim.Native.Nat.{_-_}
 use lib.ListN.{length, drop}
-use Rattle.scanning.specs.Steps.{scan, one-turn, from-here}
+use Rattle.scanning.specs.Steps.{scan, from-here}
 use Rattle.fields.specs.Fields.{numberFrom, wordNumber}
 use Rattle.fields.specs.Laws.{numberFrom·laws, no-word, some-word, digit-more}
 use borrow.Author.Needs.{needs}

@@ -72,9 +72,6 @@ element-uses t = (
 )
 
 module _ (t : ℕ) where
-  content-loop-holds : content-lts.Need-loop-holds (content-uses t) (content-at t) content.Post content-Inv-loop content-μ-loop
-  content-loop-holds c = content-start _ _ _ _
-
   content-returns : content-lts.Need-returns (content-uses t) (content-at t) content.Post content-Inv-loop content-μ-loop
   content-returns c =
       let p = c .before .before .before .before in
@@ -104,23 +101,11 @@ module _ (t : ℕ) where
       content-child-failed (p .before .before .loop .inv) _ (rw (c .before .before .enum-told2 .given .1) at (p .piece-at .ensures)) (c .before .element .ensures)
       (failed (c .before .element .result) (c .match3 .keys2))
 
-  content-loop-less-2 : content-lts.Need-loop-less-2 (content-uses t) (content-at t) content.Post content-Inv-loop content-μ-loop
-  content-loop-less-2 c = omega (arith, (rw (c .before .r2 .given .1) at (c .before .before .before .element .ensures)) .inside)
-
   content-loop-again-2 : content-lts.Need-loop-again-2 (content-uses t) (content-at t) content.Post content-Inv-loop content-μ-loop
   content-loop-again-2 c =
       let p = c .before .before .before in
       let u = p .before .before .before in
       content-child (u .before .before .loop .inv) _ (rw (p .before .enum-told2 .given .1) at (u .piece-at .ensures)) (rw (c .before .r2 .given .1) at (p .element .ensures))
-
-  content-returns-4 : content-lts.Need-returns-4 (content-uses t) (content-at t) content.Post content-Inv-loop content-μ-loop
-  content-returns-4 c = content-ended (c .before .loop .inv) (omega arith)
-
-  element-returns : element-lts.Need-returns (element-uses t) (element-at t) element.Post
-  element-returns c = element-unnamed _ _ _ _ (failed (c .before .open-name .result) (c .match .keys2)) (c .before .open-name .ensures)
-
-  element-returns-2 : element-lts.Need-returns-2 (element-uses t) (element-at t) element.Post
-  element-returns-2 c = element-deep _ _ _ _ (rw (c .before .before .r .given .1) at (c .before .before .before .before .open-name .ensures)) (c .if1 .taken)
 
   element-add-part : element-lts.Need-add-part (element-uses t) (element-at t) element.Post
   element-add-part c =
@@ -146,7 +131,7 @@ module _ (t : ℕ) where
       let u = p .before .before .before in
       let v = u .before .before .before .before in
       element-rest _ _ _ _ (rw (u .before .before .r .given .1) at (v .open-name .ensures)) _ (u .if1 .left)
-      (rest-open (infoContent (infoElement (v .before .before .args .left - 1)) _) _ _ (p .before .before .plain-tag .result) (p .before .before .plain-tag .ensures) _ _ (p .end .given .1)
+      (rest-open (infoContent (infoElement (v .before .before .args .left - 1)) _) _ _ _ (p .before .before .plain-tag .ensures) _ _ (p .end .given .1)
       (rw (c .before .part .ensures) at (c .content .ensures)))
 
   element-returns-4 : element-lts.Need-returns-4 (element-uses t) (element-at t) element.Post
@@ -154,21 +139,21 @@ module _ (t : ℕ) where
       let p = c .before .before .before in
       let u = p .before .before .before in
       element-rest _ _ _ _ (rw (u .r .given .1) at (u .before .before .open-name .ensures)) _ (p .before .if1 .left)
-      (rest-empty (infoContent (infoElement (u .before .before .before .before .args .left - 1)) _) _ _ (p .plain-tag .result) (p .plain-tag .ensures) _ (c .before .end2 .given .1))
+      (rest-empty (infoContent (infoElement (u .before .before .before .before .args .left - 1)) _) _ _ _ (p .plain-tag .ensures) _ (c .before .end2 .given .1))
 
   element-returns-5 : element-lts.Need-returns-5 (element-uses t) (element-at t) element.Post
   element-returns-5 c =
       let p = c .before .before .before in
       let u = p .before .before .before in
       element-rest _ _ _ _ (rw (u .r .given .1) at (u .before .before .open-name .ensures)) _ (p .before .if1 .left)
-      (rest-fault (infoContent (infoElement (u .before .before .before .before .args .left - 1)) _) _ _ (p .plain-tag .result) (p .plain-tag .ensures) _ _ (c .before .end3 .given .1))
+      (rest-fault (infoContent (infoElement (u .before .before .before .before .args .left - 1)) _) _ _ _ (p .plain-tag .ensures) _ _ (c .before .end3 .given .1))
 
   element-returns-6 : element-lts.Need-returns-6 (element-uses t) (element-at t) element.Post
   element-returns-6 c =
       let p = c .before .before .before in
       let u = p .before .before .before .before in
       element-rest _ _ _ _ (rw (p .before .before .r .given .1) at (u .open-name .ensures)) _ (p .if1 .left)
-      (rest-cut (infoContent (infoElement (u .before .before .args .left - 1)) _) _ _ (c .before .before .plain-tag .result) (c .before .before .plain-tag .ensures) (c .enum-told .given .1))
+      (rest-cut (infoContent (infoElement (u .before .before .args .left - 1)) _) _ _ _ (c .before .before .plain-tag .ensures) (c .enum-told .given .1))
 
 pub +content+element-spec : {M : Type 1} → statement M
 +content+element-spec = close μ-content μ-element (λ t. content-lts.spec (content-uses t)
@@ -176,7 +161,7 @@ pub +content+element-spec : {M : Type 1} → statement M
     content.Post
     content-Inv-loop
     content-μ-loop
-    (content-loop-holds t)
+    (λ c. content-start _ _ _ _)
     (λ c κs. search needs)
     (λ c. search needs)
     (λ c. search needs)
@@ -190,16 +175,16 @@ pub +content+element-spec : {M : Type 1} → statement M
     (content-element-requires t)
     (λ c. search needs)
     (content-returns-3 t)
-    (content-loop-less-2 t)
+    (λ c. omega (arith, (rw (c .before .r2 .given .1) at (c .before .before .before .element .ensures)) .inside))
     (content-loop-again-2 t)
-    (content-returns-4 t))
+    (λ c. content-ended (c .before .loop .inv) (omega arith)))
     λ t. element-lts.spec (element-uses t)
     (element-at t)
     element.Post
     (λ c κs. search needs)
     (λ c. search needs)
-    (element-returns t)
-    (element-returns-2 t)
+    (λ c. element-unnamed _ _ _ _ (failed (c .before .open-name .result) (c .match .keys2)) (c .before .open-name .ensures))
+    (λ c. element-deep _ _ _ _ (rw (c .before .before .r .given .1) at (c .before .before .before .before .open-name .ensures)) (c .if1 .taken))
     (λ c κs. search needs)
     (λ c. search needs)
     (element-add-part t)

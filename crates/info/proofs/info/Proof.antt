@@ -8,20 +8,17 @@ use Rattle.info.proofs.info.Tie as tie
 returns : tie.Need-returns
 returns c =
     let t = c .before .before .before in
-    info-rest _ _ _ (rest-open (infoContent (infoElement 16) _) _ _ (t .before .before .plain-tag .result) (t .before .before .plain-tag .ensures) _ _ (t .end .given .1) (c .content .ensures))
+    info-rest _ _ _ (rest-open (infoContent (infoElement 16) _) _ _ _ (t .before .before .plain-tag .ensures) _ _ (t .end .given .1) (c .content .ensures))
 
 returns-2 : tie.Need-returns-2
 returns-2 c =
     let t = c .before .before .before in
-    info-rest _ _ _ (rest-empty (infoContent (infoElement 16) _) _ _ (t .plain-tag .result) (t .plain-tag .ensures) _ (c .before .end2 .given .1))
+    info-rest _ _ _ (rest-empty (infoContent (infoElement 16) _) _ _ _ (t .plain-tag .ensures) _ (c .before .end2 .given .1))
 
 returns-3 : tie.Need-returns-3
 returns-3 c =
     let t = c .before .before .before in
-    info-rest _ _ _ (rest-fault (infoContent (infoElement 16) _) _ _ (t .plain-tag .result) (t .plain-tag .ensures) _ _ (c .before .end3 .given .1))
-
-returns-4 : tie.Need-returns-4
-returns-4 c = info-rest _ _ _ (rest-cut (infoContent (infoElement 16) _) _ _ (c .before .before .plain-tag .result) (c .before .before .plain-tag .ensures) (c .enum-told .given .1))
+    info-rest _ _ _ (rest-fault (infoContent (infoElement 16) _) _ _ _ (t .plain-tag .ensures) _ _ (c .before .end3 .given .1))
 
 pub info-spec : {M : Type 1} → statement M
 info-spec =
@@ -37,4 +34,4 @@ info-spec =
     returns
     returns-2
     returns-3
-    returns-4)
+    (λ c. info-rest _ _ _ (rest-cut (infoContent (infoElement 16) _) _ _ _ (c .before .before .plain-tag .ensures) (c .enum-told .given .1))))

@@ -4,15 +4,6 @@ use borrow.Author.Needs.{needs}
 use Rattle.info.proofs.piece_at.Statement.{statement}
 use Rattle.info.proofs.piece_at.Tie as tie
 
-returns : tie.Need-returns
-returns c = piece-and _ _ (omega arith) _ (c .before .if1 .taken) (c .entity .ensures)
-
-returns-2 : tie.Need-returns-2
-returns-2 c = piece-text _ _ (omega arith) (c .before .if1 .left) (c .if2 .taken)
-
-returns-3 : tie.Need-returns-3
-returns-3 c = piece-cut _ _ (omega arith) (c .before .if2 .left) (c .if3 .taken)
-
 returns-4 : tie.Need-returns-4
 returns-4 c =
     let t = c .before .before .before in
@@ -37,9 +28,9 @@ piece-at-spec =
     (λ c. search needs)
     (λ c. search needs)
     (λ c κs. search needs)
-    returns
-    returns-2
-    returns-3
+    (λ c. piece-and _ _ (omega arith) _ (c .before .if1 .taken) (c .entity .ensures))
+    (λ c. piece-text _ _ (omega arith) (c .before .if1 .left) (c .if2 .taken))
+    (λ c. piece-cut _ _ (omega arith) (c .before .if2 .left) (c .if3 .taken))
     (λ c. search needs)
     returns-4
     (λ c κs. search needs)

@@ -1,5 +1,5 @@
 -- `pixel_run::first_not_finite` meets its contract. Assumes nothing.
-use mathlib.Core.Path.{_≡_, sym, _∙_}
+use mathlib.Core.Path.{sym, _∙_}
 use Rattle.pixel_run.specs.FiniteLaws.{all-first}
 use borrow.Author.Needs.{needs}
 use Rattle.pixel_run.proofs.first_not_finite.Statement.{statement}

@@ -1,4 +1,4 @@
--- `process_list::withPosition` meets its contract. Assumes nothing.
+-- `process_list::with_position` meets its contract. Assumes nothing.
 use borrow.Author.Needs.{needs}
 use Rattle.process_list.specs.List.{withPosition}
 use Rattle.process_list.proofs.with_position.Statement.{statement}

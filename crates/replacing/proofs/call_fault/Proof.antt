@@ -16,17 +16,26 @@ returns-2 c =
 returns-3 : tie.Need-returns-3
 returns-3 c =
     let t = c .before .before .before in
-    record { number = fault-beyond _ _ _ _ (sym (t .valid .ensures) ∙ not-false _ (c .before .before .if1 .left)) (omega (arith, t .before .held .ensures .nodes, c .if3 .taken)); array = t .before .held .ensures .array }
+    record {
+      number = fault-beyond _ _ _ _ (sym (t .valid .ensures) ∙ not-false _ (c .before .before .if1 .left)) (omega (arith, t .before .held .ensures .nodes, c .if3 .taken));
+      array = t .before .held .ensures .array;
+    }
 
 returns-4 : tie.Need-returns-4
 returns-4 c =
     let t = c .before .before .before in
-    record { number = fault-large _ _ _ _ (sym (t .before .valid .ensures) ∙ not-false _ (t .if1 .left)) (c .before .before .if2 .left) (omega (arith, t .before .before .held .ensures .nodes, c .before .if3 .left)) (c .if4 .taken); array = t .before .before .held .ensures .array }
+    record {
+      number = fault-large _ _ _ _ (sym (t .before .valid .ensures) ∙ not-false _ (t .if1 .left)) (c .before .before .if2 .left) (omega (arith, t .before .before .held .ensures .nodes, c .before .if3 .left)) (c .if4 .taken);
+      array = t .before .before .held .ensures .array;
+    }
 
 returns-5 : tie.Need-returns-5
 returns-5 c =
     let t = c .before .before .before in
-    record { number = fault-well _ _ _ _ (sym (t .before .valid .ensures) ∙ not-false _ (t .if1 .left)) (c .before .before .if2 .left) (omega (arith, t .before .before .held .ensures .nodes, c .before .if3 .left)) (c .if4 .left); array = t .before .before .held .ensures .array }
+    record {
+      number = fault-well _ _ _ _ (sym (t .before .valid .ensures) ∙ not-false _ (t .if1 .left)) (c .before .before .if2 .left) (omega (arith, t .before .before .held .ensures .nodes, c .before .if3 .left)) (c .if4 .left);
+      array = t .before .before .held .ensures .array;
+    }
 
 pub call-fault-spec : {M : Type 1} → statement M
 call-fault-spec =

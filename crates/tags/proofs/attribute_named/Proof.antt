@@ -1,7 +1,6 @@
 use native.Mathlib.Omega.{arith}
 use mathlib.Core.Path.{sym}
 use Rattle.tags.specs.Rules.{rulesOf}
-use Rattle.tags.specs.Code.{attributesOf}
 use Rattle.tags.proofs.AttributeLaws.{named-bad, named-quote, named-fault, named-cut}
 use borrow.Author.Needs.{needs}
 use Rattle.tags.proofs.attribute_named.Statement.{statement}
@@ -10,8 +9,7 @@ use Rattle.tags.proofs.attribute_named.Tie as tie
 returns : tie.Need-returns
 returns c =
     let t = c .before .before .before .before in
-    named-bad (rulesOf (t .args .kind)) (attributesOf (t .args .s .now) (t .args .attributes)) (t .args .s .now) (t .args .at) (t .args .e) (t .pre) _
-    (rw (c .before .before .part .ensures) at (c .before .name-fault .ensures)) (c .if1 .taken)
+    named-bad (rulesOf (t .args .kind)) _ _ _ _ (t .pre) _ (rw (c .before .before .part .ensures) at (c .before .name-fault .ensures)) (c .if1 .taken)
 
 attribute-text-requires : tie.Need-attribute-text-requires
 attribute-text-requires c κs =
@@ -26,23 +24,21 @@ returns-2 : tie.Need-returns-2
 returns-2 c =
     let t = c .before .before .before .before in
     let u = t .before .before .before in
-    named-quote (rulesOf (u .before .before .args .kind)) (attributesOf (u .before .before .args .s .now) (u .before .before .args .attributes)) (u .before .before .args .s .now)
-    (u .before .before .args .at) (u .before .before .args .e) (u .before .before .pre) _ (rw (u .part .ensures) at (t .before .before .name-fault .ensures)) (t .before .if1 .left) _ _
+    named-quote (rulesOf (u .before .before .args .kind)) _ _ _ _ (u .before .before .pre) _ (rw (u .part .ensures) at (t .before .before .name-fault .ensures)) (t .before .if1 .left) _ _
     (rw (c .before .before .r .given .1) at (t .to-quote .ensures)) (c .attribute-text .ensures)
 
 returns-3 : tie.Need-returns-3
 returns-3 c =
     let t = c .before .before .before in
     let u = t .before .before .before in
-    named-fault (rulesOf (u .before .before .args .kind)) (attributesOf (u .before .before .args .s .now) (u .before .before .args .attributes)) (u .before .before .args .s .now)
-    (u .before .before .args .at) (u .before .before .args .e) (u .before .before .pre) _ (rw (u .part .ensures) at (t .before .before .name-fault .ensures)) (t .before .if1 .left) _ _
+    named-fault (rulesOf (u .before .before .args .kind)) _ _ _ _ (u .before .before .pre) _ (rw (u .part .ensures) at (t .before .before .name-fault .ensures)) (t .before .if1 .left) _ _
     (rw (c .before .r2 .given .1) at (t .to-quote .ensures))
 
 returns-4 : tie.Need-returns-4
 returns-4 c =
     let t = c .before .before .before in
     let u = t .before .before .before .before in
-    named-cut (rulesOf (u .args .kind)) (attributesOf (u .args .s .now) (u .args .attributes)) (u .args .s .now) (u .args .at) (u .args .e) (u .pre) _
+    named-cut (rulesOf (u .args .kind)) _ _ _ _ (u .pre) _
     (rw (t .before .before .part .ensures) at (t .before .name-fault .ensures)) (t .if1 .left) (rw (c .enum-told .given .1) at (c .before .before .to-quote .ensures))
 
 pub attribute-named-spec : {M : Type 1} → statement M

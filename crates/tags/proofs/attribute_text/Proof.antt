@@ -9,7 +9,7 @@ returns c =
     let t = c .before .before .before in
     let u = t .before .before .before .before in
     let v = u .before .before .before in
-    text-bad (rulesOf (v .args .kind)) (v .args .s .now) (v .args .at) (v .args .e) (v .args .q) (v .pre) _ (rw (t .before .before .r .given .1) at (u .text-to .ensures)) _
+    text-bad (rulesOf (v .args .kind)) _ _ _ _ (v .pre) _ (rw (t .before .before .r .given .1) at (u .text-to .ensures)) _
     (rw (t .part .ensures, c .before .before .part2 .ensures) at (c .before .text-fault .ensures)) (c .if1 .taken)
 
 returns-2 : tie.Need-returns-2
@@ -17,7 +17,7 @@ returns-2 c =
     let t = c .before .before .before in
     let u = t .before .before .before in
     let v = u .before .before .before .before .before in
-    text-cut (rulesOf (v .args .kind)) (v .args .s .now) (v .args .at) (v .args .e) (v .args .q) (v .pre) _ (rw (u .r .given .1) at (u .before .before .text-to .ensures)) _
+    text-cut (rulesOf (v .args .kind)) _ _ _ _ (v .pre) _ (rw (u .r .given .1) at (u .before .before .text-to .ensures)) _
     (rw (t .before .part .ensures, t .part2 .ensures) at (c .before .before .text-fault .ensures)) (c .before .if1 .left) (c .if2 .taken)
 
 returns-3 : tie.Need-returns-3
@@ -25,19 +25,19 @@ returns-3 c =
     let t = c .before .before .before in
     let u = t .before .before .before in
     let v = u .before .before .before .before .before in
-    text-done (rulesOf (v .args .kind)) (v .args .s .now) (v .args .at) (v .args .e) (v .args .q) (v .pre) _ (rw (u .r .given .1) at (u .before .before .text-to .ensures)) _
+    text-done (rulesOf (v .args .kind)) _ _ _ _ (v .pre) _ (rw (u .r .given .1) at (u .before .before .text-to .ensures)) _
     (rw (t .before .part .ensures, t .part2 .ensures) at (c .before .before .text-fault .ensures)) (c .before .if1 .left) (c .if2 .left)
 
 returns-4 : tie.Need-returns-4
 returns-4 c =
     let t = c .before .before .before in
     let u = t .before .before .before in
-    text-fault (rulesOf (u .args .kind)) (u .args .s .now) (u .args .at) (u .args .e) (u .args .q) (u .pre) _ _ (rw (c .before .r2 .given .1) at (t .text-to .ensures))
+    text-fault (rulesOf (u .args .kind)) _ _ _ _ (u .pre) _ _ (rw (c .before .r2 .given .1) at (t .text-to .ensures))
 
 returns-5 : tie.Need-returns-5
 returns-5 c =
     let t = c .before .before .before .before .before in
-    text-ended (rulesOf (t .args .kind)) (t .args .s .now) (t .args .at) (t .args .e) (t .args .q) (t .pre) (rw (c .enum-told .given .1) at (c .before .before .text-to .ensures))
+    text-ended (rulesOf (t .args .kind)) _ _ _ _ (t .pre) (rw (c .enum-told .given .1) at (c .before .before .text-to .ensures))
 
 pub attribute-text-spec : {M : Type 1} → statement M
 attribute-text-spec =

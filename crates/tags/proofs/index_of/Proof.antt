@@ -12,20 +12,10 @@ Inv-loop s w attributes count i₀ i = (i ≤ 16) × (i ≤ attributes .count) �
 abbrev μ-loop : tie.MeasureT-loop
 μ-loop s w attributes count i₀ i = 16 - i
 
-loop-holds : tie.Need-loop-holds Inv-loop μ-loop
-loop-holds c = (omega arith, omega arith, none-start (c .before .before .args .s .now) (c .before .before .args .t2) (c .before .before .args .w .now))
-
-returns : tie.Need-returns Inv-loop μ-loop
-returns c =
-    let t = c .before .before .before .before .before in
-    index-none (t .args .s .now) (t .args .t2) (t .args .w .now) (c .before .before .loop .i) (c .before .before .loop .inv .2) (omega arith)
-
 returns-2 : tie.Need-returns-2 Inv-loop μ-loop
 returns-2 c =
     let t = c .before .before .before .before .before .before .before in
-    let u = t .before .before .before in
-    index-found (u .args .s .now) (u .args .t2) (u .args .w .now) (t .loop .i) (t .loop .inv .2) (omega arith) (omega arith)
-    (rw (c .before .before .part .ensures) at (sym (c .before .same-name .ensures) ∙ c .if2 .taken))
+    index-found _ _ _ (t .loop .i) (t .loop .inv .2) (omega arith) (omega arith) (rw (c .before .before .part .ensures) at (sym (c .before .same-name .ensures) ∙ c .if2 .taken))
 
 loop-again : tie.Need-loop-again Inv-loop μ-loop
 loop-again c =
@@ -33,14 +23,9 @@ loop-again c =
     let u = t .before .before .before in (
       omega arith,
       omega arith,
-      none-more (u .args .s .now) (u .args .t2) (u .args .w .now) (t .loop .i) (t .loop .inv .2)
+      none-more _ (u .args .t2) _ _ (t .loop .inv .2)
           (rw (c .before .before .part .ensures) at (sym (c .before .same-name .ensures) ∙ c .if2 .left)),
     )
-
-returns-3 : tie.Need-returns-3 Inv-loop μ-loop
-returns-3 c =
-    let t = c .before .before .before .before in
-    index-none (t .args .s .now) (t .args .t2) (t .args .w .now) (c .before .loop .i) (c .before .loop .inv .2) (omega arith)
 
 pub index-of-spec : {M : Type 1} → statement M
 index-of-spec =
@@ -48,8 +33,8 @@ index-of-spec =
     (tie.spec
     Inv-loop
     μ-loop
-    loop-holds
-    returns
+    (λ c. let a = c .before .before .args in (omega arith, omega arith, none-start (a .s .now) (a .t2) (a .w .now)))
+    (λ c. index-none _ _ _ (c .before .before .loop .i) (c .before .before .loop .inv .2) (omega arith))
     (λ c. search needs)
     (λ c. search needs)
     (λ c. search needs)
@@ -60,4 +45,4 @@ index-of-spec =
     (λ c. search needs)
     (λ c. search needs)
     loop-again
-    returns-3)
+    (λ c. index-none _ _ _ (c .before .loop .i) (c .before .loop .inv .2) (omega arith)))

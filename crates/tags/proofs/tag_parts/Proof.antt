@@ -17,24 +17,19 @@ abbrev μ-loop : tie.MeasureT-loop
 loop-again : tie.Need-loop-again Inv-loop μ-loop
 loop-again c =
     let t = c .before .before .before in
-    let u = t .before .before .before .before in
-    tag-space (rulesOf (u .args .kind)) (u .args .s .now) (u .args .at) (t .before .loop .attributes) (t .before .loop .spaced) (t .before .loop .i) (t .before .loop .inv) (t .loop-test .taken)
-    (sym (c .before .is-space .ensures) ∙ c .if1 .taken)
+    tag-space (t .before .loop .inv) (t .loop-test .taken) (sym (c .before .is-space .ensures) ∙ c .if1 .taken)
 
 returns : tie.Need-returns Inv-loop μ-loop
 returns c =
     let t = c .before .before .before in
     let u = t .before .before .before in
-    let v = u .before .before .before in
-    tag-open (rulesOf (v .args .kind)) (v .args .s .now) (v .args .at) (u .loop .attributes) (u .loop .spaced) (u .loop .i) (u .loop .inv) (t .before .before .loop-test .taken)
-    (sym (t .is-space .ensures) ∙ c .before .before .if1 .left) (c .before .if2 .taken) _ (c .open-end .ensures)
+    tag-open (u .loop .inv) (t .before .before .loop-test .taken) (sym (t .is-space .ensures) ∙ c .before .before .if1 .left) (c .before .if2 .taken) _ (c .open-end .ensures)
 
 returns-2 : tie.Need-returns-2 Inv-loop μ-loop
 returns-2 c =
     let t = c .before .before .before in
     let u = t .before .before .before in
-    let v = u .before .before .before .before in
-    tag-empty (rulesOf (v .args .kind)) (v .args .s .now) (v .args .at) (u .before .loop .attributes) (u .before .loop .spaced) (u .before .loop .i) (u .before .loop .inv) (u .loop-test .taken)
+    tag-empty (u .before .loop .inv) (u .loop-test .taken)
     (sym (t .before .is-space .ensures) ∙ t .if1 .left) (c .before .before .if2 .left) (c .before .if3 .taken) _ (c .empty-end .ensures)
 
 loop-again-2 : tie.Need-loop-again-2 Inv-loop μ-loop
@@ -42,8 +37,7 @@ loop-again-2 c =
     let t = c .before .before .before .before in
     let u = t .before .before .before in
     let v = u .before .before .before .before in
-    tag-attribute (rulesOf (v .before .before .before .before .args .kind)) (v .before .before .before .before .args .s .now) (v .before .before .before .before .args .at)
-    (v .before .loop .attributes) (v .before .loop .spaced) (v .before .loop .i) (v .before .loop .inv) (v .loop-test .taken) (sym (u .before .before .is-space .ensures) ∙ u .before .if1 .left)
+    tag-attribute (v .before .loop .inv) (v .loop-test .taken) (sym (u .before .before .is-space .ensures) ∙ u .before .if1 .left)
     (u .if2 .left) (t .before .before .if3 .left) (t .before .if4 .taken) _ _ _ ((rw (c .before .before .a .given .1) at (t .attribute .ensures)) .0)
     ((rw (c .before .before .a .given .1) at (t .attribute .ensures)) .1) _ (c .with-attribute .ensures)
 
@@ -52,8 +46,7 @@ returns-3 c =
     let t = c .before .before .before in
     let u = t .before .before .before in
     let v = u .before .before .before .before in
-    tag-fault (rulesOf (v .before .before .before .before .args .kind)) (v .before .before .before .before .args .s .now) (v .before .before .before .before .args .at) (v .before .loop .attributes)
-    (v .before .loop .spaced) (v .before .loop .i) (v .before .loop .inv) (v .loop-test .taken) (sym (u .before .before .is-space .ensures) ∙ u .before .if1 .left) (u .if2 .left)
+    tag-fault (v .before .loop .inv) (v .loop-test .taken) (sym (u .before .before .is-space .ensures) ∙ u .before .if1 .left) (u .if2 .left)
     (t .before .before .if3 .left) (t .before .if4 .taken) _ _ ((rw (c .before .a2 .given .1) at (t .attribute .ensures)) .0) ((rw (c .before .a2 .given .1) at (t .attribute .ensures)) .1)
 
 returns-4 : tie.Need-returns-4 Inv-loop μ-loop
@@ -61,22 +54,14 @@ returns-4 c =
     let t = c .before .before .before in
     let u = t .before .before .before in
     let v = u .before .before .before in
-    tag-cut (rulesOf (v .before .before .before .before .args .kind)) (v .before .before .before .before .args .s .now) (v .before .before .before .before .args .at) (v .before .loop .attributes)
-    (v .before .loop .spaced) (v .before .loop .i) (v .before .loop .inv) (v .loop-test .taken) (sym (u .before .is-space .ensures) ∙ u .if1 .left) (t .before .before .if2 .left)
+    tag-cut (v .before .loop .inv) (v .loop-test .taken) (sym (u .before .is-space .ensures) ∙ u .if1 .left) (t .before .before .if2 .left)
     (t .before .if3 .left) (t .if4 .taken) ((rw (c .enum-told .given .1) at (c .before .before .attribute .ensures)) .0)
 
 returns-5 : tie.Need-returns-5 Inv-loop μ-loop
 returns-5 c =
     let t = c .before .before .before in
     let u = t .before .before .before in
-    let v = u .before .before .before .before in
-    tag-other (rulesOf (v .args .kind)) (v .args .s .now) (v .args .at) (u .before .loop .attributes) (u .before .loop .spaced) (u .before .loop .i) (u .before .loop .inv) (u .loop-test .taken)
-    (sym (t .before .is-space .ensures) ∙ t .if1 .left) (c .before .before .if2 .left) (c .before .if3 .left) (c .if4 .left)
-
-returns-6 : tie.Need-returns-6 Inv-loop μ-loop
-returns-6 c =
-    let t = c .before .before .before .before in
-    tag-end (rulesOf (t .args .kind)) (t .args .s .now) (t .args .at) (c .before .loop .attributes) (c .before .loop .spaced) (c .before .loop .i) (c .before .loop .inv) (c .loop-test .left)
+    tag-other (u .before .loop .inv) (u .loop-test .taken) (sym (t .before .is-space .ensures) ∙ t .if1 .left) (c .before .before .if2 .left) (c .before .if3 .left) (c .if4 .left)
 
 pub tag-parts-spec : {M : Type 1} → statement M
 tag-parts-spec =
@@ -106,4 +91,4 @@ tag-parts-spec =
     (λ c. search needs)
     returns-4
     returns-5
-    returns-6)
+    (λ c. tag-end (c .before .loop .inv) (c .loop-test .left)))

@@ -8,13 +8,6 @@ use Rattle.valid.specs.Valid.{every, isBlank, isBlankList}
 use Rattle.valid.proofs.is_blank_list.Statement.{statement}
 use Rattle.valid.proofs.is_blank_list.Tie as tie
 
-returns : tie.Need-returns
-unfolding isBlankList
-returns c = simp (ne-eqb _ _ (c .if1 .taken))
-
-blank-behind-requires : tie.Need-blank-behind-requires
-blank-behind-requires c κs = let e = c .if1 .left in omega arith
-
 returns-2 : tie.Need-returns-2
 unfolding isBlankList
 returns-2 c =
@@ -23,4 +16,5 @@ returns-2 c =
     simp (eq-eqb _ _ z) (c .blank-behind .ensures ∙ ap (λ (n : ℕ). every isBlank (drop n (l .nodes))) z)
 
 pub is-blank-list-spec : {M : Type 1} → statement M
-is-blank-list-spec = tie.close (tie.spec returns blank-behind-requires returns-2)
+unfolding isBlankList
+is-blank-list-spec = tie.close (tie.spec (λ c. simp (ne-eqb _ _ (c .if1 .taken))) (λ c κs. let e = c .if1 .left in omega arith) returns-2)

@@ -1,6 +1,5 @@
 -- `valid::zero_from` meets its contract. Assumes nothing.
 use mathlib.Core.Path.{sym, _∙_}
-use native.Mathlib.Omega.{arith}
 use borrow.Author.Tests.{not-true, not-false}
 use borrow.Author.Needs.{needs}
 use Rattle.room.specs.Room.{roomLength}
@@ -8,19 +7,11 @@ use Rattle.valid.specs.Valid.{zeroFrom}
 use Rattle.valid.proofs.zero_from.Statement.{statement}
 use Rattle.valid.proofs.zero_from.Tie as tie
 
-coefficients-zero-requires : tie.Need-coefficients-zero-requires
-unfolding roomLength
-coefficients-zero-requires c κs = search needs
-
 returns : tie.Need-returns
 unfolding zeroFrom
 returns c =
     let e = rw (c .before .before .length .ensures) at (c .before .coefficients-zero .ensures) in
     simp (sym e ∙ not-true _ (c .if1 .taken))
-
-powers-zero-requires : tie.Need-powers-zero-requires
-unfolding roomLength
-powers-zero-requires c κs = search needs
 
 returns-2 : tie.Need-returns-2
 unfolding zeroFrom
@@ -31,11 +22,12 @@ returns-2 c =
     simp (sym e ∙ not-false _ (c .before .if1 .left)) f
 
 pub zero-from-spec : {M : Type 1} → statement M
+unfolding roomLength
 zero-from-spec =
     tie.close
     (tie.spec
     (λ c κs. search needs)
-    coefficients-zero-requires
+    (λ c κs. search needs)
     returns
-    powers-zero-requires
+    (λ c κs. search needs)
     returns-2)

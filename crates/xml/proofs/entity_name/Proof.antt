@@ -1,5 +1,4 @@
 -- the five names, from the last to the first
-use native.Mathlib.Omega.{arith}
 use Rattle.xml.proofs.Entities.{more-names, no-names}
 use borrow.Author.Needs.{needs}
 use Rattle.xml.proofs.entity_name.Statement.{statement}

@@ -1,4 +1,3 @@
-use native.Mathlib.Omega.{arith}
 use Rattle.xml.proofs.Entities.{word-stood, word-differed, word-ended}
 use borrow.Author.Needs.{needs}
 use Rattle.xml.proofs.name_or.Statement.{statement}

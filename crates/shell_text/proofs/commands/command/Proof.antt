@@ -4,11 +4,6 @@ use denote.Ref.{now}
 use borrow.Author.Needs.{needs}
 use Rattle.shell_text.proofs.commands.command.Statement.{statement}
 use Rattle.shell_text.proofs.commands.command.Tie as tie
-use Rattle.shell_text.proofs.commands.command.Reads as reads
-use Rattle.shell_text.proofs.commands.command.Lts as lts
-use Rattle.shell_text.proofs.commands.lettered.Reads as lettered-reads
-use Rattle.shell_text.proofs.commands.unknown.Reads as unknown-reads
-use Rattle.shell_text.proofs.lines.is_run.Reads as is-run-reads
 
 -- src/commands.rt:127:8
 -- src/commands.rt:128:9

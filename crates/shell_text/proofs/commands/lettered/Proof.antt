@@ -2,13 +2,6 @@ use Rattle.shell_text.proofs.CommandLaws.{letters-one, letters-two, let
 use borrow.Author.Needs.{needs}
 use Rattle.shell_text.proofs.commands.lettered.Statement.{statement}
 use Rattle.shell_text.proofs.commands.lettered.Tie as tie
-use Rattle.shell_text.proofs.commands.lettered.Reads as reads
-use Rattle.shell_text.proofs.commands.lettered.Lts as lts
-use Rattle.shell_text.proofs.commands.numbered.Reads as numbered-reads
-use Rattle.shell_text.proofs.commands.plain.Reads as plain-reads
-use Rattle.shell_text.proofs.commands.shape.Reads as shape-reads
-use Rattle.shell_text.proofs.commands.under_id.Reads as under-id-reads
-use Rattle.shell_text.proofs.commands.unknown.Reads as unknown-reads
 
 -- src/commands.rt:97:9
 -- src/commands.rt:99:9

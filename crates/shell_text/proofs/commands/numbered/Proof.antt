@@ -3,14 +3,6 @@ use denote.Ref.{now}
 use borrow.Author.Needs.{needs}
 use Rattle.shell_text.proofs.commands.numbered.Statement.{statement}
 use Rattle.shell_text.proofs.commands.numbered.Tie as tie
-use Rattle.shell_text.proofs.commands.numbered.Reads as reads
-use Rattle.shell_text.proofs.commands.numbered.Lts as lts
-use Rattle.fields.proofs.next_field.Reads as next-field-reads
-use Rattle.fields.proofs.number.Reads as number-reads
-use Rattle.shell_text.proofs.commands.unknown.Reads as unknown-reads
-use Rattle.shell_text.proofs.commands.with_bytes.Reads as with-bytes-reads
-use Rattle.shell_text.proofs.hex.last_field.Reads as last-field-reads
-use Rattle.tags.proofs.part.Reads as part-reads
 
 -- src/commands.rt:51:9
 -- src/commands.rt:54:33

@@ -2,10 +2,6 @@ use Rattle.shell_text.proofs.CommandLaws.{says-plain}
 use borrow.Author.Needs.{needs}
 use Rattle.shell_text.proofs.commands.plain.Statement.{statement}
 use Rattle.shell_text.proofs.commands.plain.Tie as tie
-use Rattle.shell_text.proofs.commands.plain.Reads as reads
-use Rattle.shell_text.proofs.commands.plain.Lts as lts
-use Rattle.shell_text.proofs.commands.with_bytes.Reads as with-bytes-reads
-use Rattle.shell_text.proofs.hex.last_field.Reads as last-field-reads
 
 -- src/commands.rt:43:9
 -- src/commands.rt:44:5

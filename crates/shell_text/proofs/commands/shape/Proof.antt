@@ -2,8 +2,6 @@ use Rattle.shell_text.specs.Commands.{shapeOf}
 use borrow.Author.Tests.{eq-eqb, ne-eqb}
 use Rattle.shell_text.proofs.commands.shape.Statement.{statement}
 use Rattle.shell_text.proofs.commands.shape.Tie as tie
-use Rattle.shell_text.proofs.commands.shape.Reads as reads
-use Rattle.shell_text.proofs.commands.shape.Lts as lts
 
 -- src/commands.rt:86:9
 returns : tie.Need-returns

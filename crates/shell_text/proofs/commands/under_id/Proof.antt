@@ -3,13 +3,6 @@ use denote.Ref.{now}
 use borrow.Author.Needs.{needs}
 use Rattle.shell_text.proofs.commands.under_id.Statement.{statement}
 use Rattle.shell_text.proofs.commands.under_id.Tie as tie
-use Rattle.shell_text.proofs.commands.under_id.Reads as reads
-use Rattle.shell_text.proofs.commands.under_id.Lts as lts
-use Rattle.fields.proofs.next_field.Reads as next-field-reads
-use Rattle.shell_text.proofs.commands.unknown.Reads as unknown-reads
-use Rattle.shell_text.proofs.commands.with_bytes.Reads as with-bytes-reads
-use Rattle.shell_text.proofs.hex.decoded_part.Reads as decoded-part-reads
-use Rattle.shell_text.proofs.lines.last_number.Reads as last-number-reads
 
 -- src/commands.rt:68:9
 -- src/commands.rt:71:9

@@ -3,9 +3,6 @@ use mathlib.Core.Path.{sym, ap, _∙_}
 use borrow.Author.Needs.{needs}
 use Rattle.shell_text.proofs.commands.with_bytes.Statement.{statement}
 use Rattle.shell_text.proofs.commands.with_bytes.Tie as tie
-use Rattle.shell_text.proofs.commands.with_bytes.Reads as reads
-use Rattle.shell_text.proofs.commands.with_bytes.Lts as lts
-use Rattle.shell_text.proofs.commands.unknown.Reads as unknown-reads
 
 -- src/commands.rt:29:24
 -- src/commands.rt:35:31

@@ -1,13 +1,11 @@
 -- `put_bits` meets its contract. Assumes nothing.
 use borrow.Author.Needs.{needs}
 use Rattle.shell_text.proofs.Laws.{top-none}
-use native.Mathlib.Omega.{arith}
 use Rattle.shell_text.proofs.Laws.{digits-first, top-more}
 use Rattle.shell_text.specs.Words.{bitsText, topDigits}
 use Rattle.text_out.proofs.Laws.{goes-then, goes-end}
 use Rattle.text_out.specs.Output.{Goes}
 use mathlib.Core.List.{_++_}
-use mathlib.Core.Path.{_≡_, refl}
 use Rattle.shell_text.proofs.words.put_bits.Statement.{statement}
 use Rattle.shell_text.proofs.words.put_bits.Tie as tie
 
