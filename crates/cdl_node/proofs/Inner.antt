@@ -22,7 +22,7 @@ use Rattle.tags.specs.Code.{partIn}
 use Rattle.tags.proofs.Words.{part-in}
 use Rattle.values.specs.Code.{NumbersRead}
 use Rattle.clf.specs.Numbers.{valueElement}
-use Rattle.clf.specs.Nodes.{holderRules}
+use Rattle.clf.specs.Nodes.{notEmptyRules}
 use Rattle.node_parts.specs.Code.{NumbersIn}
 use Rattle.node_parts.specs.Held.{Went, Goes, HeldAt, ReadsTo}
 use Rattle.room.specs.Room.{Room, clearedFrom}
@@ -31,7 +31,7 @@ use Rattle.node_parts.proofs.Held.{end-lacks, child-refused, child-body, held-e
 use Rattle.node_parts.proofs.Reading.{to-map, to-then, to-failed, to-part, numbers-to}
 use Rattle.cdl_node.specs.declared.CdlPart.{CdlPart}
 use Rattle.cdl_node.specs.declared.CdlPart.the-variants.{Sop, Sat}
-use Rattle.cdl_node.specs.Code.{nameOf, widthOf, topOf, baseOf, faultOf, rulesIn, innerHolder, innerNode, InnerStands}
+use Rattle.cdl_node.specs.Code.{nameOf, widthOf, topOf, baseOf, partFaultOf, rulesIn, innerHolder, innerNode, InnerStands}
 
 -- ---- names
 
@@ -58,7 +58,7 @@ base-nine Sop = omega arith
 base-nine Sat = omega arith
 
 -- an element that may stand after n numbers has room for its own
-fits : (part : CdlPart) (n : ℕ) (w : List ℕ) → 0 < length w → faultOf part n w ≡ 0 → n + widthOf part ≤ topOf part
+fits : (part : CdlPart) (n : ℕ) (w : List ℕ) → 0 < length w → partFaultOf part n w ≡ 0 → n + widthOf part ≤ topOf part
 fits Sat n w h q = go (ltb n 1) refl q
   where
     go : (b : Bool) → ltb n 1 ≡ b → _≡_ {A = ℕ} (cond b (cond (same w (bytes "Saturation")) 0 5) 5) 0 → n + 1 ≤ 1
@@ -79,14 +79,14 @@ fits Sop n w h q = go (eqb n 0) (eqb n 3) (eqb n 6) refl refl refl q
 -- ---- an element
 
 module _ (part : CdlPart) (s : List ℕ) (at e : ℕ) (w : List ℕ) (n : w ≡ partIn s (at + 1) e) (l : at + 2 ≤ e) (i : e ≤ length s) (count k : ℕ)
-    (q : k ≡ faultOf part count w) (m₀ m : Room) (xs : List Decimal) (v : InnerStands part m₀ m count xs) where
+    (q : k ≡ partFaultOf part count w) (m₀ m : Room) (xs : List Decimal) (v : InnerStands part m₀ m count xs) where
   named : 0 < length w
   named =
       let z : length w ≡ _ = ap length (n ∙ sym (part-in s (at + 1) e i)) in
       omega (arith, simp (length-take, length-drop) at z)
 
-  blame : faultOf part (length xs) w ≡ k
-  blame = ap (λ (j : ℕ). faultOf part j w) (sym (v .counted)) ∙ sym q
+  blame : partFaultOf part (length xs) w ≡ k
+  blame = ap (λ (j : ℕ). partFaultOf part j w) (sym (v .counted)) ∙ sym q
 
   pub inner-refused : (R : List Decimal → Type 0) → (k ≡ 0 → ⊥) → Goes (innerHolder part) xs s at e (Fault k at) R (Unit {0})
   inner-refused R z = child-refused (innerHolder part) xs s at e w n l i R (Unit {0}) k blame z tt
@@ -160,7 +160,7 @@ module _ (part : CdlPart) (s : List ℕ) (at i : ℕ) (m₀ m : Room) (count : �
 
 module _ (part : CdlPart) (s : List ℕ) (at : ℕ) (tag : Tag) (R : List Decimal → Type 0) where
   abbrev opens : Parser Tag
-  opens = (startTag holderRules) .run
+  opens = (startTag notEmptyRules) .run
 
   pub inner-failed : (r : Scan) → Failed r → Reads 1 opens (λ e. tag) s at r → ReadsTo ((innerNode part) .run) s at r R (Unit {0})
   inner-failed r f v = to-failed opens s at R (Unit {0}) (λ t. (held (innerHolder part) []) .run) (λ e. tag) r f [] tt v

@@ -17,7 +17,7 @@ use Rattle.tags.specs.declared.TagEnd.the-variants as Ends
 use Rattle.room.specs.Room.{Room}
 use Rattle.values.specs.Code.{Laid}
 use Rattle.clf.specs.Numbers.{valueElement, notBelowZero}
-use Rattle.clf.specs.Nodes.{isSome, holderRules, sopName, sopRule, CdlState, noCdl, cdlHolder, sopNumbers, satNumbers}
+use Rattle.clf.specs.Nodes.{isSome, notEmptyRules, sopName, sopRule, CdlState, noCdl, cdlHolder, sopNumbers, satNumbers}
 use Rattle.node_parts.specs.Code.{smallNumbers}
 use Rattle.node_parts.specs.Held.{ReadsTo}
 use Rattle.cdl_node.specs.declared.CdlPart.{CdlPart}
@@ -45,9 +45,9 @@ baseOf Sop = 0
 baseOf Sat = 9
 
 -- the fault of a name after n numbers, and the rule on the next ones
-abbrev pub faultOf : CdlPart → ℕ → List ℕ → ℕ
-faultOf Sop n w = cond (same w (sopName n)) 0 Refusal.wrongElement
-faultOf Sat n w = cond (ltb n 1) (cond (same w (bytes "Saturation")) 0 Refusal.wrongElement) Refusal.wrongElement
+abbrev pub partFaultOf : CdlPart → ℕ → List ℕ → ℕ
+partFaultOf Sop n w = cond (same w (sopName n)) 0 Refusal.wrongElement
+partFaultOf Sat n w = cond (ltb n 1) (cond (same w (bytes "Saturation")) 0 Refusal.wrongElement) Refusal.wrongElement
 
 abbrev pub rulesIn : CdlPart → ℕ → Decimal → ℕ
 rulesIn Sop n = sopRule n
@@ -58,13 +58,13 @@ abbrev pub innerHolder : CdlPart → Holder (List Decimal)
 innerHolder part = record {
   name = nameOf part;
   missing = λ l. cond (ltb (length l) (topOf part)) Refusal.wrongElement 0;
-  fault = λ l w. faultOf part (length l) w;
+  fault = λ l w. partFaultOf part (length l) w;
   body = λ l w. seq (valueElement w (widthOf part) (rulesIn part (length l))) (λ m. ret (l ++ m));
 }
 
 -- satNode or sopNode
 abbrev pub innerNode : CdlPart → G (List Decimal)
-innerNode part = startTag holderRules >> held (innerHolder part) []
+innerNode part = startTag notEmptyRules >> held (innerHolder part) []
 
 -- the numbers l have been read, `count` of them, and stand in the small room
 pub record InnerStands (part : CdlPart) (m₀ m₁ : Room) (count : ℕ) (l : List Decimal) : Type 0 where

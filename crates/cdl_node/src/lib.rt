@@ -58,7 +58,7 @@ fn is_next_sop(w: &[u8], count: usize) -> bool
 
 // What is wrong with the name of an element in a part, after `count` numbers.
 fn inner_fault(w: &[u8], part: CdlPart, count: usize) -> u8
-    ensures { λ r. ⌜ r ≡ Code.faultOf part count (now (w .entry)) ⌝ }
+    ensures { λ r. ⌜ r ≡ Code.partFaultOf part count (now (w .entry)) ⌝ }
 {
     match part {
         CdlPart::Sop => {

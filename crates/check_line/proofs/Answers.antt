@@ -14,7 +14,7 @@ use Rattle.xml.specs.Bytes.{bytes}
 use Rattle.text_out.specs.Output.{Puts}
 use Rattle.text_out.proofs.Laws.{puts-as}
 use Rattle.check_line.specs.declared.Line.{Line}
-use Rattle.check_line.specs.Line.{lineFrom, twoNumbers, textOf, tooLong, answerText, readingText, checkText, acceptedText, refusalText}
+use Rattle.check_line.specs.Line.{lineFrom, twoNumbers, lineText, tooLong, answerText, readingText, checkText, acceptedText, refusalText}
 
 module _ (room : ℕ) (s : List ℕ) (a : Answer) (e : a ≡ readingAnswer (read room s)) where
   number-is : a .number ≡ readingNumber (read room s)
@@ -36,11 +36,11 @@ two-front u v w m n t = simp append-assoc
 module _ {r : ℕ} {s s' : List ℕ} (a : Answer) where
   pub accepted-answer : (u : ℕ) → a .number ≡ 0 → u ≡ capped (total (nodesOf (a .list)))
       → Puts (twoNumbers (bytes "accepted ") (a .list .count) (bytes " nodes ") u (bytes " numbers\n")) 0 s s' r → Puts (λ t. answerText a ++ t) 0 s s' r
-  unfolding answerText textOf acceptedText
+  unfolding answerText lineText acceptedText
   accepted-answer u n e p = puts-as (λ t. rw (eq-eqb (a .number) 0 n, ← e) (two-front (bytes "accepted ") (bytes " nodes ") (bytes " numbers\n") (a .list .count) u t)) p
 
   pub refused-answer : (a .number ≡ 0 → ⊥) → Puts (twoNumbers (bytes "refusal ") (a .number) (bytes " at ") (a .place) (bytes "\n")) 0 s s' r → Puts (λ t. answerText a ++ t) 0 s s' r
-  unfolding answerText textOf refusalText
+  unfolding answerText lineText refusalText
   refused-answer n p = puts-as (λ t. rw (ne-eqb (a .number) 0 n) (two-front (bytes "refusal ") (bytes " at ") (bytes "\n") (a .number) (a .place) t)) p
 
 pub long-input : (s : List ℕ) (x : Line) → 65536 < length s → x ≡ lineFrom tooLong → x ≡ lineFrom (checkText s)

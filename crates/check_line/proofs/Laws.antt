@@ -13,7 +13,7 @@ use Rattle.reading.specs.declared.Answer.{Answer}
 use Rattle.text_out.specs.Output.{Puts}
 use Rattle.text_out.proofs.Laws.{puts-zeros}
 use Rattle.xml.specs.Bytes.{bytes}
-use Rattle.check_line.specs.Line.{lineFrom, acceptedText, refusalText, textOf, answerText}
+use Rattle.check_line.specs.Line.{lineFrom, acceptedText, refusalText, lineText, answerText}
 
 -- the line of a text that has been put into 80 zeros
 pub line-put : {s : List ℕ} {r : ℕ} (x : List ℕ) → length x ≤ 80 → r < 2 ^ 64 → Puts (λ t. x ++ t) 0 (replicate 80 0) s r → record { bytes = s; length = r } ≡ lineFrom x
@@ -32,7 +32,7 @@ unfolding capped
 capped-small n = omega arith
 
 pub answer-short : (a : Answer) → a .number < 2 ^ 64 → a .place < 2 ^ 64 → a .list .count < 2 ^ 64 → length (answerText a) ≤ 80
-unfolding answerText textOf acceptedText refusalText
+unfolding answerText lineText acceptedText refusalText
 answer-short a h k l = go (eqb (a .number) 0)
   where
     go : (b : Bool) → length (cond b (acceptedText (a .list .count) (capped (total (nodesOf (a .list))))) (refusalText (a .number) (a .place))) ≤ 80

@@ -27,16 +27,16 @@ unfoldable pub tooLong : List ℕ
 tooLong = bytes "too long\n"
 
 -- the line for a refusal number with its place, and a list's counts of nodes and numbers
-unfoldable pub textOf : ℕ → ℕ → ℕ → ℕ → List ℕ
-textOf number place nodes numbers = cond (eqb number 0) (acceptedText nodes numbers) (refusalText number place)
+unfoldable pub lineText : ℕ → ℕ → ℕ → ℕ → List ℕ
+lineText number place nodes numbers = cond (eqb number 0) (acceptedText nodes numbers) (refusalText number place)
 
 -- the line for what reading answers
 unfoldable pub readingText : Reading → List ℕ
-readingText r = textOf (readingNumber r) (readingPlace r) (nodeCount r) (numberCount r)
+readingText r = lineText (readingNumber r) (readingPlace r) (nodeCount r) (numberCount r)
 
 -- the same for reading's record
 unfoldable pub answerText : Answer → List ℕ
-answerText a = textOf (a .number) (a .place) (a .list .count) (capped (total (nodesOf (a .list))))
+answerText a = lineText (a .number) (a .place) (a .list .count) (capped (total (nodesOf (a .list))))
 
 -- 'The check program has room for 4,096 numbers and reads at most 65,536 bytes of standard input'
 unfoldable pub checkText : List ℕ → List ℕ

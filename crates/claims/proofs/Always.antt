@@ -7,7 +7,7 @@ use native.Mathlib.Omega.{arith}
 use lib.Dec.{ltb}
 use lib.ListN.{length}
 use borrow.Author.Tests.{ltb-true}
-use Rattle.grammar.specs.Parse.{Out, done, fault, cut, Turn, again, last, before, samePlace, verdict, judgeOut, settleOut, blameOut, keptOut, turnOut, loopP}
+use Rattle.grammar.specs.Parse.{Out, done, fault, cut, Turn, again, last, before, samePlace, judgedTo, judgeOut, settleOut, blameOut, keptOut, turnOut, loopP}
 use Rattle.grammar.specs.Laws.{nope, loop-step}
 use Rattle.grammar.specs.Grammar.{G, ret, bad, look, lookTwo, strict, judge, settle, blame, kept, seq, loop}
 use Rattle.grammar.specs.Splice.{bind-inv, strict-inv}
@@ -53,7 +53,7 @@ module _ {A : Type 0} {Q : A → Type 0} where
   pub holds-judge : {p : G A} (P : A → Type 0) (j : A → ℕ) → Holds P p → ((a : A) → P a → j a ≡ 0 → Q a) → Holds Q (judge j p)
   holds-judge {p} P j h f = record { value = λ s a r e. go s a r (p .run s) refl e }
     where
-      by-number : (s : List ℕ) (a : A) (r : List ℕ) (b : A) (u : List ℕ) (n : ℕ) → P b → j b ≡ n → verdict n b u s ≡ done a r → Q a
+      by-number : (s : List ℕ) (a : A) (r : List ℕ) (b : A) (u : List ℕ) (n : ℕ) → P b → j b ≡ n → judgedTo n b u s ≡ done a r → Q a
       by-number s a r b u zero y q z = subst Q (cc) (f b y q)
       by-number s a r b u (suc n) y q z = nope cc
 

@@ -17,9 +17,9 @@ use Rattle.grammar.specs.Parse.{again, last}
 use Rattle.xml.specs.Bytes.{bytes, same, isSpace, lessThan}
 use Rattle.xml.specs.Xml.{Attribute, isNamed, textOf}
 use Rattle.xml.specs.Elements.{held}
-use Rattle.clf.specs.Numbers.{endsToken, token, saidBy, faultOf, numbers, anyNumber, notBelowZero, onlyOne, valueRules, valueElement}
+use Rattle.clf.specs.Numbers.{endsToken, token, saidBy, faultOf, numbers, anyNumber, notBelowZero, mustBeOne, valueRules, valueElement}
 use Rattle.clf.specs.Nodes.{isSome, depthOf, nodeTexts, nodeMissing, nodeRules, matrixShape, lutShape, arrayRules, arrayOf, array, noArray, arrayHolder, tableNode, matrix}
-use Rattle.clf.specs.Nodes.{lutNames, lutTexts, lut1d, rangeIndex, noValues, isThere, anyThere, allThere, inOrder, oneOf, rangeHolder, rangeTexts, rangeNode, range, holderRules}
+use Rattle.clf.specs.Nodes.{lutNames, lutTexts, lut1d, rangeIndex, noValues, isThere, anyThere, allThere, inOrder, onlyNumber, rangeHolder, rangeTexts, rangeNode, range, notEmptyRules}
 use Rattle.clf.specs.Nodes.{sopName, sopRule, sopHolder, sopNode, satHolder, satNode, CdlState, noCdl, cdlFault, cdlBody, cdlHolder, cdlTexts, cdlNode, cdlRules, ascCdl, NodeName}
 use Rattle.clf.specs.Nodes.{isMatrix, isLut1d, isRange, isCdl, notCarried, noNode, nodeFault, nodeBody}
 use Rattle.claims.proofs.Faults.{fair-zero, fair-by, fair-cond, blames-ret, blames-bad, blames-cond, blames-look, blames-judge, blames-eat, blames-seq, blames-loop}
@@ -66,7 +66,7 @@ any-right d = fair-zero
 below-right : (d : Decimal) → Right (notBelowZero d)
 below-right d = fair-cond (notNegative d) fair-zero twentyOne
 
-one-right : (d : Decimal) → Right (onlyOne d)
+one-right : (d : Decimal) → Right (mustBeOne d)
 one-right d = fair-cond (positive d) (fair-cond (isOne d) fair-zero seven) twentyOne
 
 -- ---- start tags of nodes
@@ -128,7 +128,7 @@ range-content =
     held-well rangeHolder (λ st. fair-cond (allThere st) (fair-cond (inOrder st) fair-zero twentyOne) five)
     (λ st w. fair-cond (same w (bytes "Description")) (fair-cond (anyThere st) five fair-zero) (fair-cond (ltb (rangeIndex w) 4) (fair-cond (isThere (rangeIndex w) st) five fair-zero) five))
     (λ st w. blames-cond (same w (bytes "Description")) (blames-seq (textElement-well w) (λ t. blames-ret st))
-    (blames-seq (value-well w 1 anyNumber any-right) (λ l. blames-ret (record { values = set (st .values) (rangeIndex w) (some (oneOf l)) }))))
+    (blames-seq (value-well w 1 anyNumber any-right) (λ l. blames-ret (record { values = set (st .values) (rangeIndex w) (some (onlyNumber l)) }))))
     noValues
 
 range-well : Well range
@@ -140,10 +140,10 @@ range-well =
 
 -- ---- ASC_CDL
 
-holder-rules : RightRules holderRules
+holder-rules : RightRules notEmptyRules
 holder-rules = record { names = λ w. fair-zero; texts = λ w t. fair-zero; opened = λ l. fair-zero; emptied = λ l. five }
 
-sop-right : (v w : Bool) (d : Decimal) → Right (cond v notBelowZero (cond w anyNumber onlyOne) d)
+sop-right : (v w : Bool) (d : Decimal) → Right (cond v notBelowZero (cond w anyNumber mustBeOne) d)
 sop-right true w d = below-right d
 sop-right false true d = any-right d
 sop-right false false d = one-right d
@@ -151,14 +151,14 @@ sop-right false false d = one-right d
 sop-well : Well sopNode
 unfolding sopNode
 sop-well =
-    blames-seq (startTag-well holderRules holder-rules) (λ tag.
+    blames-seq (startTag-well notEmptyRules holder-rules) (λ tag.
     held-well sopHolder (λ l. fair-cond (ltb (length l) 9) five fair-zero) (λ l w. fair-cond (same w (sopName (length l))) fair-zero five)
     (λ l w. blames-seq (value-well w 3 (sopRule (length l)) (sop-right (eqb (length l) 0) (eqb (length l) 3))) (λ m. blames-ret (l ++ m))) [])
 
 sat-well : Well satNode
 unfolding satNode
 sat-well =
-    blames-seq (startTag-well holderRules holder-rules) (λ tag.
+    blames-seq (startTag-well notEmptyRules holder-rules) (λ tag.
     held-well satHolder (λ l. fair-cond (ltb (length l) 1) five fair-zero) (λ l w. fair-cond (ltb (length l) 1) (fair-cond (same w (bytes "Saturation")) fair-zero five) five)
     (λ l w. blames-seq (value-well w 1 notBelowZero below-right) (λ m. blames-ret (l ++ m))) [])
 

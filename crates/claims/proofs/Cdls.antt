@@ -13,7 +13,7 @@ use borrow.Author.Tests.{ltb-false}
 use Rattle.decimal.specs.declared.Decimal.{Decimal}
 use Rattle.decimal.specs.Decimal as Decimals
 use Rattle.decimal_write.specs.Written.{isNormal}
-use Rattle.decimal_value.specs.Value.{notNegative, positive, isOne, valueOf, powered, ten}
+use Rattle.decimal_value.specs.Value.{notNegative, positive, isOne, valueOf, powered, tenTo}
 use Rattle.process_list.specs.declared.Kind.the-variants.{Cdl}
 use Rattle.process_list.specs.List.{numbersOf}
 use Rattle.valid.specs.Valid.{shapeRight, slopesHold, powersHold, cdlHolds, rulesHold, sound}
@@ -21,8 +21,8 @@ use Rattle.grammar.specs.Laws.{nope}
 use Rattle.xml.specs.Bytes.{bytes, same}
 use Rattle.xml.specs.Xml.{textOf, Tag, startTag}
 use Rattle.xml.specs.Elements.{textElement}
-use Rattle.clf.specs.Numbers.{anyNumber, notBelowZero, onlyOne}
-use Rattle.clf.specs.Nodes.{cdlStyle, orElse, holderRules, sopName, sopRule, sopHolder, sopNode, satHolder, satNode, CdlState, cdlBody, cdlHolder, oneNumber, threeTimes}
+use Rattle.clf.specs.Numbers.{anyNumber, notBelowZero, mustBeOne}
+use Rattle.clf.specs.Nodes.{cdlStyle, orElse, notEmptyRules, sopName, sopRule, sopHolder, sopNode, satHolder, satNode, CdlState, cdlBody, cdlHolder, oneNumber, threeTimes}
 use Rattle.clf.specs.Nodes.{sopNumbers, satNumbers, cdlNode, cdlRules, cdlContent, ascCdl}
 use Rattle.claims.proofs.Always.{Holds, holds-ret, holds-cond, holds-seq, holds-then}
 use Rattle.claims.proofs.Numbers.{Each, each-more, each-map, Carried, Kept, Counted, value-holds}
@@ -55,7 +55,7 @@ data Sop (l : List Decimal) : Type 0 where
   noSlope : l ≡ [] → Sop l
   slope : (a : List Decimal) → Counted 3 notBelowZero a → l ≡ a → Sop l
   offset : (a b : List Decimal) → Counted 3 notBelowZero a → Counted 3 anyNumber b → l ≡ a ++ b → Sop l
-  power : (a b c : List Decimal) → Counted 3 notBelowZero a → Counted 3 anyNumber b → Counted 3 onlyOne c → l ≡ (a ++ b) ++ c → Sop l
+  power : (a b c : List Decimal) → Counted 3 notBelowZero a → Counted 3 anyNumber b → Counted 3 mustBeOne c → l ≡ (a ++ b) ++ c → Sop l
 
 pub record Nine (l : List Decimal) : Type 0 where
   pub a : List Decimal
@@ -63,7 +63,7 @@ pub record Nine (l : List Decimal) : Type 0 where
   pub c : List Decimal
   pub slopes : Counted 3 notBelowZero a
   pub offsets : Counted 3 anyNumber b
-  pub powers : Counted 3 onlyOne c
+  pub powers : Counted 3 mustBeOne c
   pub is : l ≡ (a ++ b) ++ c
 
 next-three : (l : List Decimal) → Sop l → (w : List ℕ) → 0 < length w → same w (sopName (length l)) ≡ true → (m : List Decimal) → Counted 3 (sopRule (length l)) m → Sop (l ++ m)
@@ -91,7 +91,7 @@ sop-nine l (power a b c ka kb kc e) h = record { a = a; b = b; c = c; slopes = k
 sop-holds : Holds Nine sopNode
 unfolding sopNode
 sop-holds =
-    holds-then (startTag holderRules) (λ tag.
+    holds-then (startTag notEmptyRules) (λ tag.
     record {
       value = λ s l r e.
           let k : Ended sopHolder Sop sop-body l = held-holds sopHolder Sop sop-body (noSlope refl) .value s l r e in
@@ -118,7 +118,7 @@ sat-one l (sat c) h = c
 sat-holds : Holds (Counted 1 notBelowZero) satNode
 unfolding satNode
 sat-holds =
-    holds-then (startTag holderRules) (λ tag.
+    holds-then (startTag notEmptyRules) (λ tag.
     record {
       value = λ s l r e.
           let k : Ended satHolder Sat sat-body l = held-holds satHolder Sat sat-body (noSat refl) .value s l r e in
@@ -132,11 +132,11 @@ unfolding isNormal
 one-carried = record { ranged = refl; settled = refl }
 
 one-not-below : Kept notBelowZero oneNumber
-unfolding notNegative valueOf powered ten le ofInt mul
+unfolding notNegative valueOf powered tenTo le ofInt mul
 one-not-below = record { carried = one-carried; within = refl }
 
-one-only : Kept onlyOne oneNumber
-unfolding positive isOne valueOf powered ten lt eq ofInt mul
+one-only : Kept mustBeOne oneNumber
+unfolding positive isOne valueOf powered tenTo lt eq ofInt mul
 one-only = record { carried = one-carried; within = refl }
 
 zero-any : Kept anyNumber Decimals.zero
@@ -207,7 +207,7 @@ not-below d k = go (notNegative d) (k .within)
     go true z = refl
     go false z = absurd (omega arith)
 
-is-one : (d : Decimal) → Kept onlyOne d → isOne d ≡ true
+is-one : (d : Decimal) → Kept mustBeOne d → isOne d ≡ true
 is-one d k = go (positive d) (isOne d) (k .within)
   where
     go : (v w : Bool) → _≡_ {A = ℕ} (cond v (cond w 0 7) 21) 0 → w ≡ true
@@ -222,7 +222,7 @@ cdl-rules l (d ∷ e ∷ m) n k = absurd (omega (arith, k .count))
 cdl-rules l (d ∷ []) n k =
     let a : Three notBelowZero (n .a) = three notBelowZero (n .a) (n .slopes) in
     let b : Three anyNumber (n .b) = three anyNumber (n .b) (n .offsets) in
-    let c : Three onlyOne (n .c) = three onlyOne (n .c) (n .powers) in
+    let c : Three mustBeOne (n .c) = three mustBeOne (n .c) (n .powers) in
     subst (λ (x : List Decimal). cdlHolds (x ++ d ∷ []) ≡ true) (sym (n .is))
     (rw (
       a .is,
@@ -244,7 +244,7 @@ nine-each l n =
     (each-more Carried (n .a ++ n .b) (n .c)
     (each-more Carried (n .a) (n .b) (each-map (Kept notBelowZero) Carried (n .a) (λ d k. k .carried) (n .slopes .kept))
     (each-map (Kept anyNumber) Carried (n .b) (λ d k. k .carried) (n .offsets .kept)))
-    (each-map (Kept onlyOne) Carried (n .c) (λ d k. k .carried) (n .powers .kept)))
+    (each-map (Kept mustBeOne) Carried (n .c) (λ d k. k .carried) (n .powers .kept)))
 
 nine-length : (l : List Decimal) → Nine l → length l ≡ 9
 nine-length l n =

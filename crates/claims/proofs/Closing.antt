@@ -8,7 +8,7 @@ use native.Mathlib.Omega.{arith}
 use lib.Dec.{eqb, ltb}
 use lib.ListN.{length}
 use borrow.Author.Tests.{eqb-true, ltb-true}
-use Rattle.grammar.specs.Parse.{Out, done, fault, cut, Turn, again, last, retP, verdict, judgeOut, settleOut, turnOut, loopP}
+use Rattle.grammar.specs.Parse.{Out, done, fault, cut, Turn, again, last, retP, judgedTo, judgeOut, settleOut, turnOut, loopP}
 use Rattle.grammar.specs.Laws.{nope, loop-step}
 use Rattle.grammar.specs.Grammar.{G, ret, bad, look, lookTwo, judge, settle, eat, seq, loop, _>>_}
 use Rattle.grammar.specs.Splice.{done-law, bind-inv, strict-inv}
@@ -22,7 +22,7 @@ byte-done : (c k : ℕ) → 0 < k → (s : List ℕ) (b : ℕ) (r : List ℕ) �
 byte-done c k h [] b r e = nope cc
 byte-done c k h (x ∷ s) b r e = go (eqb x c) k h refl e
   where
-    go : (v : Bool) (k : ℕ) → 0 < k → eqb x c ≡ v → verdict (cond v 0 k) x s (x ∷ s) ≡ done b r → x ∷ s ≡ c ∷ r
+    go : (v : Bool) (k : ℕ) → 0 < k → eqb x c ≡ v → judgedTo (cond v 0 k) x s (x ∷ s) ≡ done b r → x ∷ s ≡ c ∷ r
     go true k h q z = let y : x ≡ c = eqb-true x c q in cc
     go false zero h q z = absurd (omega arith)
     go false (suc k) h q z = nope cc
@@ -117,7 +117,7 @@ module _ {S B : Type 0} (f : S → G (Turn S B)) (each : (st : S) (s : List ℕ)
 judge-done : {A : Type 0} (j : A → ℕ) (o : Out A) (s : List ℕ) (a : A) (r : List ℕ) → judgeOut j o s ≡ done a r → o ≡ done a r
 judge-done j (done b u) s a r e = go (j b) e
   where
-    go : (n : ℕ) → verdict n b u s ≡ done a r → done b u ≡ done a r
+    go : (n : ℕ) → judgedTo n b u s ≡ done a r → done b u ≡ done a r
     go zero z = z
     go (suc n) z = nope cc
 judge-done j (fault k u) s a r e = nope cc

@@ -7,7 +7,7 @@ use native.Mathlib.Omega.{arith}
 use lib.Dec.{ltb, leb}
 use lib.ListN.{length}
 use borrow.Author.Tests.{ltb-true, leb-true, leb-false}
-use Rattle.grammar.specs.Parse.{Out, done, fault, cut, Turn, again, last, samePlace, thenOut, retP, strictOut, verdict, judgeOut, settleOut, blameOut, keptOut, spanP, turnOut, loopP}
+use Rattle.grammar.specs.Parse.{Out, done, fault, cut, Turn, again, last, samePlace, thenOut, retP, strictOut, judgedTo, judgeOut, settleOut, blameOut, keptOut, spanP, turnOut, loopP}
 use Rattle.grammar.specs.Laws.{nope, loop-step}
 use Rattle.grammar.specs.Grammar.{G, ret, bad, look, lookTwo, strict, judge, settle, blame, kept, eat, span, seq, loop}
 use Rattle.xml.specs.Xml.{byte, word}
@@ -40,7 +40,7 @@ strict-fault {A} (done b u) s k r q = by-test (ltb (length u) (length s)) q
 strict-fault (fault j u) s k r q = q
 strict-fault cut s k r q = nope cc
 
-verdict-fault : {P : ℕ → Type 0} {A : Type 0} (n : ℕ) → Fair P n → (a : A) (u s : List ℕ) (k : ℕ) (r : List ℕ) → verdict n a u s ≡ fault k r → P k
+verdict-fault : {P : ℕ → Type 0} {A : Type 0} (n : ℕ) → Fair P n → (a : A) (u s : List ℕ) (k : ℕ) (r : List ℕ) → judgedTo n a u s ≡ fault k r → P k
 verdict-fault zero h a u s k r e = nope cc
 verdict-fault {P} (suc n) h a u s k r e = subst P (cc) (h .is n refl)
 

@@ -15,7 +15,7 @@ use Rattle.valid.proofs.Readings as Readings
 use Rattle.clf.specs.Reading.{Reading, accepted, mostBytes, nodesIn, readText, read}
 use Rattle.look.specs.Replacing.{Replacing, replaced, refused, replace, listAfter}
 use Rattle.claims.specs.TriedFile.{Attempt, attempt, fileCall, listCall, fileRun, Small}
-use Rattle.look.specs.Look.{Look, roomOf, holding, replaceIn, lookAfter}
+use Rattle.look.specs.Look.{Look, roomLengthOf, holding, replaceIn, lookAfter}
 use Rattle.claims.specs.LookRuns.{readInto, lookRun, SameLook}
 use Rattle.claims.proofs.Rules.{Short, read-short, WholeElements, text-elements}
 use Rattle.claims.proofs.Demand.{Agree, one-call, read-small, call-small, stays-small, runs}
@@ -30,20 +30,20 @@ module _ (n : ℕ) (es : List Element) (w : WholeElements n es) where
       let f : Fine n (map nodeOf es) = accepted-fine n (map nodeOf es) (w .fits) in
       omega (arith, f .holds, all-length es (w .sounds))
 
-module _ (x : Look) (es : List Element) (w : WholeElements (roomOf x) es) where
-  room-kept : roomOf (holding x es) ≡ roomOf x
+module _ (x : Look) (es : List Element) (w : WholeElements (roomLengthOf x) es) where
+  room-kept : roomLengthOf (holding x es) ≡ roomLengthOf x
   unfolding holding
-  room-kept = filled-room (allNumbers es) (x .room) (few (roomOf x) es w)
+  room-kept = filled-room (allNumbers es) (x .room) (few (roomLengthOf x) es w)
 
   held-again : (new : List Element) → holding (holding x es) new ≡ holding x new
   unfolding holding
-  held-again new = rw (filled-again (allNumbers new) (allNumbers es) (x .room) (few (roomOf x) es w)) refl
+  held-again new = rw (filled-again (allNumbers new) (allNumbers es) (x .room) (few (roomLengthOf x) es w)) refl
 
   is-reading : Readings.Reading (holding x es .list) (holding x es .room) es
   unfolding holding
   is-reading = record {
     list = refl;
-    room = sym (filled-again (allNumbers es) (allNumbers es) (x .room) (few (roomOf x) es w));
+    room = sym (filled-again (allNumbers es) (allNumbers es) (x .room) (few (roomLengthOf x) es w));
     accepted = rw room-kept (w .fits);
     sounds = w .sounds;
   }
@@ -56,7 +56,7 @@ module _ (x : Look) (es : List Element) (w : WholeElements (roomOf x) es) where
   held-elements = reading-elements (holding x es .list) (holding x es .room) es is-reading
 
   -- so a call on it is a call by the list alone
-  replaces : (k : ℕ) (e : List ℕ) → replaceIn (holding x es) k e ≡ replace (roomOf x) es k e
+  replaces : (k : ℕ) (e : List ℕ) → replaceIn (holding x es) k e ≡ replace (roomLengthOf x) es k e
   unfolding replaceIn
   replaces k e = rw (held-valid, held-elements, room-kept)
 
@@ -68,7 +68,7 @@ module _ (x : Look) (es : List Element) (w : WholeElements (roomOf x) es) where
 
 module _ (x : Look) where
   abbrev room : ℕ
-  room = roomOf x
+  room = roomLengthOf x
 
   abbrev Same : Look → List ℕ → List (ℕ × List ℕ) → Type 0
   Same y s calls = (lookRun y calls .0 ≡ fileRun (read room) s calls .0) × (lookRun y calls .1 ≡ readInto x (fileRun (read room) s calls .1))

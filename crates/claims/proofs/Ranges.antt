@@ -17,7 +17,7 @@ use Rattle.xml.specs.Bytes.{bytes, same}
 use Rattle.xml.specs.Xml.{textOf, startTag}
 use Rattle.xml.specs.Elements.{textElement}
 use Rattle.clf.specs.Numbers.{anyNumber}
-use Rattle.clf.specs.Nodes.{rangeStyle, orElse, nodeRules, RangeState, rangeIndex, valueAt, allThere, inOrder, oneOf, rangeBody, rangeHolder, rangeTexts, rangeNode, range}
+use Rattle.clf.specs.Nodes.{rangeStyle, orElse, nodeRules, RangeState, rangeIndex, valueAt, allThere, inOrder, onlyNumber, rangeBody, rangeHolder, rangeTexts, rangeNode, range}
 use Rattle.claims.proofs.Always.{Holds, holds-ret, holds-cond, holds-seq, holds-then}
 use Rattle.claims.proofs.Numbers.{Each, Carried, Kept, Counted, value-holds}
 use Rattle.claims.proofs.Held.{Ended, held-holds}
@@ -46,7 +46,7 @@ none-yet (suc (suc zero)) = tt
 none-yet (suc (suc (suc zero))) = tt
 none-yet (suc (suc (suc (suc i)))) = tt
 
-one-carried : (l : List Decimal) → Each (Kept anyNumber) l → Carried (oneOf l)
+one-carried : (l : List Decimal) → Each (Kept anyNumber) l → Carried (onlyNumber l)
 one-carried [] h = zero-carried
 one-carried (d ∷ l) h = h .0 .carried
 
@@ -61,7 +61,7 @@ body-holds : (st : RangeState) → Begun st → (w : List ℕ) → Holds Begun (
 body-holds st v w =
     holds-cond (same w (bytes "Description")) (λ z. holds-then (textElement w) (λ t. holds-ret v))
     (λ z. holds-seq (Counted 1 anyNumber) (value-holds w 1 anyNumber)
-    (λ l c. holds-ret (values-set (st .values) (rangeIndex w) (oneOf l) (one-carried l (c .kept)) v)))
+    (λ l c. holds-ret (values-set (st .values) (rangeIndex w) (onlyNumber l) (one-carried l (c .kept)) v)))
 
 in-order : (st : RangeState) → _≡_ {A = ℕ} (cond (allThere st) (cond (inOrder st) 0 21) 5) 0 → inOrder st ≡ true
 in-order st e = go (allThere st) (inOrder st) refl e

@@ -11,7 +11,7 @@ use borrow.Author.Tests.{ltb-true}
 use Rattle.process_list.specs.declared.Verdict.{Verdict}
 use Rattle.process_list.specs.declared.Verdict.the-variants.{Accepted, NoNode, TooManyNodes, DepthDiffers, TooManyNumbers}
 use Rattle.process_list.specs.List.{Element, verdict}
-use Rattle.grammar.specs.Parse.{Out, done, fault, cut, thenOut, verdict as judgement, judgeOut, turnOut, loopP}
+use Rattle.grammar.specs.Parse.{Out, done, fault, cut, thenOut, judgedTo as judgement, judgeOut, turnOut, loopP}
 use Rattle.grammar.specs.Laws.{nope, loop-step}
 use Rattle.grammar.specs.Grammar.{bad, added}
 use Rattle.xml.specs.Bytes.{bytes, same}

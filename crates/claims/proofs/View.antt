@@ -7,7 +7,7 @@ use Prim.Native.Nat.{ℕ, zero, suc, _<_}
 use native.Mathlib.Omega.{arith}
 use lib.ListN.{length, length-append}
 use borrow.Author.Tests.{lt-ltb}
-use Rattle.grammar.specs.Parse.{Out, done, fault, cut, Parser, thenOut, retP, strictOut, verdict, judgeOut}
+use Rattle.grammar.specs.Parse.{Out, done, fault, cut, Parser, thenOut, retP, strictOut, judgedTo, judgeOut}
 use Rattle.grammar.specs.Splice.{done-law}
 use Rattle.xml.specs.Bytes.{isSpace, isLetter, isNameByte, slash, exclamation, question}
 use Rattle.xml.specs.AmongLaws as Starts
@@ -57,11 +57,11 @@ module _ (c : ℕ) (w : List ℕ) (n : NodeName) (k : NodeWord (c ∷ w) n) (u e
   by-body cut q = refl
 
   -- by whether nodes of this name are carried
-  by-fault : (j : ℕ) → strictOut (thenOut (verdict j (c ∷ w) u e) asChild) e ≡ asItem (thenOut (verdict j n u e) (λ m. (nodeBody m) .run))
+  by-fault : (j : ℕ) → strictOut (thenOut (judgedTo j (c ∷ w) u e) asChild) e ≡ asItem (thenOut (judgedTo j n u e) (λ m. (nodeBody m) .run))
   by-fault zero = ap (λ (o : Out Child). strictOut (thenOut o (λ v. retP (child v))) e) (k .body u) ∙ by-body ((nodeBody n) .run u) refl
   by-fault (suc j) = refl
 
-element-started : (e : List ℕ) (n : NodeName) (u : List ℕ) → start .run e ≡ done n u → element .run e ≡ thenOut (verdict (nodeFault n) n u e) (λ m. (nodeBody m) .run)
+element-started : (e : List ℕ) (n : NodeName) (u : List ℕ) → start .run e ≡ done n u → element .run e ≡ thenOut (judgedTo (nodeFault n) n u e) (λ m. (nodeBody m) .run)
 unfolding element
 element-started e n u q = ap (λ (o : Out NodeName). thenOut (judgeOut nodeFault o e) (λ m. (nodeBody m) .run)) q
 
@@ -73,7 +73,7 @@ item-started st c w n b t k h q =
     let u : List ℕ = b ∷ t in
     item-child st c (w ++ b ∷ t) (k .letter)
     ∙ ap (λ (o : Out (List ℕ)). strictOut (thenOut (judgeOut (childFault st) o e) asChild) e) (name-open c w n b t k h)
-    ∙ ap (λ (j : ℕ). strictOut (thenOut (verdict j (c ∷ w) u e) asChild) e) (k .faults st)
+    ∙ ap (λ (j : ℕ). strictOut (thenOut (judgedTo j (c ∷ w) u e) asChild) e) (k .faults st)
     ∙ by-fault c w n k u e (simp length-append (omega arith)) (nodeFault n)
     ∙ ap asItem (sym (element-started e n u q))
 

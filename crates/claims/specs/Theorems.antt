@@ -8,7 +8,7 @@ use Rattle.process_list.specs.List.{Element, placed, allNumbers, listOf}
 use Rattle.room.specs.Room.{Room, roomLength, filledWith}
 use Rattle.valid.specs.Valid.{isValid}
 use Rattle.clf.specs.Reading.{accepted, read, readText}
-use Rattle.look.specs.Look.{Look, roomOf}
+use Rattle.look.specs.Look.{Look, roomLengthOf}
 use Rattle.claims.specs.Cut.{Longer}
 use Rattle.claims.specs.Refusals.{Answered}
 use Rattle.claims.specs.Rules.{Allowed}
@@ -34,4 +34,4 @@ AcceptedIsValid = (m : Room) (s : List ℕ) (l : List Element) → read (roomLen
 
 -- demand 3 on the definitions, from a look x into which any accepted file s is read, for any run of calls (`proofs/Look`: `demand3-look`). Premise: each tried file is at most 16 MiB
 abbrev pub Demand3OfLooks : Type 0
-Demand3OfLooks = (x : Look) (s : List ℕ) (l : List Element) (calls : List (ℕ × List ℕ)) → read (roomOf x) s ≡ accepted l → Small (read (roomOf x)) s calls → SameLook x s calls
+Demand3OfLooks = (x : Look) (s : List ℕ) (l : List Element) (calls : List (ℕ × List ℕ)) → read (roomLengthOf x) s ≡ accepted l → Small (read (roomLengthOf x)) s calls → SameLook x s calls

@@ -23,7 +23,7 @@ use Rattle.grammar.specs.Grammar.{G, ret, bad, seq, _>>=_, _>>_}
 use Rattle.xml.specs.Bytes.{bytes, same, isDigit}
 use Rattle.xml.specs.Xml.{Attribute, isNamed, textOf, Rules, plain, Tag, startTag}
 use Rattle.xml.specs.Elements.{Holder, held, textElement}
-use Rattle.clf.specs.Numbers.{numbers, anyNumber, notBelowZero, onlyOne, valueElement}
+use Rattle.clf.specs.Numbers.{numbers, anyNumber, notBelowZero, mustBeOne, valueElement}
 use Rattle.refusals.specs.Refusals as Refusal
 
 abbrev pub isSome : {A : Type 0} → Option A → Bool
@@ -204,15 +204,15 @@ rangeFault st w =
     (cond (ltb (rangeIndex w) 4) (cond (isThere (rangeIndex w) st) Refusal.wrongElement 0) Refusal.wrongElement)
 
 -- the number of a value element, which has exactly one (`valueElement w 1`): an empty list does not come here
-abbrev pub oneOf : List Decimal → Decimal
-oneOf [] = Decimals.zero
-oneOf (d ∷ l) = d
+abbrev pub onlyNumber : List Decimal → Decimal
+onlyNumber [] = Decimals.zero
+onlyNumber (d ∷ l) = d
 
 abbrev pub rangeBody : RangeState → List ℕ → G RangeState
 rangeBody st w =
     cond (same w (bytes "Description"))
     (textElement w >> ret st)
-    (seq (valueElement w 1 anyNumber) (λ l. ret (record { values = set (st .values) (rangeIndex w) (some (oneOf l)) })))
+    (seq (valueElement w 1 anyNumber) (λ l. ret (record { values = set (st .values) (rangeIndex w) (some (onlyNumber l)) })))
 
 -- 'A node's rule on two values is judged at its end tag': 21; a value that is missing is 5
 abbrev pub rangeHolder : Holder RangeState
@@ -244,8 +244,8 @@ range = do
 -- ---- ASC_CDL: 'optional SOPNode (Slope, Offset, Power in this order, three numbers each), then optional SatNode (Saturation)'
 
 -- an element that may not be empty: 5 at the `/>`
-abbrev pub holderRules : Rules
-holderRules = record { names = λ w. 0; texts = λ w t. 0; opened = λ l. 0; emptied = λ l. Refusal.wrongElement }
+abbrev pub notEmptyRules : Rules
+notEmptyRules = record { names = λ w. 0; texts = λ w t. 0; opened = λ l. 0; emptied = λ l. Refusal.wrongElement }
 
 -- the element that follows so many numbers in a SOPNode: each adds three, so that there are 0, 3, 6 or 9. Behind 9 none may follow, and no name is empty
 abbrev pub sopName : ℕ → List ℕ
@@ -253,7 +253,7 @@ sopName n = cond (eqb n 0) (bytes "Slope") (cond (eqb n 3) (bytes "Offset") (con
 
 -- the rule on its numbers
 abbrev pub sopRule : ℕ → Decimal → ℕ
-sopRule n = cond (eqb n 0) notBelowZero (cond (eqb n 3) anyNumber onlyOne)
+sopRule n = cond (eqb n 0) notBelowZero (cond (eqb n 3) anyNumber mustBeOne)
 
 abbrev pub sopHolder : Holder (List Decimal)
 sopHolder = record {
@@ -264,7 +264,7 @@ sopHolder = record {
 }
 
 unfoldable pub sopNode : G (List Decimal)
-sopNode = startTag holderRules >> held sopHolder []
+sopNode = startTag notEmptyRules >> held sopHolder []
 
 abbrev pub satHolder : Holder (List Decimal)
 satHolder = record {
@@ -275,7 +275,7 @@ satHolder = record {
 }
 
 unfoldable pub satNode : G (List Decimal)
-satNode = startTag holderRules >> held satHolder []
+satNode = startTag notEmptyRules >> held satHolder []
 
 pub record CdlState : Type 0 where
   pub sop : Option (List Decimal)

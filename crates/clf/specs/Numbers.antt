@@ -55,8 +55,8 @@ abbrev pub notBelowZero : Decimal → ℕ
 notBelowZero d = cond (notNegative d) 0 Refusal.ruleBroken
 
 -- 'Power > 0' is 21, 'a Power above 0 that is not 1' 7
-abbrev pub onlyOne : Decimal → ℕ
-onlyOne d = cond (positive d) (cond (isOne d) 0 Refusal.notCarried) Refusal.ruleBroken
+abbrev pub mustBeOne : Decimal → ℕ
+mustBeOne d = cond (positive d) (cond (isOne d) 0 Refusal.notCarried) Refusal.ruleBroken
 
 -- ---- value elements
 

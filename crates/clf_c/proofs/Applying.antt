@@ -22,7 +22,7 @@ use Rattle.running.specs.Running.{notThrees, notFinite, ran, ranOf, pixelsOf}
 use Rattle.running.specs.RunningLaws.{ran-accepted, pixels-accepted}
 use Rattle.clf_c.specs.declared.FileCheck.{FileCheck}
 use Rattle.clf_c.specs.Answers.{fileCheckOf}
-use Rattle.clf_c.specs.Applying.{sliceRefused, readingFor, roomRead, runThrough, answer, applyOf, roomApplied, appliedTo, Applies}
+use Rattle.clf_c.specs.Applying.{sliceRefused, readingFor, roomRead, runThrough, checkSaying, applyOf, roomApplied, appliedTo, Applies}
 
 -- ---- the slice
 module _ (xs : List Float) where
@@ -40,15 +40,15 @@ module _ (file : List ℕ) (m₀ : Room) (xs : List Float) where
   r₀ = readingFor file m₀
 
   -- refused by the slice, nothing changes
-  slice-refused : (number place : ℕ) → (number ≡ 0 → ⊥) → sliceRefused xs ≡ true → applyOf file m₀ xs ≡ answer number place → Applies file m₀ xs (answer number place) m₀ xs
+  slice-refused : (number place : ℕ) → (number ≡ 0 → ⊥) → sliceRefused xs ≡ true → applyOf file m₀ xs ≡ checkSaying number place → Applies file m₀ xs (checkSaying number place) m₀ xs
   unfolding roomApplied appliedTo
   slice-refused number place k h e = record { answers = sym e; room = simp h; pixels = simp (e, ne-eqb number 0 k) }
 
-  pub no-threes : (length xs % 3 ≡ 0 → ⊥) → Applies file m₀ xs (answer 14 0) m₀ xs
+  pub no-threes : (length xs % 3 ≡ 0 → ⊥) → Applies file m₀ xs (checkSaying 14 0) m₀ xs
   unfolding applyOf sliceRefused notThrees
   no-threes h = slice-refused 14 0 (λ e. omega arith) (simp (ne-eqb (length xs % 3) 0 h)) (simp (ne-eqb (length xs % 3) 0 h))
 
-  pub no-number : (k : ℕ) → length xs % 3 ≡ 0 → k ≡ firstNotFinite xs → k < length xs → Applies file m₀ xs (answer 15 k) m₀ xs
+  pub no-number : (k : ℕ) → length xs % 3 ≡ 0 → k ≡ firstNotFinite xs → k < length xs → Applies file m₀ xs (checkSaying 15 k) m₀ xs
   unfolding applyOf sliceRefused notThrees notFinite
   no-number k h e i = slice-refused 15 k (λ z. omega arith)
       (rw (eq-eqb (length xs % 3) 0 h, ← e, lt-ltb k (length xs) i))
@@ -77,7 +77,7 @@ module _ (file : List ℕ) (m₀ : Room) (xs : List Float) where
       unfolding readingAnswer
       list-is = ap (λ (x : Answer). x .list) (e .answer)
 
-      said : (ys : List Float) → ys ≡ appliedTo file m₀ xs → Applies file m₀ xs (answer (a .number) (a .place)) m₁ ys
+      said : (ys : List Float) → ys ≡ appliedTo file m₀ xs → Applies file m₀ xs (checkSaying (a .number) (a .place)) m₁ ys
       said ys z = record {
         answers = cc (number-is, place-is, reading-says);
         room = e .room ∙ room-is;
@@ -85,7 +85,7 @@ module _ (file : List ℕ) (m₀ : Room) (xs : List Float) where
       }
 
       -- a refused reading
-      pub refused : (a .number ≡ 0 → ⊥) → Applies file m₀ xs (answer (a .number) (a .place)) m₁ xs
+      pub refused : (a .number ≡ 0 → ⊥) → Applies file m₀ xs (checkSaying (a .number) (a .place)) m₁ xs
       unfolding appliedTo
       refused h = said xs (simp (reading-says, ne-eqb (readingNumber r₀) 0 (λ z. h (number-is ∙ z))))
 
@@ -113,7 +113,7 @@ module _ (file : List ℕ) (m₀ : Room) (xs : List Float) where
             let q = eq-eqb (readingNumber r₀) 0 (sym number-is ∙ h) in
             simp (reading-says, q) (ey ∙ pixels-accepted (a .list) m₁ xs ran-is ∙ rw (list-is, e .room))
 
-        pub ran-through : Applies file m₀ xs (answer (t .number) (t .place)) m₁ ys
+        pub ran-through : Applies file m₀ xs (checkSaying (t .number) (t .place)) m₁ ys
         ran-through =
             let z : t ≡ ran 0 0 = et ∙ ran-is in
             subst (λ (f : FileCheck). Applies file m₀ xs f m₁ ys) (cc (z, h, place-none)) (said ys pixels-are)

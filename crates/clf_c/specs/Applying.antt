@@ -35,12 +35,12 @@ runThrough r m pixels = runNodes m (nodesOf (listOf (placed (nodesIn r)))) pixel
 
 -- ---- the call
 
-abbrev pub answer : ℕ → ℕ → FileCheck
-answer number place = record { number = number; place = place }
+abbrev pub checkSaying : ℕ → ℕ → FileCheck
+checkSaying number place = record { number = number; place = place }
 
 -- number and place: 'Running: .. 14, 15 (lowest index)', 'the place .. of 15, the index; .. of 14 .. 0'; then reading's own, 0 for accepted
 unfoldable pub applyOf : List ℕ → Room → List Float → FileCheck
-applyOf file m pixels = cond (notThrees pixels) (answer Refusal.notThrees 0) (cond (notFinite pixels) (answer Refusal.notFinite (firstNotFinite pixels)) (fileCheckOf (readingFor file m)))
+applyOf file m pixels = cond (notThrees pixels) (checkSaying Refusal.notThrees 0) (cond (notFinite pixels) (checkSaying Refusal.notFinite (firstNotFinite pixels)) (fileCheckOf (readingFor file m)))
 
 -- the room afterwards: 'Any other refusal changes nothing'
 unfoldable pub roomApplied : List ℕ → Room → List Float → Room

@@ -16,7 +16,7 @@ use Rattle.decimal.specs.Decimal.{size, inRange}
 use Rattle.decimal_read.specs.Number.{Form, isMark, isEmpty, isMinus, behindSign, digitsOf, behindDigits, fractionOf, behindFraction, isExponent, exponentMinus, exponentDigits}
 use Rattle.decimal_read.specs.Number.{formOf, append, withSign, scale, zeros, trailing, tokenBy, tokenOf}
 use Rattle.decimal_read.specs.Number as Read
-use Rattle.decimal_write.specs.Written.{digits, whole, exponent, writtenOf, isNormal}
+use Rattle.decimal_write.specs.Written.{digits, wholeText, exponent, writtenOf, isNormal}
 use Rattle.decimal_write.specs.Laws.{written-short, written-parts, digits-short, digits-some}
 use Rattle.decimal_back.specs.Digits.{numbers, digitsOf-all, behindDigits-all, length-numbers, no-minus, no-sign-before, digits-digits, digits-say}
 
@@ -25,13 +25,13 @@ abbrev below : ℤ → Bool
 below (pos n) = false
 below (negsuc n) = true
 
-whole-minus : (z : ℤ) (r : List ℕ) → isMinus (whole z ++ r) ≡ below z
-unfolding whole isMinus
+whole-minus : (z : ℤ) (r : List ℕ) → isMinus (wholeText z ++ r) ≡ below z
+unfolding wholeText isMinus
 whole-minus (pos n) r = no-minus r (digits-digits n) (digits-some n)
 whole-minus (negsuc n) r = refl
 
-whole-behind : (z : ℤ) (r : List ℕ) → behindSign (whole z ++ r) ≡ digits (size z) ++ r
-unfolding whole behindSign
+whole-behind : (z : ℤ) (r : List ℕ) → behindSign (wholeText z ++ r) ≡ digits (size z) ++ r
+unfolding wholeText behindSign
 whole-behind (pos n) r = no-sign-before r (digits-digits n) (digits-some n)
 whole-behind (negsuc n) r = refl
 
@@ -47,7 +47,7 @@ zero-size (negsuc n) e = absurd (omega arith)
 -- ---- the exponent: nothing, or `e` and a whole number
 data Exponent (z : ℤ) : Type 0 where
   absent : size z ≡ 0 → exponent z ≡ [] → Exponent z
-  present : exponent z ≡ 101 ∷ whole z → Exponent z
+  present : exponent z ≡ 101 ∷ wholeText z → Exponent z
 
 exponent-case : (z : ℤ) → Exponent z
 unfolding exponent
@@ -57,23 +57,23 @@ exponent-case z = go (eqb (size z) 0) refl
     go true e = absent (eqb-true (size z) 0 e) (rw e)
     go false e = present (rw e)
 
-whole-numbers : (z : ℤ) → digitsOf (behindSign (whole z)) ≡ numbers (digits (size z))
+whole-numbers : (z : ℤ) → digitsOf (behindSign (wholeText z)) ≡ numbers (digits (size z))
 unfolding digitsOf
 whole-numbers z =
-    ap (λ (l : List ℕ). digitsOf (behindSign l)) (sym (append-nil (whole z))) ∙
+    ap (λ (l : List ℕ). digitsOf (behindSign l)) (sym (append-nil (wholeText z))) ∙
     ap digitsOf (whole-behind z []) ∙
     digitsOf-all [] (digits-digits (size z)) ∙
     append-nil (numbers (digits (size z)))
 
-whole-ends : (z : ℤ) → behindDigits (behindSign (whole z)) ≡ []
+whole-ends : (z : ℤ) → behindDigits (behindSign (wholeText z)) ≡ []
 unfolding behindDigits
 whole-ends z =
-    ap (λ (l : List ℕ). behindDigits (behindSign l)) (sym (append-nil (whole z))) ∙
+    ap (λ (l : List ℕ). behindDigits (behindSign l)) (sym (append-nil (wholeText z))) ∙
     ap behindDigits (whole-behind z []) ∙
     behindDigits-all [] (digits-digits (size z))
 
-sign-alone : (z : ℤ) → isMinus (whole z) ≡ below z
-sign-alone z = ap isMinus (sym (append-nil (whole z))) ∙ whole-minus z []
+sign-alone : (z : ℤ) → isMinus (wholeText z) ≡ below z
+sign-alone z = ap isMinus (sym (append-nil (wholeText z))) ∙ whole-minus z []
 
 -- a number's digits stop at it, no point stands there, and it is an exponent of at most two digits
 stops : (z : ℤ) → Exponent z → (digitsOf (exponent z) ≡ []) × (behindDigits (exponent z) ≡ exponent z) × (fractionOf (exponent z) ≡ []) × (behindFraction (exponent z) ≡ exponent z)
@@ -115,7 +115,7 @@ module _ (d : Decimal) (h : size (d .power) ≤ 22) where
   ends : (digitsOf e ≡ []) × (behindDigits e ≡ e) × (fractionOf e ≡ []) × (behindFraction e ≡ e)
   ends = stops (d .power) (exponent-case (d .power))
 
-  body : behindSign (whole c ++ e) ≡ digits (size c) ++ e
+  body : behindSign (wholeText c ++ e) ≡ digits (size c) ++ e
   body = whole-behind c e
 
   taken : digitsOf (digits (size c) ++ e) ≡ numbers (digits (size c))
@@ -124,7 +124,7 @@ module _ (d : Decimal) (h : size (d .power) ≤ 22) where
   left : behindDigits (digits (size c) ++ e) ≡ e
   left = behindDigits-all e (digits-digits (size c)) ∙ ends .1
 
-  written-form : formOf (whole c ++ e) ≡ some (form d)
+  written-form : formOf (wholeText c ++ e) ≡ some (form d)
   unfolding formOf
   written-form =
       let a : 1 ≤ length (numbers (digits (size c))) + 0 = omega (arith, length-numbers (digits (size c)), digits-some (size c)) in
@@ -137,8 +137,8 @@ no-zeros zero n h = refl
 no-zeros (suc k) n h = rw h
 
 module _ (d : Decimal) where
-  form-digits : Read.digits (form d) ≡ size (d .coefficient)
-  unfolding Read.digits
+  form-digits : Read.digitsNumber (form d) ≡ size (d .coefficient)
+  unfolding Read.digitsNumber
   form-digits = ap (append 0) (append-nil (numbers (digits (size (d .coefficient))))) ∙ digits-say (size (d .coefficient))
 
   form-scale : scale (form d) ≡ d .power
@@ -149,7 +149,7 @@ module _ (d : Decimal) where
   unfolding trailing
   form-trailing h = rw form-digits (no-zeros (length (numbers (digits (size (d .coefficient))) ++ [])) (size (d .coefficient)) h)
 
-  coefficient-back : eqb (size (d .coefficient) % 10) 0 ≡ false → withSign (below (d .coefficient)) (Read.digits (form d) / 10 ^ trailing (form d)) ≡ d .coefficient
+  coefficient-back : eqb (size (d .coefficient) % 10) 0 ≡ false → withSign (below (d .coefficient)) (Read.digitsNumber (form d) / 10 ^ trailing (form d)) ≡ d .coefficient
   coefficient-back h = rw (form-digits, form-trailing h) (ap (withSign (below (d .coefficient))) (omega arith) ∙ signed-is (d .coefficient))
 
   power-back : eqb (size (d .coefficient) % 10) 0 ≡ false → scale (form d) +ℤ pos (trailing (form d)) ≡ d .power

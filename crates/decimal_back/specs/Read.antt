@@ -31,21 +31,21 @@ ended d h = rw (ne-eqb (size (d .coefficient) % 10) 0 h)
 
 -- ---- the number of a form whose digits are digits
 module _ (f : Form) (small : Small (f .whole ++ f .fraction)) where
-  stripped : 0 < Read.digits f → Stripped (Read.digits f) (Read.digits f / 10 ^ trailing f) (trailing f)
-  unfolding Read.digits trailing
+  stripped : 0 < Read.digitsNumber f → Stripped (Read.digitsNumber f) (Read.digitsNumber f / 10 ^ trailing f) (trailing f)
+  unfolding Read.digitsNumber trailing
   stripped p = found (length (f .whole ++ f .fraction)) (append 0 (f .whole ++ f .fraction)) p (omega (arith, append-lt 0 small))
 
   pub form-normal : isNormal (Read.normal f) ≡ true
   unfolding Read.normal
-  form-normal = go (eqb (Read.digits f) 0) refl
+  form-normal = go (eqb (Read.digitsNumber f) 0) refl
     where
-      go : (t : Bool) → eqb (Read.digits f) 0 ≡ t
+      go : (t : Bool) → eqb (Read.digitsNumber f) 0 ≡ t
           → isNormal (cond t (record { coefficient = pos 0; power = pos 0 })
-          (record { coefficient = withSign (f .negative) (Read.digits f / 10 ^ trailing f); power = scale f +ℤ pos (trailing f) })) ≡ true
+          (record { coefficient = withSign (f .negative) (Read.digitsNumber f / 10 ^ trailing f); power = scale f +ℤ pos (trailing f) })) ≡ true
       go true e = unfold isNormal in refl
       go false e =
-          ended (record { coefficient = withSign (f .negative) (Read.digits f / 10 ^ trailing f); power = scale f +ℤ pos (trailing f) })
-          (λ z. stripped (let n = eqb-false (Read.digits f) 0 e in omega arith) .ends (ap (λ (k : ℕ). k % 10) (sym (signed-size (f .negative) (Read.digits f / 10 ^ trailing f))) ∙ z))
+          ended (record { coefficient = withSign (f .negative) (Read.digitsNumber f / 10 ^ trailing f); power = scale f +ℤ pos (trailing f) })
+          (λ z. stripped (let n = eqb-false (Read.digitsNumber f) 0 e in omega arith) .ends (ap (λ (k : ℕ). k % 10) (sym (signed-size (f .negative) (Read.digitsNumber f / 10 ^ trailing f))) ∙ z))
 
 -- ---- the number of a token
 judged-held : (k : ℕ) (f : Form) (d : Decimal) → Small (f .whole ++ f .fraction) → tokenBy k (some f) ≡ Number d → (inRange d ≡ true) × (isNormal d ≡ true)

@@ -12,7 +12,7 @@ use lib.ListN.{length}
 use Rattle.decimal.specs.Decimal as D
 use Rattle.decimal.specs.declared.Decimal.{Decimal}
 use Rattle.decimal.specs.declared.Token.the-variants.{Number, Malformed}
-use Rattle.decimal_read.specs.Number.{Form, behindSign, digitsOf, behindDigits, fractionOf, behindFraction, isExponent, isMinus, exponentMinus, exponentDigits, digits, normal}
+use Rattle.decimal_read.specs.Number.{Form, behindSign, digitsOf, behindDigits, fractionOf, behindFraction, isExponent, isMinus, exponentMinus, exponentDigits, digitsNumber, normal}
 use Rattle.decimal_read.specs.Number.{formOf, tokenBy, tokenOf}
 use Rattle.decimal_read.proofs.Stands.{Small, digits-small, fraction-small, both-small}
 use Rattle.decimal_laws.specs.Value.{down, Refused}

@@ -7,7 +7,7 @@ use lib.IntN.{ℤ, pos, negsuc}
 use Rattle.decimal.specs.declared.Token.{Token}
 use Rattle.decimal.specs.declared.Token.the-variants.{Number, Malformed}
 use Rattle.decimal_read.specs.Number.{isDigit, isMark, isMinus, behindSign, digitsOf, behindDigits, fractionOf, behindFraction, isEmpty, isExponent, exponentMinus, exponentDigits}
-use Rattle.decimal_read.specs.Number.{formOf, append, withSign, digits, scale, zeros, trailing, normal, tokenBy, tokenOf}
+use Rattle.decimal_read.specs.Number.{formOf, append, withSign, digitsNumber, scale, zeros, trailing, normal, tokenBy, tokenOf}
 
 number : ℤ → ℤ → Token
 number c p = Number (record { coefficient = c; power = p })
@@ -85,5 +85,5 @@ answers =
 
 pub examples : map tokenOf tokens ≡ answers
 unfolding number tokens answers isDigit isMark isMinus behindSign digitsOf behindDigits fractionOf behindFraction isEmpty isExponent exponentMinus exponentDigits formOf append withSign
-    digits scale zeros trailing normal tokenBy tokenOf
+    digitsNumber scale zeros trailing normal tokenBy tokenOf
 examples = refl

@@ -12,7 +12,7 @@ use lib.IntN.{ℤ, pos, negsuc, subℕ, _+ℤ_}
 use Rattle.decimal.specs.Decimal as D
 use Rattle.decimal.specs.declared.Decimal.{Decimal}
 use Rattle.decimal.specs.declared.Token.the-variants.{Number}
-use Rattle.decimal_read.specs.Number.{Form, digits, scale, trailing, withSign, normal, formOf, tokenOf}
+use Rattle.decimal_read.specs.Number.{Form, digitsNumber, scale, trailing, withSign, normal, formOf, tokenOf}
 use Rattle.decimal_read.proofs.Zeros.{Stripped, unique, pow-above}
 use Rattle.decimal_read.proofs.Stands.{Small}
 use Rattle.decimal_read.proofs.Ranged.{sub-lt, sub-ge, size-with}
@@ -42,29 +42,29 @@ above-zero zero a b e = refl
 above-zero (suc n) a b e = absurd (omega (arith, e, mul-pos (mul-pos (zero-lt-suc n) (pow-above a)) (pow-above b)))
 
 module _ (f g : Form) (fs : Small (f .whole ++ f .fraction)) (gs : Small (g .whole ++ g .fraction)) (same : Same (said f) (said g)) where
-  both-zero : digits f ≡ 0 → digits g ≡ 0
+  both-zero : digitsNumber f ≡ 0 → digitsNumber g ≡ 0
   both-zero e =
-      above-zero (digits g) (up (scale g)) (down (scale f))
+      above-zero (digitsNumber g) (up (scale g)) (down (scale f))
       (sym (same .crosswise) ∙ ap (λ (m : ℕ). m * 10 ^ up (scale f) * 10 ^ down (scale g)) e ∙ omega (arith, zero-mul (10 ^ up (scale f)), zero-mul (10 ^ down (scale g))))
 
-  other-zero : digits g ≡ 0 → digits f ≡ 0
+  other-zero : digitsNumber g ≡ 0 → digitsNumber f ≡ 0
   other-zero e =
-      above-zero (digits f) (up (scale f)) (down (scale g))
+      above-zero (digitsNumber f) (up (scale f)) (down (scale g))
       (same .crosswise ∙ ap (λ (m : ℕ). m * 10 ^ up (scale g) * 10 ^ down (scale f)) e ∙ omega (arith, zero-mul (10 ^ up (scale g)), zero-mul (10 ^ down (scale f))))
 
   abbrev c : Form → ℕ
-  c h = digits h / 10 ^ trailing h
+  c h = digitsNumber h / 10 ^ trailing h
 
-  spread : (h k : Form) → Stripped (digits h) (c h) (trailing h) → digits h * 10 ^ up (scale h) * 10 ^ down (scale k) ≡ c h * 10 ^ (trailing h + up (scale h) + down (scale k))
+  spread : (h k : Form) → Stripped (digitsNumber h) (c h) (trailing h) → digitsNumber h * 10 ^ up (scale h) * 10 ^ down (scale k) ≡ c h * 10 ^ (trailing h + up (scale h) + down (scale k))
   spread h k s =
       ap (λ (m : ℕ). m * 10 ^ up (scale h) * 10 ^ down (scale k)) (s .same) ∙ ap (λ (m : ℕ). m * 10 ^ down (scale k)) (powers (c h) (trailing h) (up (scale h)))
       ∙ powers (c h) (trailing h + up (scale h)) (down (scale k))
 
-  other-form : (digits f ≡ 0 → ⊥) → normal f ≡ normal g
+  other-form : (digitsNumber f ≡ 0 → ⊥) → normal f ≡ normal g
   other-form n =
-      let m : digits g ≡ 0 → ⊥ = λ e. n (other-zero e) in
-      let s : Stripped (digits f) (c f) (trailing f) = own-pair f fs n in
-      let r : Stripped (digits g) (c g) (trailing g) = own-pair g gs m in
+      let m : digitsNumber g ≡ 0 → ⊥ = λ e. n (other-zero e) in
+      let s : Stripped (digitsNumber f) (c f) (trailing f) = own-pair f fs n in
+      let r : Stripped (digitsNumber g) (c g) (trailing g) = own-pair g gs m in
       let q : (c f ≡ c g) × (trailing f + up (scale f) + down (scale g) ≡ trailing g + up (scale g) + down (scale f)) =
       unique (c f) (trailing f + up (scale f) + down (scale g)) (c g) (trailing g + up (scale g) + down (scale f)) (s .ends) (r .ends) (sym (spread f g s) ∙ same .crosswise ∙ spread g f r) in
       let p : scale f +ℤ pos (trailing f) ≡ scale g +ℤ pos (trailing g) =
@@ -73,11 +73,11 @@ module _ (f g : Form) (fs : Small (f .whole ++ f .fraction)) (gs : Small (g .who
       normal-other f n ∙ (λ i. record { coefficient = withSign (same .signs n i) (q .0 i); power = p i }) ∙ sym (normal-other g m)
 
   pub one-normal : normal f ≡ normal g
-  one-normal = go (eqb (digits f) 0) refl
+  one-normal = go (eqb (digitsNumber f) 0) refl
     where
-      go : (b : Bool) → eqb (digits f) 0 ≡ b → normal f ≡ normal g
-      go true e = let z : digits f ≡ 0 = eqb-true (digits f) 0 e in normal-zero f z ∙ sym (normal-zero g (both-zero z))
-      go false e = other-form (eqb-false (digits f) 0 e)
+      go : (b : Bool) → eqb (digitsNumber f) 0 ≡ b → normal f ≡ normal g
+      go true e = let z : digitsNumber f ≡ 0 = eqb-true (digitsNumber f) 0 e in normal-zero f z ∙ sym (normal-zero g (both-zero z))
+      go false e = other-form (eqb-false (digitsNumber f) 0 e)
 
 -- (b)
 pub one-number : (t u : List ℕ) (d e : Decimal) (f g : Form) → tokenOf t ≡ Number d → tokenOf u ≡ Number e → formOf t ≡ some f → formOf u ≡ some g → Same (said f) (said g) → d ≡ e
@@ -93,24 +93,24 @@ one-number t u d e f g p q v w s =
 zero-normal : Normal D.zero
 zero-normal = record { within = refl; zero = λ e. refl; ends = λ n e. n refl }
 
-other-normal : (f : Form) → Small (f .whole ++ f .fraction) → (digits f ≡ 0 → ⊥)
-    → D.inRange (record { coefficient = withSign (f .negative) (digits f / 10 ^ trailing f); power = scale f +ℤ pos (trailing f) }) ≡ true
-    → Normal (record { coefficient = withSign (f .negative) (digits f / 10 ^ trailing f); power = scale f +ℤ pos (trailing f) })
+other-normal : (f : Form) → Small (f .whole ++ f .fraction) → (digitsNumber f ≡ 0 → ⊥)
+    → D.inRange (record { coefficient = withSign (f .negative) (digitsNumber f / 10 ^ trailing f); power = scale f +ℤ pos (trailing f) }) ≡ true
+    → Normal (record { coefficient = withSign (f .negative) (digitsNumber f / 10 ^ trailing f); power = scale f +ℤ pos (trailing f) })
 other-normal f small n h =
-    let s : Stripped (digits f) (digits f / 10 ^ trailing f) (trailing f) = own-pair f small n in
+    let s : Stripped (digitsNumber f) (digitsNumber f / 10 ^ trailing f) (trailing f) = own-pair f small n in
     record {
       within = h;
-      zero = λ e. absurd (stripped-above s n (sym (size-with (f .negative) (digits f / 10 ^ trailing f)) ∙ e));
-      ends = λ m e. s .ends (ap (λ (k : ℕ). k % 10) (sym (size-with (f .negative) (digits f / 10 ^ trailing f))) ∙ e);
+      zero = λ e. absurd (stripped-above s n (sym (size-with (f .negative) (digitsNumber f / 10 ^ trailing f)) ∙ e));
+      ends = λ m e. s .ends (ap (λ (k : ℕ). k % 10) (sym (size-with (f .negative) (digitsNumber f / 10 ^ trailing f))) ∙ e);
     }
 
 form-normal : (f : Form) → Small (f .whole ++ f .fraction) → D.inRange (normal f) ≡ true → Normal (normal f)
-form-normal f small h = go (eqb (digits f) 0) refl
+form-normal f small h = go (eqb (digitsNumber f) 0) refl
   where
-    go : (b : Bool) → eqb (digits f) 0 ≡ b → Normal (normal f)
-    go true e = subst Normal (sym (normal-zero f (eqb-true (digits f) 0 e))) zero-normal
+    go : (b : Bool) → eqb (digitsNumber f) 0 ≡ b → Normal (normal f)
+    go true e = subst Normal (sym (normal-zero f (eqb-true (digitsNumber f) 0 e))) zero-normal
     go false e =
-        let n : digits f ≡ 0 → ⊥ = eqb-false (digits f) 0 e in subst Normal (sym (normal-other f n)) (other-normal f small n (subst (λ (d : Decimal). D.inRange d ≡ true) (normal-other f n) h))
+        let n : digitsNumber f ≡ 0 → ⊥ = eqb-false (digitsNumber f) 0 e in subst Normal (sym (normal-other f n)) (other-normal f small n (subst (λ (d : Decimal). D.inRange d ≡ true) (normal-other f n) h))
 
 pub in-normal : (t : List ℕ) (d : Decimal) → tokenOf t ≡ Number d → Normal d
 in-normal t d e =

@@ -13,7 +13,7 @@ use lib.Pow.{pow-add}
 use Rattle.decimal.specs.Decimal as D
 use Rattle.decimal.specs.declared.Decimal.{Decimal}
 use Rattle.decimal.specs.declared.Token.the-variants.{Number}
-use Rattle.decimal_read.specs.Number.{Form, digits, scale, trailing, withSign, normal, formOf, tokenOf}
+use Rattle.decimal_read.specs.Number.{Form, digitsNumber, scale, trailing, withSign, normal, formOf, tokenOf}
 use Rattle.decimal_read.proofs.Zeros.{Stripped}
 use Rattle.decimal_read.proofs.Stands.{Small}
 use Rattle.decimal_read.proofs.Ranged.{size-with}
@@ -49,26 +49,26 @@ pub stripped-above : {n c z : ℕ} → Stripped n c z → (n ≡ 0 → ⊥) → 
 stripped-above {n} {c} {z} s h e = h (s .same ∙ ap (λ (m : ℕ). m * 10 ^ z) e ∙ zero-mul (10 ^ z))
 
 module _ (f : Form) (small : Small (f .whole ++ f .fraction)) where
-  zero-same : digits f ≡ 0 → Same (said f) (held D.zero)
+  zero-same : digitsNumber f ≡ 0 → Same (said f) (held D.zero)
   unfolding up down isNegative
   zero-same e = record { crosswise = ap (λ (m : ℕ). m * 10 ^ up (scale f) * 10 ^ 0) e ∙ omega arith; signs = λ n. absurd (n e) }
 
-  other-same : (digits f ≡ 0 → ⊥) → Same (said f) (held (record { coefficient = withSign (f .negative) (digits f / 10 ^ trailing f); power = scale f +ℤ pos (trailing f) }))
+  other-same : (digitsNumber f ≡ 0 → ⊥) → Same (said f) (held (record { coefficient = withSign (f .negative) (digitsNumber f / 10 ^ trailing f); power = scale f +ℤ pos (trailing f) }))
   other-same n =
-      let s : Stripped (digits f) (digits f / 10 ^ trailing f) (trailing f) = own-pair f small n in
-      rw (size-with (f .negative) (digits f / 10 ^ trailing f))
+      let s : Stripped (digitsNumber f) (digitsNumber f / 10 ^ trailing f) (trailing f) = own-pair f small n in
+      rw (size-with (f .negative) (digitsNumber f / 10 ^ trailing f))
       (record {
-        crosswise = crosswise-moved (digits f) (digits f / 10 ^ trailing f) (trailing f) (scale f) (s .same);
-        signs = λ m. sign-with (f .negative) (digits f / 10 ^ trailing f)
+        crosswise = crosswise-moved (digitsNumber f) (digitsNumber f / 10 ^ trailing f) (trailing f) (scale f) (s .same);
+        signs = λ m. sign-with (f .negative) (digitsNumber f / 10 ^ trailing f)
             (stripped-above s n);
       })
 
   pub normal-same : Same (said f) (held (normal f))
-  normal-same = go (eqb (digits f) 0) refl
+  normal-same = go (eqb (digitsNumber f) 0) refl
     where
-      go : (b : Bool) → eqb (digits f) 0 ≡ b → Same (said f) (held (normal f))
-      go true e = rw (normal-zero f (eqb-true (digits f) 0 e)) (zero-same (eqb-true (digits f) 0 e))
-      go false e = rw (normal-other f (eqb-false (digits f) 0 e)) (other-same (eqb-false (digits f) 0 e))
+      go : (b : Bool) → eqb (digitsNumber f) 0 ≡ b → Same (said f) (held (normal f))
+      go true e = rw (normal-zero f (eqb-true (digitsNumber f) 0 e)) (zero-same (eqb-true (digitsNumber f) 0 e))
+      go false e = rw (normal-other f (eqb-false (digitsNumber f) 0 e)) (other-same (eqb-false (digitsNumber f) 0 e))
 
 -- an accepted token says the coefficient times 10 to the power
 pub value : (t : List ℕ) (d : Decimal) → tokenOf t ≡ Number d → (f : Form) × (formOf t ≡ some f) × Same (said f) (held d)

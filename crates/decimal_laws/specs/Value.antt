@@ -10,7 +10,7 @@ use lib.IntN.{ℤ, pos, negsuc}
 use lib.ListN.{length}
 use Rattle.decimal.specs.Decimal.{size, inRange}
 use Rattle.decimal.specs.declared.Decimal.{Decimal}
-use Rattle.decimal_read.specs.Number.{Form, digits, scale, normal, formOf}
+use Rattle.decimal_read.specs.Number.{Form, digitsNumber, scale, normal, formOf}
 
 -- the rational number n times 10 to the power, below zero where `negative` says so
 pub record Scaled : Type 0 where
@@ -38,7 +38,7 @@ isNegative (negsuc n) = true
 
 -- what a form says: all its digits as a whole number, times 10 to the exponent less the number of digits behind the point
 abbrev pub said : Form → Scaled
-said f = record { negative = f .negative; number = digits f; power = scale f }
+said f = record { negative = f .negative; number = digitsNumber f; power = scale f }
 
 -- what a coefficient and a power stand for
 abbrev pub held : Decimal → Scaled

@@ -17,7 +17,7 @@ use Rattle.decimal_read.specs.declared.Run.{Run}
 use Rattle.decimal_read.specs.declared.Exponent.{Exponent}
 use Rattle.decimal_read.specs.declared.Exponent.the-variants.{Up, Down, Wrong}
 use Rattle.decimal_read.specs.Number.{Form, isMark, isEmpty, isMinus, behindSign, digitsOf, behindDigits, fractionOf, behindFraction, isExponent, exponentMinus}
-use Rattle.decimal_read.specs.Number.{exponentDigits, append, digits, scale, tokenBy, formOf, tokenOf}
+use Rattle.decimal_read.specs.Number.{exponentDigits, append, digitsNumber, scale, tokenBy, formOf, tokenOf}
 use Rattle.decimal_read.specs.Steps.{noDigits, heldAll, RunOf, FractionOf, exponentOf, exponentAt, raised}
 use Rattle.decimal_read.proofs.Zeros.{pow-above, least}
 use Rattle.decimal_read.proofs.Stands.{Small, digits-small, fraction-small, both-small, held-both, append-lt, Stands, exact, lost, none-read, stands-all}
@@ -47,7 +47,7 @@ formWith s w p minus e = record { negative = s; whole = w; fraction = p; down = 
 
 module _ (s : Bool) (w p : List ℕ) (n : ℕ) (h : Held) (small : Small (w ++ p)) (fits : h .value < 10 ^ 19) (stands : Stands (append 0 (w ++ p)) h) where
   either : (minus : Bool) (e : List ℕ) → raised s n h (length p) (cond minus (Down (append 0 e)) (Up (append 0 e))) ≡ tokenBy n (some (formWith s w p minus e))
-  unfolding raised digits scale
+  unfolding raised digitsNumber scale
   either true e = settled-is (formWith s w p true e) h 0 (append 0 e) small fits stands (λ m. power-down (append 0 e) (length p) m ∙ ap (λ (k : ℕ). subℕ k (length p + append 0 e)) (omega arith)) n
   either false e = settled-is (formWith s w p false e) h (append 0 e) 0 small fits stands (λ m. power-up (append 0 e) (length p) m ∙ ap (λ (k : ℕ). subℕ (append 0 e + m) k) (omega arith)) n
 

@@ -15,7 +15,7 @@ use Rattle.decimal.specs.Decimal as D
 use Rattle.decimal.specs.declared.Token.{Token}
 use Rattle.decimal.specs.declared.Token.the-variants.{Number, Malformed}
 use Rattle.decimal_read.specs.declared.Held.{Held}
-use Rattle.decimal_read.specs.Number.{Form, digits, scale, zeros, trailing, normal, withSign, tokenBy}
+use Rattle.decimal_read.specs.Number.{Form, digitsNumber, scale, zeros, trailing, normal, withSign, tokenBy}
 use Rattle.decimal_read.specs.Steps.{zerosOf, coefficientOf, ranged, settled}
 use Rattle.decimal_read.proofs.Zeros.{Stripped, found, one-pair, pow-above, least}
 use Rattle.decimal_read.proofs.Stands.{Small, Stands, exact, lost, append-lt}
@@ -24,26 +24,26 @@ use Rattle.decimal_read.proofs.Ranged.{accepted, refused, big, ranged-i
 -- ── The normal form by its two laws: zero is zero, and any other number is its one stripped pair ──
 
 module _ (f : Form) where
-  pub normal-zero : digits f ≡ 0 → normal f ≡ D.zero
+  pub normal-zero : digitsNumber f ≡ 0 → normal f ≡ D.zero
   unfolding normal
-  normal-zero e = rw (eq-eqb (digits f) 0 e)
+  normal-zero e = rw (eq-eqb (digitsNumber f) 0 e)
 
-  pub digits-lt : Small (f .whole ++ f .fraction) → digits f < 10 ^ length (f .whole ++ f .fraction)
-  unfolding digits
+  pub digits-lt : Small (f .whole ++ f .fraction) → digitsNumber f < 10 ^ length (f .whole ++ f .fraction)
+  unfolding digitsNumber
   digits-lt s = omega (arith, append-lt 0 s)
 
-  pub own-pair : Small (f .whole ++ f .fraction) → (digits f ≡ 0 → ⊥) → Stripped (digits f) (digits f / 10 ^ trailing f) (trailing f)
+  pub own-pair : Small (f .whole ++ f .fraction) → (digitsNumber f ≡ 0 → ⊥) → Stripped (digitsNumber f) (digitsNumber f / 10 ^ trailing f) (trailing f)
   unfolding trailing
-  own-pair s n = found (length (f .whole ++ f .fraction)) (digits f) (omega arith) (digits-lt s)
+  own-pair s n = found (length (f .whole ++ f .fraction)) (digitsNumber f) (omega arith) (digits-lt s)
 
-  pub normal-other : (digits f ≡ 0 → ⊥) → normal f ≡ record { coefficient = withSign (f .negative) (digits f / 10 ^ trailing f); power = scale f +ℤ pos (trailing f) }
+  pub normal-other : (digitsNumber f ≡ 0 → ⊥) → normal f ≡ record { coefficient = withSign (f .negative) (digitsNumber f / 10 ^ trailing f); power = scale f +ℤ pos (trailing f) }
   unfolding normal
-  normal-other n = rw (ne-eqb (digits f) 0 n)
+  normal-other n = rw (ne-eqb (digitsNumber f) 0 n)
 
-  pub normal-is : Small (f .whole ++ f .fraction) → (digits f ≡ 0 → ⊥) → {c z : ℕ} → Stripped (digits f) c z → normal f ≡ record { coefficient = withSign (f .negative) c; power = scale f +ℤ pos z }
+  pub normal-is : Small (f .whole ++ f .fraction) → (digitsNumber f ≡ 0 → ⊥) → {c z : ℕ} → Stripped (digitsNumber f) c z → normal f ≡ record { coefficient = withSign (f .negative) c; power = scale f +ℤ pos z }
   normal-is s n {c} {z} p = go (one-pair (own-pair s n) p)
     where
-      go : (digits f / 10 ^ trailing f ≡ c) × (trailing f ≡ z) → normal f ≡ record { coefficient = withSign (f .negative) c; power = scale f +ℤ pos z }
+      go : (digitsNumber f / 10 ^ trailing f ≡ c) × (trailing f ≡ z) → normal f ≡ record { coefficient = withSign (f .negative) c; power = scale f +ℤ pos z }
       go q = normal-other n ∙ (λ i. record { coefficient = withSign (f .negative) (q .0 i); power = scale f +ℤ pos (q .1 i) })
 
 -- ── The code's numbers ──
@@ -67,33 +67,33 @@ too-large s c a b h = rw (le-leb (10 ^ 15) c h)
 -- ── The last step ──
 
 module _ (f : Form) (h : Held) (up down : ℕ) (small : Small (f .whole ++ f .fraction)) (fits : h .value < 10 ^ 19)
-    (stands : Stands (digits f) h) (power : (m : ℕ) → scale f +ℤ pos m ≡ subℕ (up + m) (length (f .fraction) + down)) where
+    (stands : Stands (digitsNumber f) h) (power : (m : ℕ) → scale f +ℤ pos m ≡ subℕ (up + m) (length (f .fraction) + down)) where
   abbrev reached : Token
   reached = ranged (f .negative) (coefficientOf (h .value)) (22 + h .dropped + zerosOf (h .value) + up) (length (f .fraction) + down)
 
-  none : h .value ≡ 0 → Stands (digits f) h → digits f ≡ 0
+  none : h .value ≡ 0 → Stands (digitsNumber f) h → digitsNumber f ≡ 0
   none z (exact e p) = e ∙ ap (λ (v : ℕ). v * 10 ^ h .dropped) z ∙ zero-mul (10 ^ h .dropped)
   none z (lost e s l) = absurd (omega arith)
 
-  exactly : (h .value ≡ 0 → ⊥) → digits f ≡ h .value * 10 ^ h .dropped → reached ≡ accepted (normal f)
+  exactly : (h .value ≡ 0 → ⊥) → digitsNumber f ≡ h .value * 10 ^ h .dropped → reached ≡ accepted (normal f)
   exactly n e =
       let v : ℕ = h .value in
       let k : ℕ = h .dropped in
       let z : ℕ = zerosOf v + k in
       let c : ℕ = coefficientOf v in
-      let nz : digits f ≡ 0 → ⊥ = λ q. n (omega (arith, e, q, le-mul-of-pos-right v (pow-above k))) in
-      let pair : Stripped (digits f) c z = with-dropped (digits f) v k c (zerosOf v) e (own v (omega arith) fits) in
+      let nz : digitsNumber f ≡ 0 → ⊥ = λ q. n (omega (arith, e, q, le-mul-of-pos-right v (pow-above k))) in
+      let pair : Stripped (digitsNumber f) c z = with-dropped (digitsNumber f) v k c (zerosOf v) e (own v (omega arith) fits) in
       ap (λ (m : ℕ). ranged (f .negative) c m (length (f .fraction) + down)) (omega arith) ∙
       ranged-is (f .negative) c (up + z) (length (f .fraction) + down) ∙
       ap accepted (sym (normal-is f small nz pair ∙ ap (λ (y : ℤ). record { coefficient = withSign (f .negative) c; power = y }) (power z)))
 
-  never : {q j : ℕ} → h .value ≡ 10 ^ 18 + 1 → Stripped (digits f) q j → 10 ^ 18 ≤ q → reached ≡ accepted (normal f)
+  never : {q j : ℕ} → h .value ≡ 10 ^ 18 + 1 → Stripped (digitsNumber f) q j → 10 ^ 18 ≤ q → reached ≡ accepted (normal f)
   never {q} {j} e s l =
-      let nz : digits f ≡ 0 → ⊥ = λ d. omega (arith, least s) in
+      let nz : digitsNumber f ≡ 0 → ⊥ = λ d. omega (arith, least s) in
       too-large (f .negative) (coefficientOf (h .value)) _ _ (omega (arith, ap coefficientOf e ∙ lost-is)) ∙
       refused (normal f) (ap D.inRange (normal-is f small nz s) ∙ big (f .negative) q (scale f +ℤ pos j) (omega arith))
 
-  other : (h .value ≡ 0 → ⊥) → Stands (digits f) h → reached ≡ accepted (normal f)
+  other : (h .value ≡ 0 → ⊥) → Stands (digitsNumber f) h → reached ≡ accepted (normal f)
   other n (exact e p) = exactly n e
   other n (lost e s l) = never e s l
 

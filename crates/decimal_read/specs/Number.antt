@@ -108,8 +108,8 @@ withSign true n = negℤ (pos n)
 withSign false n = pos n
 
 -- a form says, with its sign, all its digits as a whole number, times 10 to its scale: the exponent less the number of digits behind the point
-unfoldable pub digits : Form → ℕ
-digits f = append 0 (f .whole ++ f .fraction)
+unfoldable pub digitsNumber : Form → ℕ
+digitsNumber f = append 0 (f .whole ++ f .fraction)
 
 unfoldable pub scale : Form → ℤ
 scale f = withSign (f .down) (append 0 (f .exponent)) -ℤ pos (length (f .fraction))
@@ -123,12 +123,12 @@ zeros (suc k) n = cond (eqb (n % 10) 0) (suc (zeros k (n / 10))) 0
 
 -- the zeros that a form's digits end in; its number has no more digits than the form
 unfoldable pub trailing : Form → ℕ
-trailing f = zeros (length (f .whole ++ f .fraction)) (digits f)
+trailing f = zeros (length (f .whole ++ f .fraction)) (digitsNumber f)
 
 unfoldable pub normal : Form → Decimal
 normal f =
-    cond (eqb (digits f) 0) D.zero
-    (record { coefficient = withSign (f .negative) (digits f / 10 ^ trailing f); power = scale f +ℤ pos (trailing f) })
+    cond (eqb (digitsNumber f) 0) D.zero
+    (record { coefficient = withSign (f .negative) (digitsNumber f / 10 ^ trailing f); power = scale f +ℤ pos (trailing f) })
 
 -- ── The token ──
 

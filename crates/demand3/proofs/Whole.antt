@@ -11,7 +11,7 @@ use Rattle.room.specs.Room.{Room, roomLength, filledWith}
 use Rattle.clf.specs.Reading.{Reading, nodesIn, read}
 use Rattle.reading.specs.declared.Answer.{Answer}
 use Rattle.reading.specs.Code.{readingAnswer, ReadsInto}
-use Rattle.look.specs.Look.{Look, roomOf, holding}
+use Rattle.look.specs.Look.{Look, roomLengthOf, holding}
 use Rattle.look.specs.Replacing as Replacing
 use Rattle.replacing.specs.Code.{lookOf}
 use Rattle.claims.specs.TriedFile.{fileRun}
@@ -31,9 +31,9 @@ list-is : (x : Look) (r : Reading) → readingAnswer r .list ≡ holding x (node
 unfolding readingAnswer holding
 list-is x r = refl
 
-pub read-look : (x : Look) (s : List ℕ) (r : Answer) (m : Room) → ReadsInto (read (roomOf x) s) r (x .room) m → lookOf (r .list) m ≡ readInto x s
+pub read-look : (x : Look) (s : List ℕ) (r : Answer) (m : Room) → ReadsInto (read (roomLengthOf x) s) r (x .room) m → lookOf (r .list) m ≡ readInto x s
 read-look x s r m h =
-    let d : Reading = read (roomOf x) s in
+    let d : Reading = read (roomLengthOf x) s in
     ap (λ (z : Answer). lookOf (z .list) m) (h .answer) ∙ ap (λ (z : ProcessList). lookOf z m) (list-is x d) ∙ ap (lookOf (readInto x s .list)) (h .room ∙ room-is x d)
 
 -- ---- the look after the run is a fresh reading's
@@ -51,13 +51,13 @@ module _ (s : List ℕ) (calls : List (ℕ × List ℕ)) (m₀ : Room) where
       → Demand3 s m₀ calls (take (length calls) ns) (take (length calls) ps) y
   by-look x e d y ns₀ ps₀ ns ps t =
       subst (λ (m : Room). Demand3 s m calls (take (length calls) ns) (take (length calls) ps) y) e
-      (let v : y ≡ readInto x (fileRun (read (roomOf x)) s calls .1) = t .left ∙ d .look in
+      (let v : y ≡ readInto x (fileRun (read (roomLengthOf x)) s calls .1) = t .left ∙ d .look in
       record {
         numbers = front _ (readInto x s) ns ns₀ (t .numbers) ∙ ap numbersSaid (d .answers);
         places = front _ (readInto x s) ps ps₀ (t .places) ∙ ap placesSaid (d .answers);
         inElement = d .places;
-        list = file-list (y .list) ∙ ap (λ (z : Look). z .list) v ∙ sym (list-is x (read (roomOf x) (fileRun (read (roomOf x)) s calls .1)));
-        room = ap (λ (z : Look). z .room) v ∙ sym (room-is x (read (roomOf x) (fileRun (read (roomOf x)) s calls .1)));
+        list = file-list (y .list) ∙ ap (λ (z : Look). z .list) v ∙ sym (list-is x (read (roomLengthOf x) (fileRun (read (roomLengthOf x)) s calls .1)));
+        room = ap (λ (z : Look). z .room) v ∙ sym (room-is x (read (roomLengthOf x) (fileRun (read (roomLengthOf x)) s calls .1)));
       })
 
 -- THE PROMISE: r is what reading answered, l the list that the run left

@@ -3,8 +3,8 @@ use mathlib.Core.Path.{_≡_, refl}
 use mathlib.Core.List.{map}
 use lib.Ieee.{add, sub, mul, div, lt, le, eq, ofInt, ofBits}
 use Rattle.decimal_read.specs.Number.{isDigit, isMark, isMinus, behindSign, digitsOf, behindDigits, fractionOf, behindFraction, isEmpty, isExponent, exponentMinus, exponentDigits}
-use Rattle.decimal_read.specs.Number.{formOf, append, withSign, digits, scale, zeros, trailing, normal, tokenBy, tokenOf}
-use Rattle.decimal_value.specs.Value.{valueOf, powered, ten, less, atMost, notNegative, isOne}
+use Rattle.decimal_read.specs.Number.{formOf, append, withSign, digitsNumber, scale, zeros, trailing, normal, tokenBy, tokenOf}
+use Rattle.decimal_value.specs.Value.{valueOf, powered, tenTo, less, atMost, notNegative, isOne}
 use Rattle.decimal_write.specs.Written as Written
 use Rattle.process_list.specs.List as List
 use Rattle.room.specs.Room.{roomLength}
@@ -27,9 +27,9 @@ use Rattle.examples.specs.Starred.{questions, answers, outcome}
 
 pub starred : map outcome questions ≡ answers
 unfolding questions answers
-    isDigit isMark isMinus behindSign digitsOf behindDigits fractionOf behindFraction isEmpty isExponent exponentMinus exponentDigits formOf append withSign digits scale zeros trailing normal tokenBy
+    isDigit isMark isMinus behindSign digitsOf behindDigits fractionOf behindFraction isEmpty isExponent exponentMinus exponentDigits formOf append withSign digitsNumber scale zeros trailing normal tokenBy
     tokenOf
-    valueOf powered ten less atMost notNegative isOne Written.isNormal
+    valueOf powered tenTo less atMost notNegative isOne Written.isNormal
     List.sameDepth List.scaleOf List.numbersOf List.unplaced List.withPosition List.nodeOf List.total List.placeFrom List.placed List.allNumbers List.blankNode List.listOf List.nodesOf List.differs
     List.firstDiffers List.judged
     roomLength every pairs numbersAt elementOf elementsOf tableRight shapeRight carried rangeHolds slopesHold powersHold cdlHolds rulesHold sound gapless isBlank listRight restZero zeroFrom isValid

@@ -8,7 +8,7 @@ use lib.ListN.{length, take, length-append}
 use lib.Seq.{take-append-seam}
 use lib.Dec.{ltb, eqb}
 use borrow.Author.Tests.{ltb-true, lt-ltb, le-ltb, eq-eqb, ne-eqb}
-use Rattle.grammar.specs.Parse.{Out, done, fault, cut, Parser, Turn, again, last, before, samePlace, thenOut, bindP, retP, badP, lookP, strictOut, strictP, lookTwoP, verdict}
+use Rattle.grammar.specs.Parse.{Out, done, fault, cut, Parser, Turn, again, last, before, samePlace, thenOut, bindP, retP, badP, lookP, strictOut, strictP, lookTwoP, judgedTo}
 use Rattle.grammar.specs.Parse.{judgeOut, judgeP, settleFault, settleOut, settleP, blameOut, blameP, keptOut, keptP, eatP, spanP, turnP, turnOut, loopF, loopP, stateTurn}
 use Rattle.grammar.specs.Parse.{stateOut, stateF, loopState}
 
@@ -160,7 +160,7 @@ module _ {A : Type 0} where
       → (n : ℕ) → j a ≡ n → StrongPrefix (judgeP j p) s
   judge-go j p s a c r e h zero q = dones a c r e (λ t w. cc (h t w))
   judge-go j p s a c r e h (suc k) q = faults (suc k) [] s refl (λ t. ap (λ (o : Out A). judgeOut j o (s ++ t)) (ap p (seam s c r t e) ∙ h (r ++ t) (follows-self r t))
-      ∙ ap (λ (n : ℕ). verdict n a (r ++ t) (s ++ t)) q)
+      ∙ ap (λ (n : ℕ). judgedTo n a (r ++ t) (s ++ t)) q)
 
   pub judge-answer : (j : A → ℕ) (p : Parser A) (s : List ℕ) → StrongPrefix p s → StrongPrefix (judgeP j p) s
   judge-answer j p s (cuts q) = cuts (ap (λ (o : Out A). judgeOut j o s) q)

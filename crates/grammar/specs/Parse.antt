@@ -67,12 +67,12 @@ module _ {A : Type 0} where
   lookTwoP f (b ∷ []) = cut
   lookTwoP f (b ∷ c ∷ s) = strictP (f b c) (b ∷ c ∷ s)
 
-  abbrev pub verdict : ℕ → A → List ℕ → List ℕ → Out A
-  verdict zero a r s = done a r
-  verdict (suc k) a r s = fault (suc k) s
+  abbrev pub judgedTo : ℕ → A → List ℕ → List ℕ → Out A
+  judgedTo zero a r s = done a r
+  judgedTo (suc k) a r s = fault (suc k) s
 
   abbrev pub judgeOut : (A → ℕ) → Out A → List ℕ → Out A
-  judgeOut j (done a r) s = verdict (j a) a r s
+  judgeOut j (done a r) s = judgedTo (j a) a r s
   judgeOut j (fault k r) s = fault k r
   judgeOut j cut s = cut
 
@@ -85,7 +85,7 @@ module _ {A : Type 0} where
   settleFault (suc v) k r s = cond (samePlace r s) (fault (min (suc v) k) s) (fault (suc v) s)
 
   abbrev pub settleOut : ℕ → Out A → List ℕ → Out A
-  settleOut v (done a r) s = verdict v a r s
+  settleOut v (done a r) s = judgedTo v a r s
   settleOut v (fault k r) s = settleFault v k r s
   settleOut v cut s = cut
 

@@ -15,8 +15,8 @@ pub record Look : Type 0 where
   pub room : Room
 
 -- how many numbers its room holds
-abbrev pub roomOf : Look → ℕ
-roomOf x = roomLength (x .room)
+abbrev pub roomLengthOf : Look → ℕ
+roomLengthOf x = roomLength (x .room)
 
 -- these elements in the list, their numbers in the room 'without gaps, in node order'; 'the unused rest of the room is zero', and what a slice has behind the room stays
 unfoldable pub holding : Look → List Element → Look
@@ -24,7 +24,7 @@ holding x es = record { list = listOf (placed es); room = filledWith (allNumbers
 
 -- replacing: 16 first, for a look that is no accepted reading; then as the list alone says
 unfoldable pub replaceIn : Look → ℕ → List ℕ → Replacing
-replaceIn x k e = cond (isValid (x .list) (x .room)) (replace (roomOf x) (Valid.elementsOf (x .list) (x .room)) k e) (refused Refusal.noReading 0)
+replaceIn x k e = cond (isValid (x .list) (x .room)) (replace (roomLengthOf x) (Valid.elementsOf (x .list) (x .room)) k e) (refused Refusal.noReading 0)
 
 -- 'Any other refusal changes nothing'
 abbrev pub lookAfter : Look → Replacing → Look

@@ -7,7 +7,7 @@ use native.Mathlib.Omega.{arith}
 use lib.ListN.{length, drop, length-drop, length-append}
 use lib.Dec.{eqb}
 use borrow.Author.Tests.{lt-ltb}
-use Rattle.grammar.specs.Parse.{Out, done, fault, cut, thenOut, bindP, retP, strictOut, strictP, lookTwoP, verdict, judgeOut, settleOut, settleP, badP, samePlace}
+use Rattle.grammar.specs.Parse.{Out, done, fault, cut, thenOut, bindP, retP, strictOut, strictP, lookTwoP, judgedTo, judgeOut, settleOut, settleP, badP, samePlace}
 use Rattle.grammar.specs.Grammar.{G, ret, bad, lookTwo, judge, settle, eat, seq, _>>_}
 use Rattle.grammar.specs.Laws.{StrongPrefix, cuts, faults, dones, follows-refl, nope}
 use Rattle.xml.specs.Bytes.{isSpace, lessThan, slash, exclamation, question, ampersand}
@@ -37,7 +37,7 @@ module _ {C : Type 0} (end : G (Unit {0})) (refusal : List ℕ → ℕ) (body : 
   -- the answer by that of the first bytes of s
   abbrev pub byItem : List ℕ → Out ItemFound → Out (Part C)
   byItem s (done passed r) = strictOut (done misc r) s
-  byItem s (done (starts w) r) = strictOut (thenOut (verdict (refusal w) w r s) (λ n. bindP ((body n) .run) (λ v. retP (child v)))) s
+  byItem s (done (starts w) r) = strictOut (thenOut (judgedTo (refusal w) w r s) (λ n. bindP ((body n) .run) (λ v. retP (child v)))) s
   byItem s (done ends r) = strictOut (thenOut (end .run s) (λ u. retP close)) s
   byItem s (fault k r) = fault k r
   byItem s cut = cut
@@ -120,7 +120,7 @@ module _ {C : Type 0} (end : G (Unit {0})) (refusal : List ℕ → ℕ) (body : 
       between-refused k q z =
           by-answer (Items.StartTag e) v
           ∙ ap (λ (o : Out (List ℕ)). strictOut (thenOut o afterName) (drop at s))
-          (ap (λ (n : ℕ). verdict n w (drop e s) (drop at s)) q ∙ verdict-ill k w (drop e s) (drop at s) z)
+          (ap (λ (n : ℕ). judgedTo n w (drop e s) (drop at s)) q ∙ verdict-ill k w (drop e s) (drop at s) z)
 
       module _ (q : refusal w ≡ 0) where
         by-body : (o : Out C) → (body w) .run (drop e s) ≡ o → (between end refusal body) .run (drop at s) ≡ strictOut (thenOut o (λ v. retP (child v))) (drop at s)

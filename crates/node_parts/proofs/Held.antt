@@ -6,7 +6,7 @@ use Prim.Native.Nat.{ℕ, zero, suc, _+_, _≤_, _<_, min}
 use native.Mathlib.Omega.{arith}
 use lib.ListN.{length, drop, length-drop}
 use borrow.Author.Tests.{lt-ltb}
-use Rattle.grammar.specs.Parse.{Out, done, fault, cut, Parser, Turn, thenOut, bindP, retP, strictOut, verdict, settleOut, samePlace, loopP}
+use Rattle.grammar.specs.Parse.{Out, done, fault, cut, Parser, Turn, thenOut, bindP, retP, strictOut, judgedTo, settleOut, samePlace, loopP}
 use Rattle.grammar.specs.Grammar.{G}
 use Rattle.grammar.specs.Laws.{loop-again, loop-last, loop-fault, loop-cut, nope}
 use Rattle.xml.specs.Xml.{endTag}
@@ -108,7 +108,7 @@ module _ {S : Type 0} (h : Holder S) where
       abbrev w : List ℕ
       w = part s (i + 1) e
 
-      same : (k : ℕ) → strictOut (thenOut (verdict k w (drop e s) (drop i s)) (λ n. bindP ((h .body st n) .run) (λ v. retP (child v)))) (drop i s)
+      same : (k : ℕ) → strictOut (thenOut (judgedTo k w (drop e s) (drop i s)) (λ n. bindP ((h .body st n) .run) (λ v. retP (child v)))) (drop i s)
           ≡ strictOut (thenOut (childOut k ((h .body st w) .run) (drop e s) (drop i s)) (λ v. retP (child v))) (drop i s)
       same zero = refl
       same (suc k) = refl

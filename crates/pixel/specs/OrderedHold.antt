@@ -3,5 +3,5 @@ use mathlib.Core.Bool.{cond}
 use lib.Ieee.{Float, lt}
 
 -- 'hi if x > hi', and x otherwise
-unfoldable pub atMost : Float → Float → Float
-atMost x hi = cond (lt hi x) hi x
+unfoldable pub notAbove : Float → Float → Float
+notAbove x hi = cond (lt hi x) hi x

@@ -47,7 +47,7 @@ pub fn hold(x: f64, lo: f64, hi: f64) -> f64
 }
 
 fn at_most(x: f64, hi: f64) -> f64
-    ensures { λ r. ⌜ r ≡ OrderedHold.atMost x hi ⌝ }
+    ensures { λ r. ⌜ r ≡ OrderedHold.notAbove x hi ⌝ }
 {
     if x > hi {
         return hi;

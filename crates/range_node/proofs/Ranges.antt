@@ -26,13 +26,13 @@ use Rattle.tags.specs.Ended.{tagOf}
 use Rattle.tags.specs.declared.StartTag.{StartTag}
 use Rattle.values.specs.Code.{Laid, NumbersRead}
 use Rattle.clf.specs.Numbers.{valueElement, anyNumber}
-use Rattle.clf.specs.Nodes.{isSome, orElse, oneOf, RangeState, noValues, rangeIndex, rangeBody, rangeFault, rangeHolder, rangeTexts, rangeStyle, rangeNode, nodeRules, range}
+use Rattle.clf.specs.Nodes.{isSome, orElse, onlyNumber, RangeState, noValues, rangeIndex, rangeBody, rangeFault, rangeHolder, rangeTexts, rangeStyle, rangeNode, nodeRules, range}
 use Rattle.node_parts.specs.Code.{NumbersIn, finishedNode, failedNode, smallNumbers, NodeReads}
 use Rattle.node_parts.specs.Held.{Goes, HeldAt, ReadsTo}
 use Rattle.node_parts.specs.declared.NodeStep.{NodeStep}
 use Rattle.node_parts.proofs.Held.{went-either, child-refused, child-body, held-end}
 use Rattle.node_parts.proofs.Reading.{to-map, to-then, to-failed, to-part, numbers-to, text-to, node-reads, node-failed, finished-is, NodeIs}
-use Rattle.range_node.specs.Code.{faultOf, missingOf, fourZeros, RangeStands, withScan, noneFound}
+use Rattle.range_node.specs.Code.{rangeFaultOf, missingOf, fourZeros, RangeStands, withScan, noneFound}
 use Rattle.range_node.specs.declared.RangeStep.{RangeStep}
 use Rattle.range_node.proofs.Values.{map-set, small-one, faults, lacking, numbers}
 
@@ -51,7 +51,7 @@ module _ (s : List ℕ) (m : Room) (state : RangeStep) (st : RangeState) (v : Ra
       (text-to ((textElement w) .run) s e b (Unit {0}) tt h))
 
   module _ (w : List ℕ) (e k : ℕ) (m₁ : Room) (r : RangeStep) (q : k ≡ rangeIndex w) (ef : r .found ≡ set (state .found) k true) where
-    valued : (l : List Decimal) → NumbersIn 1 k m m₁ l → RangeStands m₁ r (record { values = set (st .values) (rangeIndex w) (some (oneOf l)) })
+    valued : (l : List Decimal) → NumbersIn 1 k m m₁ l → RangeStands m₁ r (record { values = set (st .values) (rangeIndex w) (some (onlyNumber l)) })
     valued [] g = absurd (omega (arith, g .counted))
     valued (d ∷ []) g = record {
       found = ef ∙ ap (λ (l : List Bool). set l k true) (v .found)
@@ -67,11 +67,11 @@ module _ (s : List ℕ) (m : Room) (state : RangeStep) (st : RangeState) (v : Ra
     body-value b n h =
         rw n
         (to-map ((valueElement w 1 anyNumber) .run) s e (RangeStands m₁ r) (Unit {0})
-        (λ l. record { values = set (st .values) (rangeIndex w) (some (oneOf l)) }) b (NumbersIn 1 k m m₁) valued
+        (λ l. record { values = set (st .values) (rangeIndex w) (some (onlyNumber l)) }) b (NumbersIn 1 k m m₁) valued
         (to-part ((valueElement w 1 anyNumber) .run) s e b (NumbersIn 1 k m m₁) (m₁ ≡ clearedFrom k m) (Unit {0}) (λ y. tt)
         (numbers-to ((valueElement w 1 anyNumber) .run) s e 1 k m m₁ b h)))
 
-  module _ (at e : ℕ) (w : List ℕ) (n : w ≡ partIn s (at + 1) e) (l : at + 2 ≤ e) (x : e ≤ length s) (k : ℕ) (q : k ≡ faultOf (state .found) w) where
+  module _ (at e : ℕ) (w : List ℕ) (n : w ≡ partIn s (at + 1) e) (l : at + 2 ≤ e) (x : e ≤ length s) (k : ℕ) (q : k ≡ rangeFaultOf (state .found) w) where
     blame : rangeFault st w ≡ k
     blame = sym (q ∙ faults m state st v w)
 

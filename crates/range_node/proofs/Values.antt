@@ -17,7 +17,7 @@ use Rattle.room.proofs.Rooms.{stored-one}
 use Rattle.clf.specs.Nodes.{isSome, orElse, RangeState, isThere, valueAt, allThere, inOrder, rangeFault, rangeIndex}
 use Rattle.node_parts.specs.Code.{smallNumberAt, numbersFrom, smallNumbers}
 use Rattle.node_parts.proofs.Smalls.{numbers-length, numbers-at}
-use Rattle.range_node.specs.Code.{faultOf, orderedIn, missingOf, RangeStands}
+use Rattle.range_node.specs.Code.{rangeFaultOf, orderedIn, missingOf, RangeStands}
 use Rattle.range_node.specs.declared.RangeStep.{RangeStep}
 
 -- ---- one value more
@@ -53,8 +53,8 @@ module _ (m : Room) (r : RangeStep) (st : RangeState) (v : RangeStands m r st) w
   there : (k : ℕ) → getD (r .found) k false ≡ isThere k st
   there k = ap (λ (l : List Bool). getD l k false) (v .found) ∙ List·getD-map isSome (st .values) k none
 
-  pub faults : (w : List ℕ) → faultOf (r .found) w ≡ rangeFault st w
-  unfolding faultOf
+  pub faults : (w : List ℕ) → rangeFaultOf (r .found) w ≡ rangeFault st w
+  unfolding rangeFaultOf
   faults w = rw (there 0, there 1, there 2, there 3, there (rangeIndex w))
 
   room : roomLength m ≡ 4

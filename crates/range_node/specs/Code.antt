@@ -25,8 +25,8 @@ abbrev pub allOf : List Bool → Bool
 allOf l = getD l 0 false && (getD l 1 false && (getD l 2 false && getD l 3 false))
 
 -- the fault of a name, after the values of these flags
-unfoldable pub faultOf : List Bool → List ℕ → ℕ
-faultOf l w =
+unfoldable pub rangeFaultOf : List Bool → List ℕ → ℕ
+rangeFaultOf l w =
     cond (same w (bytes "Description")) (cond (anyOf l) Refusal.wrongElement 0)
     (cond (ltb (rangeIndex w) 4) (cond (getD l (rangeIndex w) false) Refusal.wrongElement 0) Refusal.wrongElement)
 

@@ -100,7 +100,7 @@ fn range_missing(found: [bool; 4], coefficients: &[i64], powers: &[i8]) -> u8
 
 // What is wrong with a child's name.
 fn range_fault(w: &[u8], found: [bool; 4]) -> u8
-    ensures { λ r. ⌜ r ≡ Code.faultOf found (now (w .entry)) ⌝ }
+    ensures { λ r. ⌜ r ≡ Code.rangeFaultOf found (now (w .entry)) ⌝ }
 {
     if xml::same(w, b"Description") {
         if range_any(found) {

@@ -25,7 +25,7 @@ use Rattle.xml.specs.Elements.{misc, between}
 use Rattle.clf.specs.List.{noFlags, Document, listContent, document, tail}
 use Rattle.clf.specs.Reading.{accepted, faulty, unfit, mostBytes, nodesAmong, nodesIn, readingBy, listReading, tailReading, textReading, readText, read}
 use Rattle.clf.specs.Reading as Reading
-use Rattle.look.specs.Look.{Look, roomOf, holding}
+use Rattle.look.specs.Look.{Look, roomLengthOf, holding}
 use Rattle.claims.specs.LookRuns.{readInto}
 use Rattle.claims.proofs.Rules.{WholeElements, whole-rules, accepted-rules, read-short, text-elements}
 use Rattle.claims.proofs.Look.{held-valid}
@@ -129,16 +129,16 @@ module _ (x : Look) (p : HasPlaces x) (v : Valid x) where
   reading : Readings.Reading (x .list) (x .room) (elementsHeld x)
   reading = parts (x .list) (x .room) p v
 
-  held-allowed : Allowed (roomOf x) (elementsHeld x)
-  held-allowed = whole-rules (roomOf x) (elementsHeld x) (record { sounds = reading .sounds; fits = reading .accepted })
+  held-allowed : Allowed (roomLengthOf x) (elementsHeld x)
+  held-allowed = whole-rules (roomLengthOf x) (elementsHeld x) (record { sounds = reading .sounds; fits = reading .accepted })
 
   holding-self : holding x (elementsHeld x) ≡ asRead x
   unfolding holding
   holding-self = λ i. record { list = (sym (reading .list) ∙ sym (file-list (x .list))) i; room = sym (reading .room) i }
 
   -- in a room that holds the numbers
-  module _ (y : Look) (h : length (allNumbers (elementsHeld x)) ≤ roomOf y) where
-    allowed-in : Allowed (roomOf y) (elementsHeld x)
+  module _ (y : Look) (h : length (allNumbers (elementsHeld x)) ≤ roomLengthOf y) where
+    allowed-in : Allowed (roomLengthOf y) (elementsHeld x)
     allowed-in = let a = held-allowed in record { some = a .some; few = a .few; chained = a .chained; holds = omega (arith, a .holds); nodes = a .nodes }
 
     holding-in : (holding y (elementsHeld x) .list ≡ fileList (x .list)) × (holding y (elementsHeld x) .room ≡ filledWith (allNumbers (elementsHeld x)) (y .room))
@@ -147,7 +147,7 @@ module _ (x : Look) (p : HasPlaces x) (v : Valid x) where
 
     pub valid-reads-in : (id : List ℕ) → idRight id ≡ true → ReadingLeavesIn y (joined (listLines id (elementsHeld x))) x
     valid-reads-in id i =
-        let r : ReadAs (roomOf y) (joined (listLines id (elementsHeld x))) (elementsHeld x) = list-reads-back (roomOf y) id (elementsHeld x) i allowed-in in
+        let r : ReadAs (roomLengthOf y) (joined (listLines id (elementsHeld x))) (elementsHeld x) = list-reads-back (roomLengthOf y) id (elementsHeld x) i allowed-in in
         let q : readInto y (joined (listLines id (elementsHeld x))) ≡ holding y (elementsHeld x) = ap (λ (z : Reading.Reading). holding y (nodesIn z)) r in
         record {
           nodes = elementsHeld x;
@@ -165,8 +165,8 @@ module _ (x : Look) (p : HasPlaces x) (v : Valid x) where
     -- the text of a valid list and room, under any right id
     pub valid-reads-back : (id : List ℕ) → idRight id ≡ true → ReadingLeaves y (joined (listLines id (elementsHeld x))) x
     valid-reads-back id i =
-        let r : ReadAs (roomOf x) (joined (listLines id (elementsHeld x))) (elementsHeld x) = list-reads-back (roomOf x) id (elementsHeld x) i held-allowed in
-        let q : read (roomOf y) (joined (listLines id (elementsHeld x))) ≡ accepted (elementsHeld x) = ap (λ (n : ℕ). read n (joined (listLines id (elementsHeld x)))) (e .room) ∙ r in
+        let r : ReadAs (roomLengthOf x) (joined (listLines id (elementsHeld x))) (elementsHeld x) = list-reads-back (roomLengthOf x) id (elementsHeld x) i held-allowed in
+        let q : read (roomLengthOf y) (joined (listLines id (elementsHeld x))) ≡ accepted (elementsHeld x) = ap (λ (n : ℕ). read n (joined (listLines id (elementsHeld x)))) (e .room) ∙ r in
         record {
           nodes = elementsHeld x;
           accepted = q;
@@ -212,7 +212,7 @@ read-self x = ap (λ (l : ProcessList). record { list = l; room = x .room }) (fi
 pub left-valid : (y : Look) (file : List ℕ) (x : Look) → ReadingLeaves y file x → Valid x
 left-valid y file x l =
     let es : List Element = (l .nodes) in
-    let w : WholeElements (roomOf y) es = accepted-whole (roomOf y) file (l .nodes) (l .accepted) in
+    let w : WholeElements (roomLengthOf y) es = accepted-whole (roomLengthOf y) file (l .nodes) (l .accepted) in
     let q : holding y es ≡ x = ap (λ (z : Reading.Reading). holding y (nodesIn z)) (sym (l .accepted)) ∙ l .look ∙ read-self x in
     subst Valid q (held-valid y es w)
 
@@ -228,7 +228,7 @@ refusal-16 x p = (λ v. (joined (listLines (bytes "a") (elementsHeld x)), valid-
 -- every list that a reading leaves, a refused one too
 pub read-places : (y : Look) (file : List ℕ) → HasPlaces (readInto y file)
 unfolding holding
-read-places y file = list-length (placed (nodesIn (read (roomOf y) file)))
+read-places y file = list-length (placed (nodesIn (read (roomLengthOf y) file)))
 
 -- and its room is equal to the one that was lent
 read-few : (room : ℕ) (file : List ℕ) → length (allNumbers (nodesIn (read room file))) ≤ room
@@ -242,7 +242,7 @@ read-few room file = go (read room file) refl
     go (faulty k p) e = omega arith
     go (unfit k p) e = omega arith
 
-pub holding-room : (y : Look) (es : List Element) → length (allNumbers es) ≤ roomOf y → EqualRoom (holding y es) y
+pub holding-room : (y : Look) (es : List Element) → length (allNumbers es) ≤ roomLengthOf y → EqualRoom (holding y es) y
 unfolding holding
 holding-room y es h = record { room = sym (filled-room (allNumbers es) (y .room) h); behind = sym (filled-beyond (allNumbers es) (y .room) h) }
 
@@ -250,4 +250,4 @@ holding-room y es h = record { room = sym (filled-room (allNumbers es) (y .room)
 pub read-written-read : (y : Look) (file id : List ℕ) (out : ℕ) (text : List ℕ) → writing (readInto y file) id out ≡ written text → ReadingLeaves y text (readInto y file)
 read-written-read y file id out text e =
     written-reads-back (readInto y file) (read-places y file) id out text e y
-    (holding-room y (nodesIn (read (roomOf y) file)) (read-few (roomOf y) file))
+    (holding-room y (nodesIn (read (roomLengthOf y) file)) (read-few (roomLengthOf y) file))

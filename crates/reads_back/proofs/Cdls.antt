@@ -14,8 +14,8 @@ use Rattle.grammar.specs.Parse.{Out, done, thenOut, retP}
 use Rattle.xml.specs.Bytes.{bytes, same, isLetter, isDigit, isNameByte}
 use Rattle.xml.specs.Xml.{textOf, Tag}
 use Rattle.xml.specs.Elements.{held}
-use Rattle.clf.specs.Numbers.{anyNumber, notBelowZero, onlyOne}
-use Rattle.clf.specs.Nodes.{cdlStyle, elementWith, holderRules, sopHolder, sopNode, satHolder, satNode, CdlState, noCdl, cdlHolder, cdlTexts, cdlNode, cdlRules, cdlContent, ascCdl}
+use Rattle.clf.specs.Numbers.{anyNumber, notBelowZero, mustBeOne}
+use Rattle.clf.specs.Nodes.{cdlStyle, elementWith, notEmptyRules, sopHolder, sopNode, satHolder, satNode, CdlState, noCdl, cdlHolder, cdlTexts, cdlNode, cdlRules, cdlContent, ascCdl}
 use Rattle.claims.proofs.Numbers.{Each, Kept}
 use Rattle.valid.specs.Valid.{every}
 use Rattle.written_form.specs.Written.{depthText}
@@ -63,12 +63,12 @@ module _ (s1 s2 s3 o1 o2 o3 p1 p2 p3 : Decimal) where
   offset-reads t k = value-child sopHolder slopes six (bytes "Offset") 3 anyNumber (three o1 o2 o3) t refl k refl refl
       (λ s r e. ap (λ (o : Out (List Decimal)). thenOut o (λ m. retP (slopes ++ m))) e)
 
-  power-reads : (t : List ℕ) → Each (Kept onlyOne) (three p1 p2 p3) → heldFrom sopHolder six (valueText (bytes "Power") (three p1 p2 p3) t) ≡ heldFrom sopHolder nine t
+  power-reads : (t : List ℕ) → Each (Kept mustBeOne) (three p1 p2 p3) → heldFrom sopHolder six (valueText (bytes "Power") (three p1 p2 p3) t) ≡ heldFrom sopHolder nine t
   unfolding isName isNameByte isLetter isDigit every same
-  power-reads t k = value-child sopHolder six nine (bytes "Power") 3 onlyOne (three p1 p2 p3) t refl k refl refl
+  power-reads t k = value-child sopHolder six nine (bytes "Power") 3 mustBeOne (three p1 p2 p3) t refl k refl refl
       (λ s r e. ap (λ (o : Out (List Decimal)). thenOut o (λ m. retP (six ++ m))) e)
 
-  sop-reads : (t : List ℕ) → Each (Kept notBelowZero) slopes → Each (Kept anyNumber) (three o1 o2 o3) → Each (Kept onlyOne) (three p1 p2 p3)
+  sop-reads : (t : List ℕ) → Each (Kept notBelowZero) slopes → Each (Kept anyNumber) (three o1 o2 o3) → Each (Kept mustBeOne) (three p1 p2 p3)
       → sopNode .run (bytes ">\n" ++ valueText (bytes "Slope") slopes (valueText (bytes "Offset") (three o1 o2 o3) (valueText (bytes "Power") (three p1 p2 p3) (bytes "</SOPNode>" ++ t)))) ≡ done nine
       t
   unfolding sopNode
@@ -77,7 +77,7 @@ module _ (s1 s2 s3 o1 o2 o3 p1 p2 p3 : Decimal) where
       let c : List ℕ = valueText (bytes "Power") (three p1 p2 p3) z in
       let b : List ℕ = valueText (bytes "Offset") (three o1 o2 o3) c in
       let a : List ℕ = valueText (bytes "Slope") slopes b in
-      ap (λ (o : Out Tag). thenOut o (λ tag. (held sopHolder []) .run)) (tag-from holderRules (62 ∷ 10 ∷ a) ∙ tag-ends holderRules [] (10 ∷ a) refl)
+      ap (λ (o : Out Tag). thenOut o (λ tag. (held sopHolder []) .run)) (tag-from notEmptyRules (62 ∷ 10 ∷ a) ∙ tag-ends notEmptyRules [] (10 ∷ a) refl)
       ∙ held-from sopHolder [] (10 ∷ a)
       ∙ held-line sopHolder [] a
       ∙ slope-reads b ks
@@ -98,7 +98,7 @@ module _ (v : Decimal) where
   sat-reads t k =
       let z : List ℕ = bytes "</SatNode>" ++ t in
       let a : List ℕ = valueText (bytes "Saturation") (v ∷ []) z in
-      ap (λ (o : Out Tag). thenOut o (λ tag. (held satHolder []) .run)) (tag-from holderRules (62 ∷ 10 ∷ a) ∙ tag-ends holderRules [] (10 ∷ a) refl)
+      ap (λ (o : Out Tag). thenOut o (λ tag. (held satHolder []) .run)) (tag-from notEmptyRules (62 ∷ 10 ∷ a) ∙ tag-ends notEmptyRules [] (10 ∷ a) refl)
       ∙ held-from satHolder [] (10 ∷ a)
       ∙ held-line satHolder [] a
       ∙ saturation-reads z k
@@ -150,7 +150,7 @@ cdl-rules = record { rest = cdlTexts; texts = refl; opened = refl; in-free = ref
 pub record Ten (s1 s2 s3 o1 o2 o3 p1 p2 p3 v : Decimal) : Type 0 where
   pub slopes : Each (Kept notBelowZero) (s1 ∷ s2 ∷ s3 ∷ [])
   pub offsets : Each (Kept anyNumber) (o1 ∷ o2 ∷ o3 ∷ [])
-  pub powers : Each (Kept onlyOne) (p1 ∷ p2 ∷ p3 ∷ [])
+  pub powers : Each (Kept mustBeOne) (p1 ∷ p2 ∷ p3 ∷ [])
   pub saturation : Kept notBelowZero v
 
 module _ (s1 s2 s3 o1 o2 o3 p1 p2 p3 v : Decimal) (k : Ten s1 s2 s3 o1 o2 o3 p1 p2 p3 v) where

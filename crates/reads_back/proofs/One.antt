@@ -11,13 +11,13 @@ use lib.Ieee.Positive.{positive}
 use lib.Ieee.Fits.{down-pos}
 use borrow.Author.Tests.{eqb-true}
 use Rattle.decimal.specs.declared.Decimal.{Decimal}
-use Rattle.decimal_value.specs.Value.{whole, isOne}
+use Rattle.decimal_value.specs.Value.{wholeF64, isOne}
 use Rattle.decimal_value.specs.Value as Value
 use Rattle.decimal_value.proofs.Order.{lt-above}
 use Rattle.valid.proofs.Elements.{both-true}
 use Rattle.grammar.specs.Laws.{nope}
 
-one-positive : (x : Float) → eq x (whole (pos 1)) ≡ true → T (positive x)
+one-positive : (x : Float) → eq x (wholeF64 (pos 1)) ≡ true → T (positive x)
 unfolding eq ofInt
 one-positive nan h = nope cc
 one-positive (inf s) h = nope cc

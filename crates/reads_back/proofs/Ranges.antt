@@ -16,7 +16,7 @@ use Rattle.xml.specs.Bytes.{bytes, same, isLetter, isDigit, isNameByte}
 use Rattle.xml.specs.Xml.{textOf, Tag}
 use Rattle.xml.specs.Elements.{held}
 use Rattle.clf.specs.Numbers.{anyNumber, valueElement}
-use Rattle.clf.specs.Nodes.{rangeStyle, elementWith, nodeRules, RangeState, noValues, rangeIndex, oneOf, rangeHolder, rangeTexts, rangeNode, range}
+use Rattle.clf.specs.Nodes.{rangeStyle, elementWith, nodeRules, RangeState, noValues, rangeIndex, onlyNumber, rangeHolder, rangeTexts, rangeNode, range}
 use Rattle.claims.proofs.Numbers.{Each, Kept}
 use Rattle.valid.specs.Valid.{every}
 use Rattle.written_form.specs.Written.{depthText}
@@ -44,25 +44,25 @@ module _ (a b c d : Decimal) where
   first-value : (t : List ℕ) → Kept anyNumber a → heldFrom rangeHolder noValues (valueText (bytes "minInValue") (a ∷ []) t) ≡ heldFrom rangeHolder (values (some a) none none none) t
   unfolding isName isNameByte isLetter isDigit every same rangeIndex
   first-value t k = one-value noValues (values (some a) none none none) (bytes "minInValue") a t refl k refl
-      (λ s r e. ap (λ (o : Out (List Decimal)). thenOut o (λ l. retP (values (some (oneOf l)) none none none))) e)
+      (λ s r e. ap (λ (o : Out (List Decimal)). thenOut o (λ l. retP (values (some (onlyNumber l)) none none none))) e)
 
   second-value : (t : List ℕ) → Kept anyNumber b
       → heldFrom rangeHolder (values (some a) none none none) (valueText (bytes "maxInValue") (b ∷ []) t) ≡ heldFrom rangeHolder (values (some a) (some b) none none) t
   unfolding isName isNameByte isLetter isDigit every same rangeIndex
   second-value t k = one-value (values (some a) none none none) (values (some a) (some b) none none) (bytes "maxInValue") b t refl k refl
-      (λ s r e. ap (λ (o : Out (List Decimal)). thenOut o (λ l. retP (values (some a) (some (oneOf l)) none none))) e)
+      (λ s r e. ap (λ (o : Out (List Decimal)). thenOut o (λ l. retP (values (some a) (some (onlyNumber l)) none none))) e)
 
   third-value : (t : List ℕ) → Kept anyNumber c
       → heldFrom rangeHolder (values (some a) (some b) none none) (valueText (bytes "minOutValue") (c ∷ []) t) ≡ heldFrom rangeHolder (values (some a) (some b) (some c) none) t
   unfolding isName isNameByte isLetter isDigit every same rangeIndex
   third-value t k = one-value (values (some a) (some b) none none) (values (some a) (some b) (some c) none) (bytes "minOutValue") c t refl k refl
-      (λ s r e. ap (λ (o : Out (List Decimal)). thenOut o (λ l. retP (values (some a) (some b) (some (oneOf l)) none))) e)
+      (λ s r e. ap (λ (o : Out (List Decimal)). thenOut o (λ l. retP (values (some a) (some b) (some (onlyNumber l)) none))) e)
 
   fourth-value : (t : List ℕ) → Kept anyNumber d
       → heldFrom rangeHolder (values (some a) (some b) (some c) none) (valueText (bytes "maxOutValue") (d ∷ []) t) ≡ heldFrom rangeHolder (values (some a) (some b) (some c) (some d)) t
   unfolding isName isNameByte isLetter isDigit every same rangeIndex
   fourth-value t k = one-value (values (some a) (some b) (some c) none) (values (some a) (some b) (some c) (some d)) (bytes "maxOutValue") d t refl k refl
-      (λ s r e. ap (λ (o : Out (List Decimal)). thenOut o (λ l. retP (values (some a) (some b) (some c) (some (oneOf l))))) e)
+      (λ s r e. ap (λ (o : Out (List Decimal)). thenOut o (λ l. retP (values (some a) (some b) (some c) (some (onlyNumber l))))) e)
 
   in-order : (less a b && atMost c d) ≡ true → rangeHolder .missing (values (some a) (some b) (some c) (some d)) ≡ 0
   in-order e = rw e

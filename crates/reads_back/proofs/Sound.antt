@@ -12,7 +12,7 @@ use Rattle.decimal_value.specs.Value.{less, atMost, notNegative, isOne}
 use Rattle.valid.specs.Valid.{every, carried, rangeHolds, slopesHold, powersHold, cdlHolds, sound}
 use Rattle.valid.proofs.Elements.{both-true}
 use Rattle.valid.proofs.Readings.{every-cons}
-use Rattle.clf.specs.Numbers.{anyNumber, notBelowZero, onlyOne}
+use Rattle.clf.specs.Numbers.{anyNumber, notBelowZero, mustBeOne}
 use Rattle.claims.proofs.Numbers.{Each, Carried, Kept}
 use Rattle.reads_back.proofs.One.{one-above}
 use Rattle.reads_back.proofs.Cdls.{Ten}
@@ -32,7 +32,7 @@ any-kept (d ∷ ds) h =
 not-below : (d : Decimal) → Carried d → notNegative d ≡ true → Kept notBelowZero d
 not-below d c h = record { carried = c; within = rw h }
 
-one-only : (d : Decimal) → Carried d → isOne d ≡ true → Kept onlyOne d
+one-only : (d : Decimal) → Carried d → isOne d ≡ true → Kept mustBeOne d
 one-only d c h = record { carried = c; within = rw (one-above d h, h) }
 
 -- ---- Range

@@ -9,7 +9,7 @@ use lib.ListN.{length, length-append}
 use borrow.Author.Tests.{lt-ltb, eq-eqb, ne-eqb, leb-true}
 use Rattle.valid.specs.Valid.{every}
 use Rattle.valid.proofs.Elements.{both-true}
-use Rattle.grammar.specs.Parse.{Out, done, cut, Parser, Turn, again, thenOut, retP, verdict, judgeOut, strictOut, loopP}
+use Rattle.grammar.specs.Parse.{Out, done, cut, Parser, Turn, again, thenOut, retP, judgedTo, judgeOut, strictOut, loopP}
 use Rattle.grammar.specs.Laws.{nope, loop-again, loop-last}
 use Rattle.grammar.specs.Grammar.{look}
 use Rattle.xml.specs.Bytes.{same, isSpace, isLetter, isDigit, isNameByte, isQuote}
@@ -20,7 +20,7 @@ use Rattle.reads_back.proofs.Texts.{skip, isName, name-reads, closeName
 -- ---- a value that is judged to be without fault
 
 pub judge-reads : {A : Type 0} (j : A → ℕ) (o : Out A) (s : List ℕ) (a : A) (r : List ℕ) → o ≡ done a r → j a ≡ 0 → judgeOut j o s ≡ done a r
-judge-reads j o s a r e q = ap (λ (x : Out _). judgeOut j x s) e ∙ ap (λ (n : ℕ). verdict n a r s) q
+judge-reads j o s a r e q = ap (λ (x : Out _). judgeOut j x s) e ∙ ap (λ (n : ℕ). judgedTo n a r s) q
 
 pub same-self : (w : List ℕ) → same w w ≡ true
 unfolding same

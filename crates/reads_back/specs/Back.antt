@@ -11,7 +11,7 @@ use Rattle.room.specs.Room.{beyond, filledWith}
 use Rattle.valid.specs.Valid.{every, sound, isValid, elementsOf}
 use Rattle.clf.specs.Reading.{accepted, read}
 use Rattle.clf.specs.Reading as Reading
-use Rattle.look.specs.Look.{Look, roomOf}
+use Rattle.look.specs.Look.{Look, roomLengthOf}
 use Rattle.claims.specs.LookRuns.{readInto}
 use Rattle.claims.specs.Rules.{Allowed}
 use Rattle.written_form.specs.Written.{Writing, written, writeOf}
@@ -42,7 +42,7 @@ writing x id out = writeOf (x .list) (x .room) id out
 
 -- 'into equal room': of the same length, and the same behind it where one slice is longer than the other; list and room itself may hold anything
 pub record EqualRoom (x y : Look) : Type 0 where
-  pub room : roomOf y ≡ roomOf x
+  pub room : roomLengthOf y ≡ roomLengthOf x
   pub behind : beyond (y .room) ≡ beyond (x .room)
 
 -- what a file says of list and room
@@ -52,13 +52,13 @@ asRead x = record { list = fileList (x .list); room = x .room }
 -- reading the file into y is accepted, and leaves the list and room x, by what a file says of them
 pub record ReadingLeaves (y : Look) (file : List ℕ) (x : Look) : Type 0 where
   pub nodes : List Element
-  pub accepted : read (roomOf y) file ≡ accepted nodes
+  pub accepted : read (roomLengthOf y) file ≡ accepted nodes
   pub look : readInto y file ≡ asRead x
 
 -- reading the file into y, a room that may be longer or shorter, is accepted, and leaves the list of x and its numbers in that room
 pub record ReadingLeavesIn (y : Look) (file : List ℕ) (x : Look) : Type 0 where
   pub nodes : List Element
-  pub accepted : read (roomOf y) file ≡ accepted nodes
+  pub accepted : read (roomLengthOf y) file ≡ accepted nodes
   pub list : readInto y file .list ≡ fileList (x .list)
   pub room : readInto y file .room ≡ filledWith (allNumbers (elementsHeld x)) (y .room)
 
@@ -72,7 +72,7 @@ WrittenReadsBack x = (id : List ℕ) (out : ℕ) (text : List ℕ) → writing x
 
 -- the same in every room that holds the numbers: the same list, and its numbers
 abbrev pub WrittenReadsIn : Look → Type 0
-WrittenReadsIn x = (id : List ℕ) (out : ℕ) (text : List ℕ) → writing x id out ≡ written text → (y : Look) → length (allNumbers (elementsHeld x)) ≤ roomOf y → ReadingLeavesIn y text x
+WrittenReadsIn x = (id : List ℕ) (out : ℕ) (text : List ℕ) → writing x id out ≡ written text → (y : Look) → length (allNumbers (elementsHeld x)) ≤ roomLengthOf y → ReadingLeavesIn y text x
 
 -- REFUSAL 16, both ways: list and room pass exactly if they are the accepted reading of some file into that room
 abbrev pub Refusal16 : Look → Type 0

@@ -4,7 +4,7 @@ use mathlib.Core.Bool.{Bool, cond}
 use mathlib.Core.List.{List, _++_}
 use Prim.Native.Nat.{ℕ}
 use lib.IntN.{ℤ}
-use Rattle.decimal_write.specs.Written.{digits, whole}
+use Rattle.decimal_write.specs.Written.{digits, wholeText}
 use Rattle.process_list.specs.declared.Depth.{Depth}
 use Rattle.process_list.specs.declared.Kind.{Kind}
 use Rattle.process_list.specs.declared.Kind.the-variants.{Matrix, Lut1d, Range, Cdl}
@@ -21,8 +21,8 @@ shownAnswer number place t = digits number ++ (bytes " " ++ (digits place ++ t))
 unfoldable pub shownDepths : Depth → Depth → List ℕ → List ℕ
 shownDepths input output t = bytes "," ++ (depthText input ++ (bytes "," ++ (depthText output ++ (bytes "," ++ t))))
 
-unfoldable pub oneOf : Bool → List ℕ → List ℕ → List ℕ
-oneOf first this other = cond first this other
+unfoldable pub oneOfTwo : Bool → List ℕ → List ℕ → List ℕ
+oneOfTwo first this other = cond first this other
 
 -- `STYLE,SHAPE` of a table of so many entries and columns: 'style `-` for Matrix and LUT1D', shape as `65x3`
 unfoldable pub tableText : ℕ → ℕ → List ℕ → List ℕ
@@ -30,10 +30,10 @@ tableText entries columns t = bytes "-," ++ (digits entries ++ (bytes "x" ++ (di
 
 -- `STYLE,SHAPE`: 'shape `3x3`, `3x4`, `65x3`, and `-` for Range and ASC_CDL'
 unfoldable pub formText : Kind → List ℕ → List ℕ
-formText (Matrix wide) t = oneOf wide (bytes "-,3x4") (bytes "-,3x3") ++ t
+formText (Matrix wide) t = oneOfTwo wide (bytes "-,3x4") (bytes "-,3x3") ++ t
 formText (Lut1d entries columns) t = tableText entries columns t
-formText (Range style) t = oneOf (rangeClamps style) (bytes "Clamp,-") (bytes "noClamp,-") ++ t
-formText (Cdl style) t = oneOf (cdlClamps style) (bytes "Fwd,-") (bytes "FwdNoClamp,-") ++ t
+formText (Range style) t = oneOfTwo (rangeClamps style) (bytes "Clamp,-") (bytes "noClamp,-") ++ t
+formText (Cdl style) t = oneOfTwo (cdlClamps style) (bytes "Fwd,-") (bytes "FwdNoClamp,-") ++ t
 
 -- `;KIND,IN,OUT,STYLE,SHAPE,AT`: 'AT the index of its first number'
 unfoldable pub shownNode : Node → List ℕ → List ℕ
@@ -41,4 +41,4 @@ shownNode n t = bytes ";" ++ (nameText (n .kind) ++ shownDepths (n .input) (n .o
 
 -- `coefficient:power`
 unfoldable pub decimalText : ℤ → ℤ → List ℕ → List ℕ
-decimalText coefficient power t = whole coefficient ++ (bytes ":" ++ (whole power ++ t))
+decimalText coefficient power t = wholeText coefficient ++ (bytes ":" ++ (wholeText power ++ t))

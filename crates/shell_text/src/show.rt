@@ -43,7 +43,7 @@ fn put_table(out: &mut [u8], at: usize, entries: usize, columns: usize) -> usize
 
 // One of two texts.
 fn put_either(out: &mut [u8], at: usize, first: bool, this: &[u8], other: &[u8]) -> usize
-    ensures { λ r. ⌜ Puts (λ t. Show.oneOf first (now (this .entry)) (now (other .entry)) ++ t) at (now (out .entry)) (now (out .exit)) r ⌝ }
+    ensures { λ r. ⌜ Puts (λ t. Show.oneOfTwo first (now (this .entry)) (now (other .entry)) ++ t) at (now (out .entry)) (now (out .exit)) r ⌝ }
 {
     if first {
         return put(out, at, this);

@@ -8,7 +8,7 @@ use lib.ListN.{length, getD, drop}
 use lib.Dec.{leb}
 use borrow.Author.Tests.{leb-false}
 use Rattle.scanning.specs.Steps.{here, past, part-length}
-use Rattle.grammar.specs.Parse.{Out, done, fault, cut, Parser, thenOut, bindP, retP, verdict, judgeOut, judgeP, eatP}
+use Rattle.grammar.specs.Parse.{Out, done, fault, cut, Parser, thenOut, bindP, retP, judgedTo, judgeOut, judgeP, eatP}
 use Rattle.grammar.specs.Grammar.{seq}
 use Rattle.grammar.specs.Laws.{nope}
 use Rattle.xml.specs.Bytes.{isQuote, equals}
@@ -22,7 +22,7 @@ use Rattle.tags.specs.declared.AttributeRead.{AttributeRead}
 use Rattle.tags.specs.declared.AttributeRead.the-variants.{At, Fault, Cut}
 use Rattle.tags.proofs.Words.{part-in}
 
-pub verdict-bad : {A : Type 0} (k : ℕ) (a : A) (r s : List ℕ) → (k ≡ 0 → ⊥) → verdict k a r s ≡ fault k s
+pub verdict-bad : {A : Type 0} (k : ℕ) (a : A) (r s : List ℕ) → (k ≡ 0 → ⊥) → judgedTo k a r s ≡ fault k s
 verdict-bad zero a r s h = absurd (h refl)
 verdict-bad (suc k) a r s h = refl
 
@@ -43,10 +43,10 @@ module _ (s : List ℕ) (at : ℕ) where
     quote-cut h = quote-then Scans.Cut (reads-ended isQuoteByte (byteBefore s) s p 1 refl h)
 
     module _ (h : p < length s) where
-      quote-byte : (t : Bool) → isQuote (getD s p 0) ≡ t → isQuoteByte (drop p s) ≡ verdict (cond t 0 2) (getD s p 0) (drop (p + 1) s) (drop p s)
+      quote-byte : (t : Bool) → isQuote (getD s p 0) ≡ t → isQuoteByte (drop p s) ≡ judgedTo (cond t 0 2) (getD s p 0) (drop (p + 1) s) (drop p s)
       quote-byte t q =
-          ap isQuoteByte (here s p h) ∙ ap (λ (x : Bool). verdict (cond x 0 2) (getD s p 0) (drop (p + 1) s) (getD s p 0 ∷ drop (p + 1) s)) q
-          ∙ ap (verdict (cond t 0 2) (getD s p 0) (drop (p + 1) s)) (sym (here s p h))
+          ap isQuoteByte (here s p h) ∙ ap (λ (x : Bool). judgedTo (cond x 0 2) (getD s p 0) (drop (p + 1) s) (getD s p 0 ∷ drop (p + 1) s)) q
+          ∙ ap (judgedTo (cond t 0 2) (getD s p 0) (drop (p + 1) s)) (sym (here s p h))
 
       pub quote-is : isQuote (getD s p 0) ≡ true → Reads 1 (quote .run) (byteBefore s) s at (Scans.At (p + 1))
       quote-is q =
@@ -92,10 +92,10 @@ module _ (rules : Rules) (s : List ℕ) (at e q : ℕ) (h : (at < e) × (e < q) 
   answer = (behindQuote rules (part s at e) (byteBefore s q)) .run (drop q s)
 
   module _ (t : ℕ) (v : Reads 0 theText (λ x. (tt, part s q x)) s q (Scans.At t)) (k : ℕ) (n : k ≡ rules .texts (partIn s at e) (partIn s q t)) where
-    text-read : answer ≡ thenOut (verdict k (tt, part s q t) (drop t s) (drop q s)) rest
+    text-read : answer ≡ thenOut (judgedTo k (tt, part s q t) (drop t s) (drop q s)) rest
     text-read =
         ap (λ (o : Out ((Unit {0}) × List ℕ)). thenOut (judgeOut texts o (drop q s)) rest) (sym (v .out))
-        ∙ ap (λ (m : ℕ). thenOut (verdict m (tt, part s q t) (drop t s) (drop q s)) rest)
+        ∙ ap (λ (m : ℕ). thenOut (judgedTo m (tt, part s q t) (drop t s) (drop q s)) rest)
         (sym (n ∙ ap (λ (l : List ℕ). rules .texts l (partIn s q t)) (sym (part-in s at e (omega (arith, h .1, h .2)))) ∙ ap (rules .texts (part s at e)) (sym (part-in s q t (v .inside .1)))))
 
     pub text-bad : (k ≡ 0 → ⊥) → AttributeIs s at (Fault k q) answer
@@ -105,7 +105,7 @@ module _ (rules : Rules) (s : List ℕ) (at e q : ℕ) (h : (at < e) × (e < q) 
     }
 
     text-good : k ≡ 0 → answer ≡ rest (tt, part s q t) (drop t s)
-    text-good z = text-read ∙ ap (λ (m : ℕ). thenOut (verdict m (tt, part s q t) (drop t s) (drop q s)) rest) z
+    text-good z = text-read ∙ ap (λ (m : ℕ). thenOut (judgedTo m (tt, part s q t) (drop t s) (drop q s)) rest) z
 
     pub text-cut : k ≡ 0 → length s ≤ t → AttributeIs s at Cut answer
     text-cut z l = record { out = sym (text-good z ∙ ap (rest (tt, part s q t)) (past s t l)); inside = tt }
@@ -131,9 +131,9 @@ module _ (rules : Rules) (attributes : List Attribute) (s : List ℕ) (at e : �
   abbrev whole : Out Attribute
   whole = named rules attributes (part s at e) (drop e s) (drop at s)
 
-  by-fault : whole ≡ thenOut (verdict k (part s at e) (drop e s) (drop at s)) behind
+  by-fault : whole ≡ thenOut (judgedTo k (part s at e) (drop e s) (drop at s)) behind
   by-fault =
-      ap (λ (m : ℕ). thenOut (verdict m (part s at e) (drop e s) (drop at s)) behind) (sym (n ∙ ap (nameFault rules attributes) (sym (part-in s at e (h .1)))))
+      ap (λ (m : ℕ). thenOut (judgedTo m (part s at e) (drop e s) (drop at s)) behind) (sym (n ∙ ap (nameFault rules attributes) (sym (part-in s at e (h .1)))))
 
   pub named-bad : (k ≡ 0 → ⊥) → AttributeIs s at (Fault k at) whole
   named-bad z = record {
@@ -143,7 +143,7 @@ module _ (rules : Rules) (attributes : List Attribute) (s : List ℕ) (at e : �
 
   module _ (z : k ≡ 0) where
     named-good : whole ≡ behind (part s at e) (drop e s)
-    named-good = by-fault ∙ ap (λ (m : ℕ). thenOut (verdict m (part s at e) (drop e s) (drop at s)) behind) z
+    named-good = by-fault ∙ ap (λ (m : ℕ). thenOut (judgedTo m (part s at e) (drop e s) (drop at s)) behind) z
 
     pub named-quote : (q : ℕ) (r : AttributeRead) → Reads 2 (toQuote .run) (byteBefore s) s e (Scans.At q)
         → AttributeIs s at r ((behindQuote rules (part s at e) (byteBefore s q)) .run (drop q s)) → AttributeIs s at r whole
@@ -217,7 +217,7 @@ module _ (rules : Rules) (attributes : List Attribute) where
       go false true q z = absurd (omega arith)
       go false false q z = let k : length attributes < 16 = leb-false 16 (length attributes) q in k
 
-  few-verdict : (w r l : List ℕ) (a : Attribute) (u : List ℕ) (k : ℕ) → nameFault rules attributes w ≡ k → thenOut (verdict k w r l) onward ≡ done a u → length attributes < 16
+  few-verdict : (w r l : List ℕ) (a : Attribute) (u : List ℕ) (k : ℕ) → nameFault rules attributes w ≡ k → thenOut (judgedTo k w r l) onward ≡ done a u → length attributes < 16
   few-verdict w r l a u zero q z = few-fault w q
   few-verdict w r l a u (suc k) q z = nope cc
 

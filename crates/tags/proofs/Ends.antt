@@ -7,7 +7,7 @@ use native.Mathlib.Omega.{arith}
 use lib.ListN.{length, getD, drop, length-drop}
 use borrow.Author.Tests.{eq-eqb, ne-eqb}
 use Rattle.scanning.specs.Steps.{here, past}
-use Rattle.grammar.specs.Parse.{Out, done, fault, cut, Parser, Turn, again, last, thenOut, retP, verdict, judgeOut, lookP, eatP, turnOut, loopP}
+use Rattle.grammar.specs.Parse.{Out, done, fault, cut, Parser, Turn, again, last, thenOut, retP, judgedTo, judgeOut, lookP, eatP, turnOut, loopP}
 use Rattle.grammar.specs.Laws.{loop-step, loop-again, loop-fault, loop-cut}
 use Rattle.xml.specs.Bytes.{bytes, isSpace}
 use Rattle.xml.specs.Xml.{word, Attribute, Rules, plain, attribute, TagState, Tag, tagByte, startTag}
@@ -38,10 +38,10 @@ module _ (rules : Rules) (s : List ℕ) (attributes : Attributes) (at : ℕ) (h 
   tagOf empty = record { attributes = attributesOf s attributes; empty = empty }
 
   module _ (k : ℕ) (n : k ≡ rules .opened (attributesOf s attributes)) where
-    open-read : (openEnd rules (attributesOf s attributes)) .run (drop at s) ≡ thenOut (verdict k (getD s at 0) (drop (at + 1) s) (drop at s)) (λ x. retP (tagOf false))
+    open-read : (openEnd rules (attributesOf s attributes)) .run (drop at s) ≡ thenOut (judgedTo k (getD s at 0) (drop (at + 1) s) (drop at s)) (λ x. retP (tagOf false))
     open-read =
         ap (λ (o : Out ℕ). thenOut (judgeOut (λ x. rules .opened (attributesOf s attributes)) o (drop at s)) (λ x. retP (tagOf false))) (ap eatP (here s at h))
-        ∙ ap (λ (m : ℕ). thenOut (verdict m (getD s at 0) (drop (at + 1) s) (drop at s)) (λ x. retP (tagOf false))) (sym n)
+        ∙ ap (λ (m : ℕ). thenOut (judgedTo m (getD s at 0) (drop (at + 1) s) (drop at s)) (λ x. retP (tagOf false))) (sym n)
 
     pub open-bad : (k ≡ 0 → ⊥) → EndIs s attributes at (Fault k at) ((openEnd rules (attributesOf s attributes)) .run (drop at s))
     open-bad z = record {
@@ -51,7 +51,7 @@ module _ (rules : Rules) (s : List ℕ) (attributes : Attributes) (at : ℕ) (h 
 
     pub open-done : k ≡ 0 → EndIs s attributes at (Open (at + 1)) ((openEnd rules (attributesOf s attributes)) .run (drop at s))
     open-done z = record {
-      out = sym (open-read ∙ ap (λ (m : ℕ). thenOut (verdict m (getD s at 0) (drop (at + 1) s) (drop at s)) (λ x. retP (tagOf false))) z);
+      out = sym (open-read ∙ ap (λ (m : ℕ). thenOut (judgedTo m (getD s at 0) (drop (at + 1) s) (drop at s)) (λ x. retP (tagOf false))) z);
       inside = (omega arith, omega arith);
     }
 
@@ -65,8 +65,8 @@ module _ (rules : Rules) (s : List ℕ) (attributes : Attributes) (at : ℕ) (h 
   empty-read r e = ap (λ (o : Out (Unit {0})). thenOut (judgeOut (λ x. rules .emptied (attributesOf s attributes)) o (drop at s)) (λ x. retP (tagOf true))) (sym e)
 
   module _ (e : ℕ) (v : SlashRead (Scans.At e)) (k : ℕ) (n : k ≡ rules .emptied (attributesOf s attributes)) where
-    empty-judged : (emptyEnd rules (attributesOf s attributes)) .run (drop at s) ≡ thenOut (verdict k (tt {0}) (drop e s) (drop at s)) (λ x. retP (tagOf true))
-    empty-judged = empty-read (done (tt {0}) (drop e s)) (v .out) ∙ ap (λ (m : ℕ). thenOut (verdict m (tt {0}) (drop e s) (drop at s)) (λ x. retP (tagOf true))) (sym n)
+    empty-judged : (emptyEnd rules (attributesOf s attributes)) .run (drop at s) ≡ thenOut (judgedTo k (tt {0}) (drop e s) (drop at s)) (λ x. retP (tagOf true))
+    empty-judged = empty-read (done (tt {0}) (drop e s)) (v .out) ∙ ap (λ (m : ℕ). thenOut (judgedTo m (tt {0}) (drop e s) (drop at s)) (λ x. retP (tagOf true))) (sym n)
 
     pub empty-bad : (k ≡ 0 → ⊥) → EndIs s attributes at (Fault k at) ((emptyEnd rules (attributesOf s attributes)) .run (drop at s))
     empty-bad z = record {
@@ -78,7 +78,7 @@ module _ (rules : Rules) (s : List ℕ) (attributes : Attributes) (at : ℕ) (h 
     empty-done z =
         let i : (at + 2 ≤ e) × (e ≤ length s) = v .inside (omega arith) in
         record {
-          out = sym (empty-judged ∙ ap (λ (m : ℕ). thenOut (verdict m (tt {0}) (drop e s) (drop at s)) (λ x. retP (tagOf true))) z);
+          out = sym (empty-judged ∙ ap (λ (m : ℕ). thenOut (judgedTo m (tt {0}) (drop e s) (drop at s)) (λ x. retP (tagOf true))) z);
           inside = (omega arith, i .1);
         }
 

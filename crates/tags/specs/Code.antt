@@ -8,7 +8,7 @@ use lib.Dec.{leb, ltb}
 use lib.ListN.{length, drop, getD, set, replicate}
 use Rattle.process_list.specs.declared.Depth.{Depth}
 use Rattle.process_list.specs.declared.Kind as Kinds
-use Rattle.grammar.specs.Parse.{Out, done, fault, cut, thenOut, verdict}
+use Rattle.grammar.specs.Parse.{Out, done, fault, cut, thenOut, judgedTo}
 use Rattle.grammar.specs.Grammar.{G, ret, judge, eat, seq, _>>_}
 use Rattle.xml.specs.Bytes.{bytes, same, isQuote, equals}
 use Rattle.xml.specs.Xml.{byte, word, spaces, textTo, Attribute, isNamed, textOf, Rules, nameFault, Tag}
@@ -172,7 +172,7 @@ behindQuote rules w q = seq (judge (λ x. rules .texts w (x .1)) (textTo q)) (λ
 
 -- the attribute that starts at s, whose name w is followed by r
 abbrev pub named : Rules → List Attribute → List ℕ → List ℕ → List ℕ → Out Attribute
-named rules attributes w r s = thenOut (verdict (nameFault rules attributes w) w r s) (λ v. (seq toQuote (behindQuote rules v)) .run)
+named rules attributes w r s = thenOut (judgedTo (nameFault rules attributes w) w r s) (λ v. (seq toQuote (behindQuote rules v)) .run)
 
 -- the answer r, read from `at` on, is o
 pub record AttributeIs (s : List ℕ) (at : ℕ) (r : AttributeRead) (o : Out Attribute) : Type 0 where

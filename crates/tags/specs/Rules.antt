@@ -2,7 +2,7 @@
 use Prim.Native.Nat.{ℕ}
 use Rattle.xml.specs.Xml.{Rules, plain}
 use Rattle.clf.specs.Numbers.{valueRules}
-use Rattle.clf.specs.Nodes.{nodeRules, arrayRules, matrixShape, lutShape, lutNames, lutTexts, rangeTexts, cdlRules, holderRules}
+use Rattle.clf.specs.Nodes.{nodeRules, arrayRules, matrixShape, lutShape, lutNames, lutTexts, rangeTexts, cdlRules, notEmptyRules}
 use Rattle.clf.specs.List.{listRules}
 use Rattle.tags.specs.declared.TagKind.{TagKind}
 use Rattle.tags.specs.declared.TagKind.the-variants.{Plain, Value, Holder, MatrixArray, Lut1dArray, Matrix, Lut1d, Range, Cdl, ProcessList}
@@ -10,7 +10,7 @@ use Rattle.tags.specs.declared.TagKind.the-variants.{Plain, Value, Holde
 unfoldable pub rulesOf : TagKind → Rules
 rulesOf Plain = plain
 rulesOf Value = valueRules
-rulesOf Holder = holderRules
+rulesOf Holder = notEmptyRules
 rulesOf MatrixArray = arrayRules matrixShape
 rulesOf Lut1dArray = arrayRules lutShape
 rulesOf Matrix = nodeRules (λ w. 0) (λ w t. 0)

@@ -9,7 +9,7 @@ use lib.ListN.{length, set, drop, getD, replicate, length-set, length-replicate}
 use lib.Seq.{drop-cons, drop-length}
 use lib.IntN.{ℤ}
 use Rattle.decimal.specs.Decimal.{size}
-use Rattle.decimal_write.specs.Written.{digits, whole}
+use Rattle.decimal_write.specs.Written.{digits, wholeText}
 use Rattle.decimal_write.specs.Laws.{digits-one, digits-more}
 use Rattle.room.specs.Room.{laid}
 use Rattle.room.proofs.Laws.{stored-in, stored-out}
@@ -132,9 +132,9 @@ pub puts-last : {at a r : ℕ} {s s1 s2 : List ℕ} (n : ℕ) → 10 ≤ n → P
 puts-last n h p q = puts-as (λ t. rw (digits-more n h, append-assoc)) (puts-then p q)
 
 -- ---- a whole number, by its sign
-pub puts-negative : {at a r : ℕ} {s s1 s2 : List ℕ} (z : ℤ) (k : ℕ) → whole z ≡ 45 ∷ digits (size z) → k ≡ size z
-    → Puts (λ t. 45 ∷ t) at s s1 a → Puts (λ t. digits k ++ t) a s1 s2 r → Puts (λ t. whole z ++ t) at s s2 r
+pub puts-negative : {at a r : ℕ} {s s1 s2 : List ℕ} (z : ℤ) (k : ℕ) → wholeText z ≡ 45 ∷ digits (size z) → k ≡ size z
+    → Puts (λ t. 45 ∷ t) at s s1 a → Puts (λ t. digits k ++ t) a s1 s2 r → Puts (λ t. wholeText z ++ t) at s s2 r
 puts-negative z k e q p1 p2 = puts-as (λ t. rw (e, ← q)) (puts-then p1 p2)
 
-pub puts-other : {at r : ℕ} {s s' : List ℕ} (z : ℤ) (k : ℕ) → whole z ≡ digits (size z) → k ≡ size z → Puts (λ t. digits k ++ t) at s s' r → Puts (λ t. whole z ++ t) at s s' r
+pub puts-other : {at r : ℕ} {s s' : List ℕ} (z : ℤ) (k : ℕ) → wholeText z ≡ digits (size z) → k ≡ size z → Puts (λ t. digits k ++ t) at s s' r → Puts (λ t. wholeText z ++ t) at s s' r
 puts-other z k e q p = puts-as (λ t. rw (e, ← q)) p

@@ -3,7 +3,7 @@
 ghost use mathlib.Core.Path.{_≡_};
 ghost use mathlib.Core.List.{_∷_, _++_};
 ghost use Prim.Native.Nat.{_+_};
-ghost use Rattle.decimal_write.specs.Written.{digits, whole, exponent, writtenOf};
+ghost use Rattle.decimal_write.specs.Written.{digits, wholeText, exponent, writtenOf};
 ghost use Rattle.text_out.specs.Output.{counted, Puts};
 use decimal::Decimal;
 
@@ -53,7 +53,7 @@ pub fn put_digits(out: &mut [u8], at: usize, n: usize) -> usize
 
 // A whole number: a minus sign if it is below 0, then the digits of its size.
 pub fn put_whole(out: &mut [u8], at: usize, z: i64) -> usize
-    ensures { λ r. ⌜ Puts (λ t. whole z ++ t) at (now (out .entry)) (now (out .exit)) r ⌝ }
+    ensures { λ r. ⌜ Puts (λ t. wholeText z ++ t) at (now (out .entry)) (now (out .exit)) r ⌝ }
 {
     if z < 0 {
         let held = put_byte(out, at, b'-');

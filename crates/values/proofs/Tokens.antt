@@ -12,7 +12,7 @@ use Rattle.decimal.specs.declared.Token.{Token}
 use Rattle.decimal.specs.declared.Token.the-variants.{Number, Malformed}
 use Rattle.decimal_read.specs.Number.{tokenOf}
 use Rattle.decimal_value.specs.Value.{notNegative, positive, isOne}
-use Rattle.grammar.specs.Parse.{Out, done, thenOut, retP, verdict, judgeOut}
+use Rattle.grammar.specs.Parse.{Out, done, thenOut, retP, judgedTo, judgeOut}
 use Rattle.grammar.specs.Laws.{nope}
 use Rattle.xml.specs.Bytes.{isSpace}
 use Rattle.xml.specs.Xml.{text}
@@ -100,7 +100,7 @@ module _ (n count : ℕ) (rule : Decimal → ℕ) (s : List ℕ) (at : ℕ) wher
   judging o = thenOut (judgeOut (λ t. faultOf n rule count (tokenOf (t .1))) o (drop at s)) (λ t. retP (saidBy (tokenOf (t .1))))
 
   abbrev ruling : List ℕ → ℕ → ℕ → Out Decimal
-  ruling w k e = thenOut {A = (Unit {0}) × List ℕ} (verdict k (tt, w) (drop e s) (drop at s)) (λ t. retP (saidBy (tokenOf (t .1))))
+  ruling w k e = thenOut {A = (Unit {0}) × List ℕ} (judgedTo k (tt, w) (drop e s) (drop at s)) (λ t. retP (saidBy (tokenOf (t .1))))
 
   in-n : (d : Decimal) → faultOf n rule count (Number d) ≡ 0 → count < n
   in-n d q = go (leb n count) refl q

@@ -12,7 +12,7 @@ use Rattle.xml.specs.declared.Scan.{Scan}
 use Rattle.xml.specs.declared.Scan.the-variants as Scans
 use Rattle.xml.specs.Code.{part, scanOut, Inside, Reads}
 use Rattle.room.specs.Room.{Room, laidIn, clearedFrom}
-use Rattle.clf.specs.Numbers.{endsToken, token, faultOf, saidBy, anyNumber, notBelowZero, onlyOne}
+use Rattle.clf.specs.Numbers.{endsToken, token, faultOf, saidBy, anyNumber, notBelowZero, mustBeOne}
 use Rattle.values.specs.declared.Rule.{Rule}
 use Rattle.values.specs.declared.Rule.the-variants as Rules
 use Rattle.values.specs.declared.TokenRead.{TokenRead}
@@ -22,7 +22,7 @@ use Rattle.values.specs.declared.TokenRead.the-variants as Reading
 unfoldable pub ruleOf : Rule → Decimal → ℕ
 ruleOf Rules.Any = anyNumber
 ruleOf Rules.NotNegative = notBelowZero
-ruleOf Rules.One = onlyOne
+ruleOf Rules.One = mustBeOne
 
 -- ---- tokens
 

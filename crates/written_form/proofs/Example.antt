@@ -10,7 +10,7 @@ use Rattle.process_list.specs.declared.Depth.the-variants.{I8, I10, I12, I16, F
 use Rattle.process_list.specs.declared.Kind.the-variants.{Matrix, Lut1d, Range, Cdl}
 use Rattle.process_list.specs.List.{Element}
 use Rattle.xml.specs.Bytes.{bytes}
-use Rattle.decimal_write.specs.Written.{digitsWithin, digits, whole, exponent, writtenOf}
+use Rattle.decimal_write.specs.Written.{digitsWithin, digits, wholeText, exponent, writtenOf}
 use Rattle.written_form.specs.Written.{joined, opening, closing, attribute, row, valueLine, rowLines, arrayLine, arrayLines, rangeLines, cdlLines, contentLines}
 use Rattle.written_form.specs.Written.{startLine, nodeLines, nodesLines, rootLine, listLines, refused, written, fitting, outputOf}
 
@@ -39,7 +39,7 @@ pub whole-example : joined (listLines (bytes "a") (record { kind = Range Clamp; 
     ++ bytes "<maxOutValue>5e-1</maxOutValue>\n"
     ++ bytes "</Range>\n"
     ++ bytes "</ProcessList>\n"
-unfolding joined listLines rootLine nodesLines nodeLines startLine contentLines rangeLines valueLine opening closing attribute row writtenOf whole exponent digits digitsWithin
+unfolding joined listLines rootLine nodesLines nodeLines startLine contentLines rangeLines valueLine opening closing attribute row writtenOf wholeText exponent digits digitsWithin
 whole-example = refl
 
 -- a Matrix 3x4, a LUT1D of two entries of three columns, an ASC_CDL of style FwdNoClamp, a Range of style noClamp
@@ -81,7 +81,7 @@ pub other-nodes : joined (nodesLines others)
     ++ bytes "<minOutValue>0</minOutValue>\n"
     ++ bytes "<maxOutValue>1</maxOutValue>\n"
     ++ bytes "</Range>\n"
-unfolding joined nodesLines nodeLines startLine contentLines arrayLine arrayLines rowLines rangeLines cdlLines valueLine opening closing attribute row writtenOf whole exponent digits digitsWithin
+unfolding joined nodesLines nodeLines startLine contentLines arrayLine arrayLines rowLines rangeLines cdlLines valueLine opening closing attribute row writtenOf wholeText exponent digits digitsWithin
 other-nodes = refl
 
 -- an output of the text's length is long enough, one of a byte less is 17

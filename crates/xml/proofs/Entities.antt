@@ -2,6 +2,7 @@
 use mathlib.Core.Path.{_≡_, refl, sym, ap, _∙_}
 use mathlib.Core.Bool.{Bool, true, false, cond}
 use mathlib.Core.List.{List, [], _∷_}
+use mathlib.Core.Logic.{inl, inr}
 use Prim.Native.Nat.{ℕ, _+_, _≤_, _<_}
 use Prim.Native.Char.{code}
 use native.Mathlib.Omega.{arith}
@@ -9,7 +10,7 @@ use lib.Dec.{eqb, leb}
 use lib.ListN.{length, getD, drop}
 use borrow.Author.Tests.{leb-true, leb-false}
 use Rattle.scanning.specs.Steps.{here, past}
-use Rattle.grammar.specs.Parse.{Out, done, fault, cut, Parser, thenOut, eatP, bindP, verdict}
+use Rattle.grammar.specs.Parse.{Out, done, fault, cut, Parser, thenOut, eatP, bindP, judgedTo}
 use Rattle.grammar.specs.Grammar.{eat, ret, _>>_}
 use Rattle.xml.specs.Bytes.{isNameByte}
 use Rattle.xml.specs.Among.{nameOr, among}
@@ -27,17 +28,17 @@ outOf s r = scanOut noValue s r
 module _ (s : List ℕ) (at : ℕ) (other : Scan) where
   -- the bytes have ended
   pub end-cut : length s ≤ at → NameOr s at [] other Cut
-  end-cut h = record { out = sym (ap (nameOr tt (outOf s other) []) (past s at h)); inside = λ from k i. tt }
+  end-cut h = record { out = sym (ap (nameOr tt (outOf s other) []) (past s at h)); inside = λ from k i. tt; told = inr tt }
 
   module _ (h : at < length s) where
     end-by : (t : Bool) → isNameByte (getD s at 0) ≡ t → nameOr tt (outOf s other) [] (drop at s) ≡ cond t (outOf s other) (done tt (drop at s))
     end-by t q = rw (here s at h, q)
 
     pub end-goes-on : isNameByte (getD s at 0) ≡ true → NameOr s at [] other other
-    end-goes-on q = record { out = sym (end-by true q); inside = λ from k i. i }
+    end-goes-on q = record { out = sym (end-by true q); inside = λ from k i. i; told = inl refl }
 
     pub end-ended : isNameByte (getD s at 0) ≡ false → NameOr s at [] other (At at)
-    end-ended q = record { out = sym (end-by false q); inside = λ from k i. (omega arith, omega arith) }
+    end-ended q = record { out = sym (end-by false q); inside = λ from k i. (omega arith, omega arith); told = inr h }
 
 -- ---- a name
 
@@ -53,7 +54,7 @@ word-or o (c ∷ w) [] = refl
 word-or o (c ∷ w) (b ∷ s) = go (eqb b c) (word-or o w s)
   where
     go : (v : Bool) → nameOr tt o w s ≡ behindOr o ((word w 1) .run s)
-        → cond v (nameOr tt o w s) o ≡ behindOr o (thenOut (verdict (cond v 0 1) b s (b ∷ s)) (λ x. (word w 1) .run))
+        → cond v (nameOr tt o w s) o ≡ behindOr o (thenOut (judgedTo (cond v 0 1) b s (b ∷ s)) (λ x. (word w 1) .run))
     go true e = e
     go false e = refl
 
@@ -70,15 +71,15 @@ module _ (s : List ℕ) (at : ℕ) (w : List ℕ) (other : Scan) where
 
   -- the word stands there
   pub word-stood : (e : ℕ) (r : Scan) → ReadsFrom (length w) ((word w 1) .run) noValue s at (At e) → NameOr s e [] other r → NameOr s at w other r
-  word-stood e r v x = record { out = x .out ∙ by-word (done tt (drop e s)) (v .out); inside = λ from k i. x .inside from (omega (arith, later e v)) i }
+  word-stood e r v x = record { out = x .out ∙ by-word (done tt (drop e s)) (v .out); inside = λ from k i. x .inside from (omega (arith, later e v)) i; told = x .told }
 
   -- another byte stands there
   pub word-differed : (k q : ℕ) → ReadsFrom (length w) ((word w 1) .run) noValue s at (Fault k q) → NameOr s at w other other
-  word-differed k q v = record { out = by-word (fault k (drop q s)) (v .out); inside = λ from m i. i }
+  word-differed k q v = record { out = by-word (fault k (drop q s)) (v .out); inside = λ from m i. i; told = inl refl }
 
   -- the bytes end in it
   pub word-ended : ReadsFrom (length w) ((word w 1) .run) noValue s at Cut → NameOr s at w other Cut
-  word-ended v = record { out = by-word cut (v .out); inside = λ from k i. tt }
+  word-ended v = record { out = by-word cut (v .out); inside = λ from k i. tt; told = inr tt }
 
 -- ---- the names of `&` forms
 

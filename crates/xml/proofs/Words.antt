@@ -8,7 +8,7 @@ use lib.ListN.{length, getD, drop}
 use lib.Dec.{eqb}
 use borrow.Author.Tests.{eq-eqb, ne-eqb}
 use Rattle.scanning.specs.Steps.{here, past}
-use Rattle.grammar.specs.Parse.{Out, fault, verdict, thenOut}
+use Rattle.grammar.specs.Parse.{Out, fault, judgedTo, thenOut}
 use Rattle.xml.specs.Xml.{byte, word}
 use Rattle.xml.specs.Code.{Reads, ReadsFrom, noValue, Failed}
 use Rattle.xml.specs.declared.Scan.{Scan}
@@ -17,8 +17,8 @@ use Rattle.xml.specs.declared.Scan.the-variants.{At, Fault, Cut}
 -- ---- a byte
 
 module _ (s : List ℕ) (at c k : ℕ) where
-  byte-here : at < length s → (t : Bool) → eqb (getD s at 0) c ≡ t → (byte c k) .run (drop at s) ≡ verdict (cond t 0 k) (getD s at 0) (drop (at + 1) s) (getD s at 0 ∷ drop (at + 1) s)
-  byte-here h t q = ap ((byte c k) .run) (here s at h) ∙ ap (λ (t : Bool). verdict (cond t 0 k) (getD s at 0) (drop (at + 1) s) (getD s at 0 ∷ drop (at + 1) s)) q
+  byte-here : at < length s → (t : Bool) → eqb (getD s at 0) c ≡ t → (byte c k) .run (drop at s) ≡ judgedTo (cond t 0 k) (getD s at 0) (drop (at + 1) s) (getD s at 0 ∷ drop (at + 1) s)
+  byte-here h t q = ap ((byte c k) .run) (here s at h) ∙ ap (λ (t : Bool). judgedTo (cond t 0 k) (getD s at 0) (drop (at + 1) s) (getD s at 0 ∷ drop (at + 1) s)) q
 
   pub byte-cut : length s ≤ at → Reads 1 ((byte c k) .run) (λ e. getD s at 0) s at Cut
   byte-cut h = record { out = sym (ap ((byte c k) .run) (past s at h)); inside = tt }
@@ -28,7 +28,7 @@ module _ (s : List ℕ) (at c k : ℕ) where
 
   pub byte-any : at < length s → (getD s at 0 ≡ c → ⊥) → k ≡ 0 → Reads 1 ((byte c k) .run) (λ e. getD s at 0) s at (At (at + 1))
   byte-any h q z = record {
-    out = sym (byte-here h false (ne-eqb (getD s at 0) c q) ∙ ap (λ (n : ℕ). verdict n (getD s at 0) (drop (at + 1) s) (getD s at 0 ∷ drop (at + 1) s)) z);
+    out = sym (byte-here h false (ne-eqb (getD s at 0) c q) ∙ ap (λ (n : ℕ). judgedTo n (getD s at 0) (drop (at + 1) s) (getD s at 0 ∷ drop (at + 1) s)) z);
     inside = (omega arith, omega arith);
   }
 
@@ -38,7 +38,7 @@ module _ (s : List ℕ) (at c k : ℕ) where
     inside = (omega arith, omega arith);
   }
     where
-      go : (n : ℕ) → (n ≡ 0 → ⊥) → verdict n (getD s at 0) (drop (at + 1) s) (getD s at 0 ∷ drop (at + 1) s) ≡ fault n (getD s at 0 ∷ drop (at + 1) s)
+      go : (n : ℕ) → (n ≡ 0 → ⊥) → judgedTo n (getD s at 0) (drop (at + 1) s) (getD s at 0 ∷ drop (at + 1) s) ≡ fault n (getD s at 0 ∷ drop (at + 1) s)
       go zero z = absurd (z refl)
       go (suc n) z = refl
 

@@ -1,6 +1,7 @@
 -- What the answers of the code mean. A place of the code is an index into the slice; it stands for the bytes from there on.
 use mathlib.Core.Path.{_≡_}
 use mathlib.Core.List.{List}
+use mathlib.Core.Logic.{_⊎_}
 use Prim.Native.Nat.{ℕ, _+_, _-_, _≤_, _<_}
 use lib.ListN.{length, take, drop}
 use Rattle.grammar.specs.Parse.{Out, done, fault, cut, Parser}
@@ -65,7 +66,15 @@ Failed (At e) = ⊥
 Failed (Fault k p) = Unit {0}
 Failed Cut = Unit {0}
 
--- the answer r is that of the name w against the bytes from `at` on, `other` where they differ; a next place is no nearer than `at`
+-- a place with a byte behind it, or the end of the bytes
+abbrev pub Stops : List ℕ → Scan → Type 0
+Stops s (At e) = e < length s
+Stops s (Fault k p) = ⊥
+Stops s Cut = Unit {0}
+
+-- the answer r is that of the name w against the bytes from `at` on, `other` where they differ; a next place is no nearer than `at`. There is one answer for every `at` and `other`: it is `other` itself, or
+-- one whose place has a byte behind it, which `drop` tells from every other place
 pub record NameOr (s : List ℕ) (at : ℕ) (w : List ℕ) (other r : Scan) : Type 0 where
   pub out : scanOut noValue s r ≡ nameOr tt (scanOut noValue s other) w (drop at s)
   pub inside : (from : ℕ) → from ≤ at → Inside 0 s from other → Inside 0 s from r
+  pub told : (r ≡ other) ⊎ Stops s r

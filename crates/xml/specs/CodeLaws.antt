@@ -10,7 +10,7 @@ use lib.Seq.{take-suc, getD-drop}
 use borrow.Author.Tests.{lt-ltb, leb-true, leb-false}
 use lib.Dec.{leb}
 use Rattle.scanning.specs.Steps.{here, past}
-use Rattle.grammar.specs.Parse.{Out, done, fault, cut, Parser, thenOut, bindP, retP, lookP, eatP, spanP, strictOut, strictP, lookTwoP, verdict, judgeOut, judgeP, blameOut, blameP}
+use Rattle.grammar.specs.Parse.{Out, done, fault, cut, Parser, thenOut, bindP, retP, lookP, eatP, spanP, strictOut, strictP, lookTwoP, judgedTo, judgeOut, judgeP, blameOut, blameP}
 use Rattle.xml.specs.Code.{part, scanOut, scanAt, Inside, Stays, Reads, ReadsFrom, blamedScan, Failed}
 use Rattle.xml.specs.declared.Scan.{Scan}
 use Rattle.xml.specs.declared.Scan.the-variants.{At, Fault, Cut}
@@ -151,10 +151,10 @@ module _ {A B : Type 0} (p : Parser A) (value : ℕ → A) (b : B) (s : List ℕ
 
 -- ---- a value that is judged, and a byte at least that is read
 
-pub verdict-well : {A : Type 0} (k : ℕ) (a : A) (r s : List ℕ) → k ≡ 0 → verdict k a r s ≡ done a r
+pub verdict-well : {A : Type 0} (k : ℕ) (a : A) (r s : List ℕ) → k ≡ 0 → judgedTo k a r s ≡ done a r
 verdict-well k a r s q = rw q
 
-pub verdict-ill : {A : Type 0} (k : ℕ) (a : A) (r s : List ℕ) → (k ≡ 0 → ⊥) → verdict k a r s ≡ fault k s
+pub verdict-ill : {A : Type 0} (k : ℕ) (a : A) (r s : List ℕ) → (k ≡ 0 → ⊥) → judgedTo k a r s ≡ fault k s
 verdict-ill zero a r s q = absurd (q refl)
 verdict-ill (suc k) a r s q = refl
 
@@ -168,7 +168,7 @@ module _ {A : Type 0} (p : Parser A) (value : ℕ → A) (s : List ℕ) (at : �
 
     pub reads-ill : (n m e k : ℕ) → j (value e) ≡ k → (k ≡ 0 → ⊥) → Reads n p value s at (At e) → Reads m (judgeP j p) value s at (Fault k at)
     reads-ill n m e k q z v = record {
-      out = sym (ap (λ (o : Out A). judgeOut j o (drop at s)) (sym (v .out)) ∙ ap (λ (i : ℕ). verdict i (value e) (drop e s) (drop at s)) q
+      out = sym (ap (λ (o : Out A). judgeOut j o (drop at s)) (sym (v .out)) ∙ ap (λ (i : ℕ). judgedTo i (value e) (drop e s) (drop at s)) q
           ∙ verdict-ill k (value e) (drop e s) (drop at s) z);
       inside = (omega arith, omega (arith, v .inside));
     }

@@ -5,7 +5,7 @@ use borrow.Author.Needs.{needs}
 use mir.Syntax.{w64}
 use mir.Val.{SFits}
 use mir.ValLaws.{toZ-ofZ}
-use Rattle.decimal_write.specs.Written.{whole}
+use Rattle.decimal_write.specs.Written.{wholeText}
 use Rattle.decimal_write.proofs.Machine.{is-zero, not-zero, no-exponent, some-exponent}
 use Rattle.text_out.proofs.Laws.{puts-none, puts-as, puts-by, puts-then}
 use Rattle.text_out.proofs.put_exponent.Statement.{statement}
@@ -22,7 +22,7 @@ returns-2 c =
     let i = c .before .before .before .before .before .before .before .before in
     let p = i .before .before .args .p in
     let f : SFits w64 p = search needs in
-    let w = puts-by (λ z t. whole z ++ t) (sym (toZ-ofZ w64 p f)) (c .before .before .put-whole .ensures) in
+    let w = puts-by (λ z t. wholeText z ++ t) (sym (toZ-ofZ w64 p f)) (c .before .before .put-whole .ensures) in
     puts-as (λ t. rw (some-exponent p (not-zero p (i .if1 .left)))) (puts-then (c .before .before .before .before .before .before .put-byte .ensures) w)
 
 pub put-exponent-spec : {M : Type 1} → statement M

@@ -5,7 +5,7 @@ use borrow.Author.Needs.{needs}
 use mir.Syntax.{w8, w64}
 use mir.Val.{SFits}
 use mir.ValLaws.{toZ-ofZ}
-use Rattle.decimal_write.specs.Written.{whole, exponent}
+use Rattle.decimal_write.specs.Written.{wholeText, exponent}
 use Rattle.decimal_write.specs.Laws.{written-parts, written-none}
 use Rattle.decimal_write.proofs.Machine.{wide-kept}
 use Rattle.text_out.proofs.Laws.{puts-none, puts-as, puts-by, puts-then}
@@ -18,7 +18,7 @@ returns c =
     let d = i .before .before .before .args .number in
     let f : SFits w64 (d .coefficient) = search needs in
     let g : SFits w8 (d .power) = search needs in
-    let w = puts-by (λ z t. whole z ++ t) (sym (toZ-ofZ w64 (d .coefficient) f)) (c .before .before .before .before .before .before .before .before .put-whole .ensures) in
+    let w = puts-by (λ z t. wholeText z ++ t) (sym (toZ-ofZ w64 (d .coefficient) f)) (c .before .before .before .before .before .before .before .before .put-whole .ensures) in
     let e = puts-by (λ z t. exponent z ++ t) (sym (wide-kept (d .power) g (c .before .before .before .wide .ensures))) (c .before .before .put-exponent .ensures) in
     puts-as (λ t. rw (written-parts d (sym (i .before .in-range .ensures) ∙ i .if1 .taken), append-assoc)) (puts-then w e)
 

@@ -4,7 +4,7 @@ use mathlib.Core.List.{_++_}
 use mir.Syntax.{w8, w64}
 use mir.Val.{SFits}
 use mir.ValLaws.{toZ-ofZ}
-use Rattle.decimal_write.specs.Written.{whole}
+use Rattle.decimal_write.specs.Written.{wholeText}
 use Rattle.decimal_write.proofs.Machine.{wide-kept}
 use Rattle.text_out.proofs.Laws.{puts-by, puts-then}
 use Rattle.shell_text.specs.Show.{decimalText}
@@ -19,8 +19,8 @@ returns c =
     let s = w .before .before .before in
     let f : SFits w64 (s .args .coefficient) = search needs in
     let g : SFits w8 (s .args .power) = search needs in
-    let p = puts-by (λ z t. whole z ++ t) (sym (toZ-ofZ w64 (s .args .coefficient) f)) (w .put-whole .ensures) in
-    let q = puts-by (λ z t. whole z ++ t) (sym (wide-kept (s .args .power) g (c .before .before .before .wide .ensures))) (c .before .before .put-whole2 .ensures) in
+    let p = puts-by (λ z t. wholeText z ++ t) (sym (toZ-ofZ w64 (s .args .coefficient) f)) (w .put-whole .ensures) in
+    let q = puts-by (λ z t. wholeText z ++ t) (sym (wide-kept (s .args .power) g (c .before .before .before .wide .ensures))) (c .before .before .put-whole2 .ensures) in
     puts-then p (puts-then (c .before .before .before .before .before .before .before .put .ensures) q)
 
 pub put-decimal-spec : {M : Type 1} → statement M

@@ -1,6 +1,6 @@
 -- `put_either` meets its contract. Assumes nothing.
 use Rattle.text_out.proofs.Laws.{puts-by}
-use Rattle.shell_text.specs.Show.{oneOf}
+use Rattle.shell_text.specs.Show.{oneOfTwo}
 use mathlib.Core.List.{_++_}
 use denote.Ref.{now}
 use borrow.Author.Needs.{needs}
@@ -8,15 +8,15 @@ use Rattle.shell_text.proofs.show.put_either.Statement.{statement}
 use Rattle.shell_text.proofs.show.put_either.Tie as tie
 
 returns : tie.Need-returns
-unfolding oneOf
+unfolding oneOfTwo
 returns c =
-    puts-by (λ b t. oneOf b (now (c .before .before .before .before .before .before .before .before .args .this))
+    puts-by (λ b t. oneOfTwo b (now (c .before .before .before .before .before .before .before .before .args .this))
     (now (c .before .before .before .before .before .before .before .before .args .other)) ++ t) (c .before .before .before .before .if1 .taken) (c .before .before .put .ensures)
 
 returns-2 : tie.Need-returns-2
-unfolding oneOf
+unfolding oneOfTwo
 returns-2 c =
-    puts-by (λ b t. oneOf b (now (c .before .before .before .before .before .before .before .before .args .this))
+    puts-by (λ b t. oneOfTwo b (now (c .before .before .before .before .before .before .before .before .args .this))
     (now (c .before .before .before .before .before .before .before .before .args .other)) ++ t) (c .before .before .before .before .if1 .left) (c .before .before .put2 .ensures)
 
 pub put-either-spec : {M : Type 1} → statement M
