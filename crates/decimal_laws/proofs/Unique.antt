@@ -110,7 +110,8 @@ form-normal f small h = go (eqb (digitsNumber f) 0) refl
     go : (b : Bool) → eqb (digitsNumber f) 0 ≡ b → Normal (normal f)
     go true e = subst Normal (sym (normal-zero f (eqb-true (digitsNumber f) 0 e))) zero-normal
     go false e =
-        let n : digitsNumber f ≡ 0 → ⊥ = eqb-false (digitsNumber f) 0 e in subst Normal (sym (normal-other f n)) (other-normal f small n (subst (λ (d : Decimal). D.inRange d ≡ true) (normal-other f n) h))
+        let n : digitsNumber f ≡ 0 → ⊥ = eqb-false (digitsNumber f) 0 e in
+        subst Normal (sym (normal-other f n)) (other-normal f small n (subst (λ (d : Decimal). D.inRange d ≡ true) (normal-other f n) h))
 
 pub in-normal : (t : List ℕ) (d : Decimal) → tokenOf t ≡ Number d → Normal d
 in-normal t d e =

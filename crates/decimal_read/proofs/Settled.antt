@@ -40,7 +40,8 @@ module _ (f : Form) where
   unfolding normal
   normal-other n = rw (ne-eqb (digitsNumber f) 0 n)
 
-  pub normal-is : Small (f .whole ++ f .fraction) → (digitsNumber f ≡ 0 → ⊥) → {c z : ℕ} → Stripped (digitsNumber f) c z → normal f ≡ record { coefficient = withSign (f .negative) c; power = scale f +ℤ pos z }
+  pub normal-is : Small (f .whole ++ f .fraction) → (digitsNumber f ≡ 0 → ⊥) → {c z : ℕ} → Stripped (digitsNumber f) c z
+      → normal f ≡ record { coefficient = withSign (f .negative) c; power = scale f +ℤ pos z }
   normal-is s n {c} {z} p = go (one-pair (own-pair s n) p)
     where
       go : (digitsNumber f / 10 ^ trailing f ≡ c) × (trailing f ≡ z) → normal f ≡ record { coefficient = withSign (f .negative) c; power = scale f +ℤ pos z }

@@ -27,7 +27,8 @@ use Rattle.examples.specs.Starred.{questions, answers, outcome}
 
 pub starred : map outcome questions ≡ answers
 unfolding questions answers
-    isDigit isMark isMinus behindSign digitsOf behindDigits fractionOf behindFraction isEmpty isExponent exponentMinus exponentDigits formOf append withSign digitsNumber scale zeros trailing normal tokenBy
+    isDigit isMark isMinus behindSign digitsOf behindDigits fractionOf behindFraction isEmpty isExponent exponentMinus exponentDigits formOf append withSign digitsNumber scale
+    zeros trailing normal tokenBy
     tokenOf
     valueOf powered tenTo less atMost notNegative isOne Written.isNormal
     List.sameDepth List.scaleOf List.numbersOf List.unplaced List.withPosition List.nodeOf List.total List.placeFrom List.placed List.allNumbers List.blankNode List.listOf List.nodesOf List.differs

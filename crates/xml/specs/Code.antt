@@ -72,8 +72,8 @@ Stops s (At e) = e < length s
 Stops s (Fault k p) = ⊥
 Stops s Cut = Unit {0}
 
--- the answer r is that of the name w against the bytes from `at` on, `other` where they differ; a next place is no nearer than `at`. There is one answer for every `at` and `other`: it is `other` itself, or
--- one whose place has a byte behind it, which `drop` tells from every other place
+-- the answer r is that of the name w against the bytes from `at` on, `other` where they differ; a next place is no nearer than `at`.
+-- There is one answer for every `at` and `other`: it is `other` itself, or one whose place has a byte behind it, which `drop` tells from every other place
 pub record NameOr (s : List ℕ) (at : ℕ) (w : List ℕ) (other r : Scan) : Type 0 where
   pub out : scanOut noValue s r ≡ nameOr tt (scanOut noValue s other) w (drop at s)
   pub inside : (from : ℕ) → from ≤ at → Inside 0 s from other → Inside 0 s from r

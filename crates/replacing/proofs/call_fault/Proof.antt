@@ -25,7 +25,8 @@ returns-4 : tie.Need-returns-4
 returns-4 c =
     let t = c .before .before .before in
     record {
-      number = fault-large _ _ _ _ (sym (t .before .valid .ensures) ∙ not-false _ (t .if1 .left)) (c .before .before .if2 .left) (omega (arith, t .before .before .held .ensures .nodes, c .before .if3 .left)) (c .if4 .taken);
+      number = fault-large _ _ _ _ (sym (t .before .valid .ensures) ∙ not-false _ (t .if1 .left)) (c .before .before .if2 .left)
+          (omega (arith, t .before .before .held .ensures .nodes, c .before .if3 .left)) (c .if4 .taken);
       array = t .before .before .held .ensures .array;
     }
 
@@ -33,7 +34,8 @@ returns-5 : tie.Need-returns-5
 returns-5 c =
     let t = c .before .before .before in
     record {
-      number = fault-well _ _ _ _ (sym (t .before .valid .ensures) ∙ not-false _ (t .if1 .left)) (c .before .before .if2 .left) (omega (arith, t .before .before .held .ensures .nodes, c .before .if3 .left)) (c .if4 .left);
+      number = fault-well _ _ _ _ (sym (t .before .valid .ensures) ∙ not-false _ (t .if1 .left)) (c .before .before .if2 .left)
+          (omega (arith, t .before .before .held .ensures .nodes, c .before .if3 .left)) (c .if4 .left);
       array = t .before .before .held .ensures .array;
     }
 
