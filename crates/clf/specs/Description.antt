@@ -38,7 +38,7 @@ toText = do
   tag ← startTag plain
   inNode tag
 
--- the text that begins here, up to the `<` behind it
+-- the text that begins here, up to the `<` behind it. It is asked of an accepted file, whose texts are whole: the zeros are never taken there
 abbrev pub textLength : Out ((Unit {0}) × List ℕ) → ℕ
 textLength (done t r) = length (t .1)
 textLength (fault k r) = 0

@@ -113,7 +113,7 @@ document = do
   l ← listContent (h .0)
   ret (record { start = h .1; parts = l })
 
--- ---- behind the root: 'a second root' is 5; here the bytes may end
+-- ---- behind the root: 'a second root' is 5 at its `<` (so that its body, `bad`, is never taken); here the bytes may end
 
 abbrev pub onward : Out (Part (Unit {0})) → Out (Turn (Unit {0}) (Unit {0}))
 onward o = thenOut o (λ p r. done (again tt) r)

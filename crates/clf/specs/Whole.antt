@@ -19,6 +19,7 @@ WholeText = Flags × List (Part Child × List ℕ)
 abbrev pub nothingWhole : WholeText
 nothingWhole = (noFlags, [])
 
+-- behind the root's start tag; where that is at fault or cut, nothing stands whole
 abbrev pub wholeBehind : Out Tag → WholeText
 wholeBehind (done tag r) = cond (tag .empty) nothingWhole (wholeItems listItem nextFlags noFlags r)
 wholeBehind (fault k r) = nothingWhole
@@ -31,7 +32,7 @@ wholeText s = wholeBehind (head .run s)
 abbrev pub wholeNodes : List ℕ → List Element
 wholeNodes s = nodesAmong (wholeText s .1)
 
--- where the content of ProcessList begins
+-- where the content of ProcessList begins; 0 where its start tag is at fault or cut, since then no node stands whole and no place is asked for
 abbrev pub behindHead : List ℕ → Out Tag → ℕ
 behindHead s (done tag r) = placeIn s r
 behindHead s (fault k r) = 0

@@ -29,7 +29,7 @@ lookedUpAll m at n columns x = record {
   b = lookedUp (entryAt m at columns (columnOf columns 2)) n (x .b) .0;
 }
 
--- a LUT1D's step on a pixel. So that every call has an answer: where the room does not hold such a table, the pixel stays as it is.
+-- a LUT1D's step on a pixel. So that every call has an answer: where the room does not hold such a table, the pixel stays as it is. A valid list has no such LUT1D (running judges 16 first).
 unfoldable pub lut1dPixel : Room → ℕ → ℕ → ℕ → Float → Pixel → Pixel
 lut1dPixel m at n columns inScale x =
     cond (tableIn (roomLength m) at n columns)

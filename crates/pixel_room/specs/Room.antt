@@ -10,7 +10,8 @@ use Rattle.decimal_value.specs.Value.{valueOf}
 use Rattle.room.specs.Room.{Room, roomLength}
 use Rattle.pixel.specs.F64 as F64
 
--- the f64 of number k of the room, which has a first number 0; so that every k has an answer, it is 0 past the room's end
+-- the f64 of number k of the room, which has a first number 0; so that every k has an answer, it is 0 past the room's end,
+-- where no node of a valid list has a number (running judges 16 first)
 unfoldable pub numberAt : Room → ℕ → Float
 numberAt m k =
     cond (ltb k (roomLength m))

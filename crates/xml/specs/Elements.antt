@@ -26,6 +26,7 @@ module _ {C : Type 0} where
       (cond (eqb b question) (bad Refusal.formNotCarried)
       (seq (judge fault openName) (λ w. seq (body w) (λ v. ret (child v))))))
 
+  -- (`settle 5` of an `&` form is never done, so that the `bad` behind it is never taken.)
   -- 'white space and comments may stand .. between elements'; 'bare text between elements is 5', at that byte; an `&` there is 5, or 3 if it is no `&` form
   abbrev pub betweenByte : G (Unit {0}) → (List ℕ → ℕ) → (List ℕ → G C) → ℕ → G (Part C)
   betweenByte end fault body b =
@@ -62,6 +63,7 @@ module _ {S : Type 0} where
 
 -- ---- where no element may stand
 
+-- (`settle 3` and a judgement of 5 are never done, so that the `bad` behind each is never taken.)
 -- by the byte behind a `<`: 'a comment inside a value element, an Array or a text-only element is 3', and so is `<?`; an element is 5 once its name has ended
 abbrev pub forbidden : {A : Type 0} → ℕ → G A
 forbidden b =
