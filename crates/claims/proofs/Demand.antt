@@ -1,6 +1,6 @@
 -- DEMAND 3: over any run of calls, refused ones included, replacing by the list alone answers as reading the tried files does. Assumes nothing.
 use mathlib.Core.Path.{_≡_, refl, sym, ap, _∙_, subst}
-use mathlib.Core.Bool.{Bool, true, false, cond}
+use mathlib.Core.Bool.{Bool, true, false, cond, _&&_}
 use mathlib.Core.List.{List, [], _∷_}
 use Prim.Native.Nat.{ℕ, _+_, _-_, _≤_, _<_}
 use native.Mathlib.Omega.{arith}
@@ -14,9 +14,10 @@ use Rattle.grammar.specs.Parse.{Out, done, fault, cut}
 use Rattle.clf.specs.Places.{nodeSpan}
 use Rattle.clf.specs.Reading.{Reading, accepted, faulty, unfit, mostBytes, placeIn, isNumbered, listReading, readText, read}
 use Rattle.clf.specs.Reading as R
-use Rattle.look.specs.Replacing.{element, Replacing, refused, replacingBy, listed, byElement, replace, listAfter}
-use Rattle.claims.specs.TriedFile.{asReplacing, spliced, Attempt, answers, tries, trying, attemptElement, attempt, answeredBy, byAttempt, fileCall, listCall, NotBefore}
-use Rattle.claims.specs.TriedFile.{InElement, SmallAttempt, Small, SameRun}
+use Rattle.look.specs.Replacing.{element, Replacing, replaced, refused, replacingBy, listed, byElement, replace, listAfter}
+use Rattle.look.specs.Replacing.{Call, isLate, keptAt, call, keptAfter}
+use Rattle.claims.specs.TriedFile.{asReplacing, spliced, Attempt, answers, tries, trying, attemptElement, attempt, answeredBy, byAttempt}
+use Rattle.claims.specs.TriedFile.{FileState, fileCall, NodeState, nodesAfter, listRun, NotBefore, InElement, SmallAttempt, Small, SameRun}
 use Rattle.claims.proofs.Sound.{and-true}
 use Rattle.claims.proofs.Spliced.{Opened, opened, spliced-done, spliced-fault}
 use Rattle.claims.proofs.Rules.{Short, read-short}
@@ -79,21 +80,30 @@ module _ (room : ℕ) (s : List ℕ) (l : List Element) (old : readText room s �
       let a = and-true (ltb 0 k) (leb k (length l)) h in
       omega (arith, ltb-true 0 k (a .0), leb-true k (length l) (a .1))
 
-  by-tests : (k : ℕ) (e : List ℕ) (v x : Bool) → isNumbered k (length l) ≡ v
-      → Agree room (byAttempt (readText room) s (cond v (cond x (answers (refused 4 0)) (attemptElement s (nodeSpan s (k - 1)) e (element .run e))) (answers (refused 19 0)))) (
-        cond v (cond x (refused 4 0) (byElement room l k e (element .run e))) (refused 19 0),
-        listAfter l (cond v (cond x (refused 4 0) (byElement room l k e (element .run e))) (refused 19 0)),
-      )
-  by-tests k e true true q = stays (refused 4 0) 4 0 refl
-  by-tests k e true false q = by-element k e (numbered k q) (element .run e) refl
-  by-tests k e false x q = stays (refused 19 0) 19 0 refl
+  -- 19, 28 and 4 try no file
+  module _ (c : Call) where
+    abbrev parsed : Out Element
+    parsed = element .run (c .element)
 
-  -- ONE CALL
-  pub one-call : (c : ℕ × List ℕ) → Agree room (fileCall (readText room) s c) (listCall room l c)
-  unfolding attempt replace
-  one-call c =
+    abbrev attempted : Bool → Bool → Bool → Attempt
+    attempted v y x = cond v (cond y (answers (refused 28 0)) (cond x (answers (refused 4 0)) (attemptElement s (nodeSpan s (c .node - 1)) (c .element) parsed))) (answers (refused 19 0))
+
+    abbrev answered : Bool → Bool → Bool → Replacing
+    answered v y x = cond (y && v) (refused 28 0) (cond v (cond x (refused 4 0) (byElement room l (c .node) (c .element) parsed)) (refused 19 0))
+
+    by-tests : (v y x : Bool) → isNumbered (c .node) (length l) ≡ v → Agree room (byAttempt (readText room) s (attempted v y x)) (answered v y x, listAfter l (answered v y x))
+    by-tests true true x q = stays (refused 28 0) 28 0 refl
+    by-tests true false true q = stays (refused 4 0) 4 0 refl
+    by-tests true false false q = by-element (c .node) (c .element) (numbered (c .node) q) parsed refl
+    by-tests false true x q = stays (refused 19 0) 19 0 refl
+    by-tests false false x q = stays (refused 19 0) 19 0 refl
+
+  -- ONE CALL, with these numbers kept
+  pub one-call : (kept : List ℕ) (c : Call) → Agree room (byAttempt (readText room) s (attempt s kept c)) (call room kept l c, listAfter l (call room kept l c))
+  unfolding attempt call replace
+  one-call kept c =
       let o : Opened room s l = opened room s l old in
-      let t = by-tests (c .0) (c .1) (isNumbered (c .0) (length l)) (ltb mostBytes (length (c .1))) refl in
+      let t = by-tests c (isNumbered (c .node) (length l)) (isLate (keptAt kept (c .node)) (c .numbering)) (ltb mostBytes (length (c .element))) refl in
       rw (o .is, o .same) t
 
   -- ---- a fault of the tried file stands in the element
@@ -124,28 +134,19 @@ module _ (room : ℕ) (s : List ℕ) (l : List Element) (old : readText room s �
         subst (NotBefore (nodeSpan s (k - 1) .0)) (sym (spliced-done room s l (k - 1) old there e m q)) (list-in (nodeSpan s (k - 1) .0) (set l (k - 1) m))
     element-in (done m (b ∷ r)) q = tt
 
-  tests-in : (k : ℕ) (e : List ℕ) (v x : Bool) → isNumbered k (length l) ≡ v
-      → InElement (readText room) (cond v (cond x (answers (refused 4 0)) (attemptElement s (nodeSpan s (k - 1)) e (element .run e))) (answers (refused 19 0)))
-  tests-in k e true true q = tt
-  tests-in k e true false q = element-in k e (numbered k q) (element .run e) refl
-  tests-in k e false x q = tt
+  tests-in : (c : Call) (v y x : Bool) → isNumbered (c .node) (length l) ≡ v → InElement (readText room) (attempted c v y x)
+  tests-in c true true x q = tt
+  tests-in c true false true q = tt
+  tests-in c true false false q = element-in (c .node) (c .element) (numbered (c .node) q) (parsed c) refl
+  tests-in c false y x q = tt
 
-  pub call-in : (c : ℕ × List ℕ) → InElement (readText room) (attempt s (c .0) (c .1))
+  pub call-in : (kept : List ℕ) (c : Call) → InElement (readText room) (attempt s kept c)
   unfolding attempt
-  call-in c =
+  call-in kept c =
       let o : Opened room s l = opened room s l old in
-      rw (o .is, o .same) (tests-in (c .0) (c .1) (isNumbered (c .0) (length l)) (ltb mostBytes (length (c .1))) refl)
+      rw (o .is, o .same) (tests-in c (isNumbered (c .node) (length l)) (isLate (keptAt kept (c .node)) (c .numbering)) (ltb mostBytes (length (c .element))) refl)
 
 -- ---- runs
-
--- DEMAND 3, of reading without the limit of 16 MiB
-pub demand3-text : (room : ℕ) (calls : List (ℕ × List ℕ)) (s : List ℕ) (l : List Element) → readText room s ≡ accepted l → SameRun room (readText room) s l calls
-demand3-text room [] s l old = record { answers = refl; list = ap asReplacing old; places = tt }
-demand3-text room (c ∷ calls) s l old =
-    let g : Agree room (fileCall (readText room) s c) (listCall room l c) = one-call room s l old c in
-    let i : SameRun room (readText room) (fileCall (readText room) s c .1) (listCall room l c .1) calls =
-    subst (λ (es : List Element). SameRun room (readText room) (fileCall (readText room) s c .1) es calls) (g .same) (demand3-text room calls (fileCall (readText room) s c .1) (g .l) (g .reads)) in
-    record { answers = λ j. g .answer j ∷ i .answers j; list = i .list; places = (call-in room s l old c, i .places) }
 
 -- a file of at most 16 MiB is read as if there were no limit
 pub read-small : (room : ℕ) (t : List ℕ) → length t ≤ mostBytes → read room t ≡ readText room t
@@ -169,20 +170,27 @@ pub stays-small : (room : ℕ) (s : List ℕ) (a : Attempt) → length s ≤ mos
 stays-small room s (answers a) h k = h
 stays-small room s (tries at t) h k = settled-small at s t (read room t) h k
 
-pub runs : (room : ℕ) (calls : List (ℕ × List ℕ)) (s : List ℕ) (l : List Element) → length s ≤ mostBytes → readText room s ≡ accepted l → Small (read room) s calls
-    → SameRun room (read room) s l calls
-runs room [] s l h old k = record { answers = refl; list = ap asReplacing (read-small room s h ∙ old); places = tt }
-runs room (c ∷ calls) s l h old k =
-    let a : Attempt = attempt s (c .0) (c .1) in
-    let e : fileCall (read room) s c ≡ fileCall (readText room) s c = call-small room s a (k .0) in
-    let g : Agree room (fileCall (read room) s c) (listCall room l c) =
-    subst (λ (x : Replacing × List ℕ). Agree room x (listCall room l c)) (sym e) (one-call room s l old c) in
-    let i : SameRun room (read room) (fileCall (read room) s c .1) (listCall room l c .1) calls =
-    subst (λ (es : List Element). SameRun room (read room) (fileCall (read room) s c .1) es calls) (g .same)
-    (runs room calls (fileCall (read room) s c .1) (g .l) (stays-small room s a h (k .0)) (g .reads) (k .1)) in
-    record { answers = λ j. g .answer j ∷ i .answers j; list = i .list; places = (in-small room a (k .0) (call-in room s l old c), i .places) }
+-- the file f is read as the elements l
+pub runs : (room : ℕ) (calls : List Call) (f : FileState) (l : List Element) → length (f .file) ≤ mostBytes → readText room (f .file) ≡ accepted l → Small (read room) f calls
+    → SameRun room (read room) f l calls
+runs room [] f l h old k = record { answers = refl; list = ap asReplacing (read-small room (f .file) h ∙ old); kept = refl; places = tt }
+runs room (c ∷ calls) f l h old k =
+    let t : Attempt = attempt (f .file) (f .kept) c in
+    let a : Replacing = call room (f .kept) l c in
+    let e : byAttempt (read room) (f .file) t ≡ byAttempt (readText room) (f .file) t = call-small room (f .file) t (k .0) in
+    let g : Agree room (byAttempt (read room) (f .file) t) (a, listAfter l a) =
+    subst (λ (x : Replacing × List ℕ). Agree room x (a, listAfter l a)) (sym e) (one-call room (f .file) l old (f .kept) c) in
+    let n : FileState = fileCall (read room) f c .1 in
+    let i : SameRun room (read room) n (g .l) calls = runs room calls n (g .l) (stays-small room (f .file) t h (k .0)) (g .reads) (k .1) in
+    let q : _≡_ {A = NodeState} (record { elements = g .l; kept = n .kept }) (nodesAfter (record { elements = l; kept = f .kept }) c a) =
+    λ j. record { elements = g .same j; kept = keptAfter (f .kept) c (g .answer j) } in
+    record {
+      answers = λ j. g .answer j ∷ (i .answers ∙ ap (λ (z : NodeState). listRun room z calls .0) q) j;
+      list = i .list ∙ ap (λ (z : NodeState). replaced (listRun room z calls .1 .elements)) q;
+      kept = i .kept ∙ ap (λ (z : NodeState). listRun room z calls .1 .kept) q;
+      places = (in-small room t (k .0) (call-in room (f .file) l old (f .kept) c), i .places);
+    }
 
 -- DEMAND 3: an accepted file, any calls, each file so tried at most 16 MiB
-pub demand3 : (room : ℕ) (calls : List (ℕ × List ℕ)) (s : List ℕ) (l : List Element) → read room s ≡ accepted l → Small (read room) s calls
-    → SameRun room (read room) s l calls
-demand3 room calls s l e k = let r : Short room s l = read-short room s l e in runs room calls s l (r .most) (r .text) k
+pub demand3 : (room : ℕ) (calls : List Call) (f : FileState) (l : List Element) → read room (f .file) ≡ accepted l → Small (read room) f calls → SameRun room (read room) f l calls
+demand3 room calls f l e k = let r : Short room (f .file) l = read-short room (f .file) l e in runs room calls f l (r .most) (r .text) k

@@ -21,6 +21,7 @@ pub mod Closing
 pub mod NodeEnds
 pub mod Tried
 pub mod Spliced
+pub mod Calls
 pub mod Demand
 pub mod Look
 pub mod Larger

@@ -9,11 +9,12 @@ use Rattle.room.specs.Room.{Room, roomLength, filledWith}
 use Rattle.valid.specs.Valid.{isValid}
 use Rattle.clf.specs.Reading.{accepted, read, readText}
 use Rattle.look.specs.Look.{Look, roomLengthOf}
+use Rattle.look.specs.Replacing.{Call}
 use Rattle.claims.specs.Cut.{Longer}
 use Rattle.claims.specs.Refusals.{Answered}
 use Rattle.claims.specs.Rules.{Allowed}
 use Rattle.claims.specs.TriedFile.{Small}
-use Rattle.claims.specs.LookRuns.{SameLook}
+use Rattle.claims.specs.LookRuns.{fresh, SameLook}
 
 -- a cut text answers 1 at its length, or what every longer text answers (`proofs/Cut`: `cut-law`)
 abbrev pub CutLaw : Type 0
@@ -32,6 +33,6 @@ AcceptedKeepsRules = (room : ℕ) (s : List ℕ) (l : List Element) → read roo
 abbrev pub AcceptedIsValid : Type 0
 AcceptedIsValid = (m : Room) (s : List ℕ) (l : List Element) → read (roomLength m) s ≡ accepted l → isValid (listOf (placed l)) (filledWith (allNumbers l) m) ≡ true
 
--- demand 3 on the definitions, from a look x into which any accepted file s is read, for any run of calls (`proofs/Look`: `demand3-look`). Premise: each tried file is at most 16 MiB
+-- demand 3 on the definitions, from a look x into which any accepted file s is read, for any run of calls of both kinds (`proofs/Look`: `demand3-look`). Premise: each tried file is at most 16 MiB
 abbrev pub Demand3OfLooks : Type 0
-Demand3OfLooks = (x : Look) (s : List ℕ) (l : List Element) (calls : List (ℕ × List ℕ)) → read (roomLengthOf x) s ≡ accepted l → Small (read (roomLengthOf x)) s calls → SameLook x s calls
+Demand3OfLooks = (x : Look) (s : List ℕ) (l : List Element) (calls : List Call) → read (roomLengthOf x) s ≡ accepted l → Small (read (roomLengthOf x)) (fresh s) calls → SameLook x s calls

@@ -5,21 +5,22 @@ use Prim.Native.Nat.{ℕ}
 use lib.ListN.{length, take, drop, length-map}
 use lib.Seq.{take-at}
 use Rattle.process_list.specs.declared.ProcessList.{ProcessList}
-use Rattle.process_list.specs.File.{file-list}
 use Rattle.process_list.specs.List.{allNumbers}
 use Rattle.room.specs.Room.{Room, roomLength, filledWith}
 use Rattle.clf.specs.Reading.{Reading, nodesIn, read}
 use Rattle.reading.specs.declared.Answer.{Answer}
 use Rattle.reading.specs.Code.{readingAnswer, ReadsInto}
-use Rattle.look.specs.Look.{Look, roomLengthOf, holding}
+use Rattle.look.specs.Look.{Look, roomLengthOf, asRead, holding}
+use Rattle.look.specs.Replacing.{Call}
 use Rattle.look.specs.Replacing as Replacing
 use Rattle.replacing.specs.Code.{lookOf}
 use Rattle.claims.specs.TriedFile.{fileRun}
-use Rattle.claims.specs.LookRuns.{readInto, lookRun, SameLook}
+use Rattle.claims.specs.LookRuns.{readInto, fresh, lookRun, SameLook}
 use Rattle.claims.proofs.Refusals.{number-accepted}
 use Rattle.claims.proofs.Look.{demand3-look}
-use Rattle.demand3.specs.Runs.{numbersSaid, placesSaid, CallsRun, Demand3, ReadAndReplaced}
-use Rattle.demand3.proofs.Laws.{length-answers}
+use Rattle.replace_run.specs.Runs.{numbersSaid, placesSaid, CallsRun}
+use Rattle.replace_run.proofs.Laws.{length-answers}
+use Rattle.demand3.specs.Demand.{Demand3, ReadAndReplaced}
 
 -- ---- what a reading leaves is the definition's look
 
@@ -38,10 +39,7 @@ read-look x s r m h =
 
 -- ---- the look after the run is a fresh reading's
 
-module _ (s : List ℕ) (calls : List (ℕ × List ℕ)) (m₀ : Room) where
-  abbrev file : List ℕ
-  file = fileRun (read (roomLength m₀)) s calls .1
-
+module _ (s : List ℕ) (calls : List Call) (m₀ : Room) where
   front : (f : Replacing.Replacing → ℕ) (x : Look) (a a₀ : List ℕ) → a ≡ map f (lookRun x calls .0) ++ drop (length calls) a₀ → take (length calls) a ≡ map f (lookRun x calls .0)
   front f x a a₀ e =
       let n : length (map f (lookRun x calls .0)) ≡ length calls = length-map (lookRun x calls .0) f ∙ length-answers x calls in
@@ -51,17 +49,18 @@ module _ (s : List ℕ) (calls : List (ℕ × List ℕ)) (m₀ : Room) where
       → Demand3 s m₀ calls (take (length calls) ns) (take (length calls) ps) y
   by-look x e d y ns₀ ps₀ ns ps t =
       subst (λ (m : Room). Demand3 s m calls (take (length calls) ns) (take (length calls) ps) y) e
-      (let v : y ≡ readInto x (fileRun (read (roomLengthOf x)) s calls .1) = t .left ∙ d .look in
+      (let file : List ℕ = fileRun (read (roomLengthOf x)) (fresh s) calls .1 .file in
+      let v : asRead y ≡ readInto x file = ap asRead (t .left) ∙ d .look in
       record {
         numbers = front _ (readInto x s) ns ns₀ (t .numbers) ∙ ap numbersSaid (d .answers);
         places = front _ (readInto x s) ps ps₀ (t .places) ∙ ap placesSaid (d .answers);
         inElement = d .places;
-        list = file-list (y .list) ∙ ap (λ (z : Look). z .list) v ∙ sym (list-is x (read (roomLengthOf x) (fileRun (read (roomLengthOf x)) s calls .1)));
-        room = ap (λ (z : Look). z .room) v ∙ sym (room-is x (read (roomLengthOf x) (fileRun (read (roomLengthOf x)) s calls .1)));
+        list = ap (λ (z : Look). z .list) v ∙ sym (list-is x (read (roomLengthOf x) file));
+        room = ap (λ (z : Look). z .room) v ∙ sym (room-is x (read (roomLengthOf x) file));
       })
 
 -- THE PROMISE: r is what reading answered, l the list that the run left
-pub promise : (s : List ℕ) (calls : List (ℕ × List ℕ)) (r : Answer) (l : ProcessList) (m₀ m m₁ : Room) (ns₀ ns₁ ps₀ ps₁ : List ℕ) → ReadsInto (read (roomLength m₀) s) r m₀ m
+pub promise : (s : List ℕ) (calls : List Call) (r : Answer) (l : ProcessList) (m₀ m m₁ : Room) (ns₀ ns₁ ps₀ ps₁ : List ℕ) → ReadsInto (read (roomLength m₀) s) r m₀ m
     → CallsRun (lookOf (r .list) m) calls ns₀ ps₀ (lookOf l m₁) ns₁ ps₁
     → ReadAndReplaced s calls (record { number = r .number; place = r .place; list = l }) m₀ m₁ ns₀ ns₁ ps₀ ps₁
 unfolding readingAnswer

@@ -1,10 +1,10 @@
--- Replacing a node by an element (document 01, Replacing): the element alone, the answer of a call, and the call by the list alone.
+-- Replacing a node by an element (document 01, Replacing; document 02, W-208): the element alone, the answer of a call, and the call by the list alone.
 use mathlib.Core.Path.{refl}
-use mathlib.Core.Bool.{cond}
+use mathlib.Core.Bool.{Bool, false, cond, _&&_}
 use mathlib.Core.List.{List, [], _∷_}
 use Prim.Native.Nat.{ℕ, _-_}
-use lib.Dec.{ltb}
-use lib.ListN.{length, set}
+use lib.Dec.{ltb, leb}
+use lib.ListN.{length, set, getD}
 use Rattle.process_list.specs.declared.Verdict.{Verdict}
 use Rattle.process_list.specs.List.{Element, verdict, byVerdict}
 use Rattle.grammar.specs.Parse.{Out, done, fault, cut}
@@ -38,7 +38,7 @@ pub data Replacing : Type 0 where
   replaced : List Element → Replacing
   refused : ℕ → ℕ → Replacing
 
--- ---- by the list alone: 'Replacing: 16, 19, 4 (the element alone), then the element's own fault, then 10, 13'. The list is a reading, so 16 does not arise
+-- ---- an unnumbered call by the list alone: 'Replacing: 16, 19, 4 (the element alone), then the element's own fault, then 10, 13'. The list is a reading, so 16 does not arise
 
 abbrev pub replacingBy : List Element → Verdict → Replacing
 replacingBy es = byVerdict (replaced es) refused
@@ -65,3 +65,48 @@ replace room es k e =
 abbrev pub listAfter : List Element → Replacing → List Element
 listAfter es (replaced new) = new
 listAfter es (refused n p) = es
+
+-- ---- numbered replacements (02, W-208)
+
+-- 'calls of both kinds': an unnumbered one is document 01's; the other has a number, 'whole and below 2^32' (`numberLimit`; the code's type has no larger ones)
+pub data Numbering : Type 0 where
+  unnumbered : Numbering
+  numbered : ℕ → Numbering
+
+-- a replacing call: the number of its node, from 1, its own number if it has one, and the bytes of its element
+pub record Call : Type 0 where
+  pub node : ℕ
+  pub numbering : Numbering
+  pub element : List ℕ
+
+-- the two kinds of call
+abbrev pub plainCall : ℕ → List ℕ → Call
+plainCall k e = record { node = k; numbering = unnumbered; element = e }
+
+abbrev pub numberedCall : ℕ → ℕ → List ℕ → Call
+numberedCall k n e = record { node = k; numbering = numbered n; element = e }
+
+-- the number kept with node k, from 1, of numbers kept place by place. `call` asks it of a node that is there alone: for any other k it is some other place's number, or 0, and decides nothing
+abbrev pub keptAt : List ℕ → ℕ → ℕ
+keptAt ks k = getD ks (k - 1) 0
+
+-- 'late exactly if that [the call's number] is not larger [than the kept one], so 0 is always late'
+abbrev pub isLate : ℕ → Numbering → Bool
+isLate kept unnumbered = false
+isLate kept (numbered n) = leb n kept
+
+-- a call by the list alone, of which these numbers are kept: '28, late, its place 0, between 19 and 4', so for a node that is there, whatever its element; 'any other answers as an unnumbered
+-- one does'. The order is 16, 19, 28, 4, the element's own fault, 10, 13
+unfoldable pub call : ℕ → List ℕ → List Element → Call → Replacing
+call room kept es c =
+    cond (isLate (keptAt kept (c .node)) (c .numbering) && isNumbered (c .node) (length es)) (refused Refusal.late 0) (replace room es (c .node) (c .element))
+
+-- 'Keep with each node the number of the newest replacement accepted there'; 'Unnumbered replacing leaves the kept number'
+abbrev pub keptBy : List ℕ → ℕ → Numbering → List ℕ
+keptBy kept k unnumbered = kept
+keptBy kept k (numbered n) = set kept (k - 1) n
+
+-- the kept numbers after the call; a refusal changes none of them, whatever its reason
+abbrev pub keptAfter : List ℕ → Call → Replacing → List ℕ
+keptAfter kept c (replaced es) = keptBy kept (c .node) (c .numbering)
+keptAfter kept c (refused n p) = kept

@@ -34,7 +34,8 @@ use Rattle.node_parts.proofs.Held.{went-either, child-refused, child-body, held
 use Rattle.node_parts.proofs.Reading.{to-map, to-then, to-failed, to-part, numbers-to, text-to, node-reads, node-failed, finished-is, NodeIs}
 use Rattle.range_node.specs.Code.{rangeFaultOf, missingOf, fourZeros, RangeStands, withScan, noneFound}
 use Rattle.range_node.specs.declared.RangeStep.{RangeStep}
-use Rattle.range_node.proofs.Values.{map-set, small-one, faults, lacking, numbers}
+use Rattle.process_list.proofs.Maps.{map-set}
+use Rattle.range_node.proofs.Values.{small-one, faults, lacking, numbers}
 
 -- another answer leaves the rest of a state as it is
 kept : (m : Room) (state : RangeStep) (r : Scan) (st : RangeState) → RangeStands m state st → RangeStands m (withScan state r) st

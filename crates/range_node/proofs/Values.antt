@@ -22,11 +22,6 @@ use Rattle.range_node.specs.declared.RangeStep.{RangeStep}
 
 -- ---- one value more
 
-pub map-set : {A B : Type 0} (f : A → B) (l : List A) (k : ℕ) (a : A) → map f (set l k a) ≡ set (map f l) k (f a)
-map-set f [] k a = refl
-map-set f (x ∷ l) zero a = refl
-map-set {B = B} f (x ∷ l) (suc k) a = ap (λ (m : List B). f x ∷ m) (map-set f l k a)
-
 numbers-set : (c p : List ℤ) (k : ℕ) (d : Decimal) → numbersFrom (set c k (d .coefficient)) (set p k (d .power)) ≡ set (numbersFrom c p) k d
 numbers-set [] p k d = refl
 numbers-set (x ∷ c) [] zero d = refl

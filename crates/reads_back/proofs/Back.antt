@@ -7,15 +7,14 @@ use native.Mathlib.Omega.{arith}
 use lib.Dec.{ltb}
 use lib.ListN.{length}
 use borrow.Author.Tests.{le-ltb}
-use Rattle.process_list.specs.declared.ProcessList.{ProcessList}
 use Rattle.process_list.specs.declared.Verdict.the-variants.{Accepted}
 use Rattle.process_list.specs.List.{Element, nodeOf, allNumbers, placed, verdict}
-use Rattle.process_list.specs.File.{fileList, file-list}
+use Rattle.process_list.specs.File.{fileList}
 use Rattle.process_list.proofs.Lists.{list-length, heads-length, fine-accepted}
 use Rattle.room.specs.Room.{filledWith}
 use Rattle.room.proofs.Rooms.{filled-room, filled-equal, filled-beyond}
 use Rattle.valid.specs.Valid.{every, sound, isValid}
-use Rattle.valid.proofs.Readings.{all-length, parts}
+use Rattle.valid.proofs.Readings.{all-length, parts, valid-file}
 use Rattle.valid.proofs.Readings as Readings
 use Rattle.grammar.specs.Parse.{Out, done, before, thenOut, retP, keptOut, loopP}
 use Rattle.grammar.specs.Laws.{nope}
@@ -25,15 +24,15 @@ use Rattle.xml.specs.Elements.{misc, between}
 use Rattle.clf.specs.List.{noFlags, Document, listContent, document, tail}
 use Rattle.clf.specs.Reading.{accepted, faulty, unfit, mostBytes, nodesAmong, nodesIn, readingBy, listReading, tailReading, textReading, readText, read}
 use Rattle.clf.specs.Reading as Reading
-use Rattle.look.specs.Look.{Look, roomLengthOf, holding}
+use Rattle.look.specs.Look.{Look, roomLengthOf, asRead, holding}
 use Rattle.claims.specs.LookRuns.{readInto}
 use Rattle.claims.proofs.Rules.{WholeElements, whole-rules, accepted-rules, read-short, text-elements}
-use Rattle.claims.proofs.Look.{held-valid}
+use Rattle.claims.proofs.Look.{freshNodes, shows-fresh, shown-valid}
 use Rattle.written_form.specs.Written.{joined, listLines, refused, written, isIdByte, idRight, fitting, writeOf}
 use Rattle.written_form.proofs.Tail.{nodesText, headText, listText, list-text}
 use Rattle.written_form.proofs.Short.{elements-short}
 use Rattle.claims.specs.Rules.{Allowed}
-use Rattle.reads_back.specs.Back.{ReadAs, HasPlaces, Valid, elementsHeld, writing, EqualRoom, asRead, ReadingLeaves, ReadingLeavesIn, WrittenReadsBack, WrittenReadsIn, Refusal16, ExactlyAllowed}
+use Rattle.reads_back.specs.Back.{ReadAs, HasPlaces, Valid, elementsHeld, writing, EqualRoom, ReadingLeaves, ReadingLeavesIn, WrittenReadsBack, WrittenReadsIn, Refusal16, ExactlyAllowed}
 use Rattle.reads_back.proofs.Items.{Item, items-from, line-item, Read, nodes-read}
 use Rattle.reads_back.proofs.Heads.{Id, id-parts, rootAttributes, head-reads}
 
@@ -134,7 +133,7 @@ module _ (x : Look) (p : HasPlaces x) (v : Valid x) where
 
   holding-self : holding x (elementsHeld x) ≡ asRead x
   unfolding holding
-  holding-self = λ i. record { list = (sym (reading .list) ∙ sym (file-list (x .list))) i; room = sym (reading .room) i }
+  holding-self = λ i. record { list = sym (reading .list) i; room = sym (reading .room) i }
 
   -- in a room that holds the numbers
   module _ (y : Look) (h : length (allNumbers (elementsHeld x)) ≤ roomLengthOf y) where
@@ -143,7 +142,7 @@ module _ (x : Look) (p : HasPlaces x) (v : Valid x) where
 
     holding-in : (holding y (elementsHeld x) .list ≡ fileList (x .list)) × (holding y (elementsHeld x) .room ≡ filledWith (allNumbers (elementsHeld x)) (y .room))
     unfolding holding
-    holding-in = (sym (reading .list) ∙ sym (file-list (x .list)), refl)
+    holding-in = (sym (reading .list), refl)
 
     pub valid-reads-in : (id : List ℕ) → idRight id ≡ true → ReadingLeavesIn y (joined (listLines id (elementsHeld x))) x
     valid-reads-in id i =
@@ -204,17 +203,13 @@ written-reads-in x p id out text e y h =
 
 -- ---- refusal 16
 
--- all that list and room hold is of the file
-pub read-self : (x : Look) → asRead x ≡ x
-read-self x = ap (λ (l : ProcessList). record { list = l; room = x .room }) (file-list (x .list))
-
--- what an accepted reading leaves, whatever list and room held before, is valid
+-- what an accepted reading leaves, whatever list and room held before, is valid; and with it every list and room of which a file says the same, since 16 ignores the kept numbers
 pub left-valid : (y : Look) (file : List ℕ) (x : Look) → ReadingLeaves y file x → Valid x
 left-valid y file x l =
     let es : List Element = (l .nodes) in
     let w : WholeElements (roomLengthOf y) es = accepted-whole (roomLengthOf y) file (l .nodes) (l .accepted) in
-    let q : holding y es ≡ x = ap (λ (z : Reading.Reading). holding y (nodesIn z)) (sym (l .accepted)) ∙ l .look ∙ read-self x in
-    subst Valid q (held-valid y es w)
+    let q : holding y es ≡ asRead x = ap (λ (z : Reading.Reading). holding y (nodesIn z)) (sym (l .accepted)) ∙ l .look in
+    sym (valid-file (x .list) (x .room)) ∙ subst Valid q (shown-valid y (freshNodes es) w (holding y es) (shows-fresh y es))
 
 itself : (x : Look) → EqualRoom x x
 itself x = record { room = refl; behind = refl }

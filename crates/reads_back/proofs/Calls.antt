@@ -1,8 +1,7 @@
 -- From what the functions ensure to what is promised of them: reading back, and refusal 16 both ways. Assumes nothing.
 use mathlib.Core.Path.{_≡_, refl, sym, ap, subst, _∙_}
-use mathlib.Core.Logic.{_↔_, _⊎_, inl, inr}
 use mathlib.Core.Bool.{Bool, true, false, cond, not}
-use mathlib.Core.List.{List, [], _∷_}
+use mathlib.Core.List.{List, [], _∷_, map}
 use Prim.Native.Nat.{ℕ, _-_, _≤_}
 use native.Mathlib.Omega.{arith}
 use borrow.Author.Tests.{ltb-false, le-leb}
@@ -10,39 +9,39 @@ use lib.Dec.{ltb}
 use lib.Ieee.{Float}
 use lib.ListN.{length, take, drop}
 use lib.Seq.{take-at}
-use Rattle.grammar.specs.Parse.{Out, done, fault, cut}
 use Rattle.grammar.specs.Laws.{nope}
 use Rattle.process_list.specs.declared.ProcessList.{ProcessList}
-use Rattle.process_list.specs.declared.Verdict.{Verdict}
-use Rattle.process_list.specs.declared.Verdict.the-variants.{Accepted, NoNode, TooManyNodes, DepthDiffers, TooManyNumbers}
-use Rattle.process_list.specs.List.{Element, verdict}
+use Rattle.process_list.specs.declared.Node.{Node}
+use Rattle.process_list.specs.File.{fileNode, keeping}
+use Rattle.process_list.specs.List.{Element, nodesOf}
+use Rattle.process_list.proofs.Files.{file-nodes, file-keeping}
 use Rattle.room.specs.Room.{Room, roomLength}
 use Rattle.valid.specs.Valid.{isValid, elementsOf}
+use Rattle.valid.proofs.Readings.{valid-file, elements-file}
 use Rattle.tags.specs.Code.{partIn}
 use Rattle.clf.specs.Description.{bytesOf, partAsked, descriptionPart}
-use Rattle.clf.specs.Reading.{Reading, accepted, faulty, unfit, mostBytes, readingNumber, isNumbered, descriptionAsked, read}
+use Rattle.clf.specs.Reading.{Reading, accepted, faulty, unfit, readingNumber, descriptionAsked, read}
 use Rattle.reading.specs.declared.Answer.{Answer}
 use Rattle.reading.specs.declared.Checked.{Checked}
 use Rattle.reading.specs.Code.{checkedOf, ReadsInto}
 use Rattle.reading.specs.Code as Reads
-use Rattle.look.specs.Look.{Look, replaceIn}
-use Rattle.look.specs.Replacing.{element, replacingBy, listed, byElement, replace}
+use Rattle.look.specs.Look.{Look, asRead, keptOf, callIn}
+use Rattle.look.specs.Replacing.{Call, call}
 use Rattle.look.specs.Replacing as Replacing
 use Rattle.replacing.specs.Code.{lookOf, Replaced}
 use Rattle.replacing.specs.Code as Replaces
-use Rattle.claims.specs.Refusals.{isTextFault}
 use Rattle.claims.specs.LookRuns.{readInto}
-use Rattle.claims.proofs.Refusals.{element-faults}
+use Rattle.claims.proofs.Calls.{isCallFault, call-number}
 use Rattle.pixel_run.specs.Finite.{firstNotFinite}
 use Rattle.running.specs.declared.Ran.{Ran}
-use Rattle.running.specs.Running.{notThrees, notFinite, ran, ranOf, pixelsOf}
+use Rattle.running.specs.Running.{preparedOf, rowsOf, runNode, runNodes, notThrees, notFinite, ran, ranOf, pixelsOf}
 use Rattle.written_form.specs.Written.{joined, listLines, Writing, refused, written, idRight, fitting, writeOf, outputOf}
 use Rattle.written_form.specs.Written as Text
 use Rattle.writing.specs.declared.Written.{Written}
 use Rattle.writing.specs.Writing.{writingAnswer}
 use Rattle.demand3.proofs.Whole.{read-look}
-use Rattle.reads_back.specs.Back.{HasPlaces, SomeReading, asRead, ReadingLeaves, ReadingLeavesIn, writing}
-use Rattle.reads_back.specs.Calls.{ReadBack, ReadIn, WroteAndRead, Refuses16, WriteRefuses, RunRefuses, ReplaceRefuses, CheckedAndRead, Describes}
+use Rattle.reads_back.specs.Back.{HasPlaces, SomeReading, ReadingLeaves, ReadingLeavesIn, writing}
+use Rattle.reads_back.specs.Calls.{ReadBack, ReadIn, WroteAndRead, IsReading, Refuses16, WriteRefuses, RunRefuses, ReplaceRefuses, CheckedAndRead, Describes}
 use Rattle.reads_back.proofs.Back.{written-reads-back, written-reads-in, refusal-16}
 
 -- ---- reading back
@@ -149,8 +148,31 @@ refuses x p n f g = (λ e s. f (refusal-16 x p .1 s) e, λ z. go (isValid (x .li
     go true e z = absurd (z (refusal-16 x p .0 e))
     go false e z = g e
 
-pub valid-both : (x : Look) → HasPlaces x → (r : Bool) → r ≡ isValid (x .list) (x .room) → (r ≡ true) ↔ SomeReading x
-valid-both x p r e = (λ z. refusal-16 x p .0 (sym e ∙ z), λ s. e ∙ refusal-16 x p .1 s)
+pub valid-both : (x : Look) → HasPlaces x → (r : Bool) → r ≡ isValid (x .list) (x .room) → IsReading x r
+valid-both x p r e = record {
+  both = (λ z. refusal-16 x p .0 (sym e ∙ z), λ s. e ∙ refusal-16 x p .1 s);
+  ignores = λ kept.
+      e ∙ sym (valid-file (x .list) (x .room)) ∙ ap (λ (l : ProcessList). isValid l (x .room)) (sym (file-keeping kept (x .list)))
+      ∙ valid-file (keeping kept (x .list)) (x .room);
+}
+
+-- what is written and what comes of pixels does not look at the kept numbers
+write-unseen : (x : Look) (id : List ℕ) (n : ℕ) → writing x id n ≡ writing (asRead x) id n
+unfolding writeOf
+write-unseen x id n = rw (valid-file (x .list) (x .room), elements-file (x .list) (x .room)) refl
+
+nodes-unseen : (m : Room) (ns : List Node) (xs : List Float) → runNodes m ns xs ≡ runNodes m (map fileNode ns) xs
+unfolding runNodes runNode preparedOf rowsOf
+nodes-unseen m [] xs = refl
+nodes-unseen m (n ∷ ns) xs = nodes-unseen m ns (runNode m n xs)
+
+ran-unseen : (x : Look) (xs : List Float) → ranOf (x .list) (x .room) xs ≡ ranOf (asRead x .list) (asRead x .room) xs
+unfolding ranOf
+ran-unseen x xs = rw (valid-file (x .list) (x .room)) refl
+
+run-unseen : (x : Look) (xs : List Float) → pixelsOf (x .list) (x .room) xs ≡ pixelsOf (asRead x .list) (asRead x .room) xs
+unfolding pixelsOf
+run-unseen x xs = rw (← ran-unseen x xs, file-nodes (x .list), ← nodes-unseen (x .room) (nodesOf (x .list)) xs) refl
 
 pub write-refuses : (x : Look) → HasPlaces x → (id : List ℕ) (r : Written) (out₀ out₁ : List ℕ) → r ≡ writingAnswer (writing x id (length out₀)) → out₁ ≡ outputOf (writing x id (length out₀)) out₀
     → WriteRefuses x id r out₀ out₁
@@ -158,6 +180,7 @@ unfolding writeOf fitting
 write-refuses x p id r out₀ out₁ e o = record {
   answer = e;
   output = o;
+  unseen = write-unseen x id (length out₀);
   refuses = refuses x p (r .number)
       (λ v z. valid (isValid (x .list) (x .room)) (idRight id) (ltb (length out₀) (length text)) v (sym (ap (λ (w : Written). w .number) e) ∙ z))
       (λ v. ap (λ (w : Written). w .number) e ∙ ap (λ (b : Bool). Text.writingNumber
@@ -178,6 +201,8 @@ unfolding ranOf
 run-refuses x p r xs ys e o = record {
   answer = e;
   pixels = o;
+  unseen = ran-unseen x xs;
+  unseenPixels = run-unseen x xs;
   refuses = refuses x p (r .number)
       (λ v z. valid (isValid (x .list) (x .room)) (notThrees xs) (notFinite xs) v (sym (ap (λ (w : Ran). w .number) e) ∙ z))
       (λ v. ap (λ (w : Ran). w .number) e ∙ ap (λ (b : Bool). cond (not b) (ran 16 0) rest .number) v);
@@ -193,43 +218,20 @@ run-refuses x p r xs ys e o = record {
     valid false b c v z = nope cc
 
 -- replacing by the list alone never answers 16
-verdict-not : (es : List Element) (v : Verdict) → Replaces.replacingNumber (replacingBy es v) ≡ 16 → ⊥
-verdict-not es Accepted z = omega arith
-verdict-not es NoNode z = omega arith
-verdict-not es TooManyNodes z = omega arith
-verdict-not es (DepthDiffers k) z = omega arith
-verdict-not es TooManyNumbers z = omega arith
+call-not : (room : ℕ) (kept : List ℕ) (es : List Element) (c : Call) (a : Replacing.Replacing) → call room kept es c ≡ a → Replaces.replacingNumber a ≡ 16 → ⊥
+call-not room kept es c (Replacing.replaced new) e z = omega arith
+call-not room kept es c (Replacing.refused n p) e z = let f : false ≡ true = sym (ap isCallFault z) ∙ call-number room kept es c n p e in nope cc
 
-fault-not : (j : ℕ) → (isTextFault j ≡ true) ⊎ (j ≡ 20) → j ≡ 16 → ⊥
-fault-not j (inl a) z = let f : false ≡ true = sym (ap isTextFault z) ∙ a in nope cc
-fault-not j (inr a) z = omega arith
-
-element-not : (room : ℕ) (es : List Element) (k : ℕ) (e : List ℕ) (o : Out Element) → element .run e ≡ o → Replaces.replacingNumber (byElement room es k e o) ≡ 16 → ⊥
-unfolding listed
-element-not room es k e (done n []) q z = verdict-not _ (verdict room _) z
-element-not room es k e (done n (b ∷ r)) q z = omega arith
-element-not room es k e (fault j r) q z = fault-not j (element-faults e j r q) z
-element-not room es k e cut q z = omega arith
-
-replace-not : (room : ℕ) (es : List Element) (k : ℕ) (e : List ℕ) → Replaces.replacingNumber (replace room es k e) ≡ 16 → ⊥
-unfolding replace
-replace-not room es k e = go (isNumbered k (length es)) (ltb mostBytes (length e))
-  where
-    go : (a b : Bool) → Replaces.replacingNumber (cond a (cond b (Replacing.refused 4 0) (byElement room es k e (element .run e))) (Replacing.refused 19 0)) ≡ 16 → ⊥
-    go true true z = omega arith
-    go true false z = element-not room es k e (element .run e) refl z
-    go false b z = omega arith
-
-pub replace-refuses : (l : ProcessList) (m₀ : Room) → HasPlaces (lookOf l m₀) → (k : ℕ) (e : List ℕ) (r : Answer) (m₁ : Room) → Replaced l m₀ k e r m₁ → ReplaceRefuses l m₀ k e r m₁
-unfolding Replaces.replacingAnswer replaceIn
-replace-refuses l m₀ p k e r m₁ h =
+pub replace-refuses : (l : ProcessList) (m₀ : Room) → HasPlaces (lookOf l m₀) → (c : Call) (r : Answer) (m₁ : Room) → Replaced l m₀ c r m₁ → ReplaceRefuses l m₀ c r m₁
+unfolding Replaces.replacingAnswer callIn
+replace-refuses l m₀ p c r m₁ h =
     let x : Look = lookOf l m₀ in
-    let a : Replacing.Replacing = replace (roomLength m₀) (elementsOf l m₀) k e in
-    let q : r .number ≡ Replaces.replacingNumber (replaceIn x k e) = ap (λ (y : Answer). y .number) (h .answer) in
+    let a : Replacing.Replacing = call (roomLength m₀) (keptOf x) (elementsOf l m₀) c in
+    let q : r .number ≡ Replaces.replacingNumber (callIn x c) = ap (λ (y : Answer). y .number) (h .answer) in
     record {
       leaves = h;
       refuses = refuses x p (r .number)
-          (λ v z. replace-not (roomLength m₀) (elementsOf l m₀) k e (ap (λ (b : Bool). Replaces.replacingNumber (cond b a (Replacing.refused 16 0))) (sym v) ∙ sym q ∙ z))
+          (λ v z. call-not (roomLength m₀) (keptOf x) (elementsOf l m₀) c a refl (ap (λ (b : Bool). Replaces.replacingNumber (cond b a (Replacing.refused 16 0))) (sym v) ∙ sym q ∙ z))
           (λ v. q ∙ ap (λ (b : Bool). Replaces.replacingNumber (cond b a (Replacing.refused 16 0))) v);
     }
 

@@ -2,16 +2,15 @@
 use mathlib.Core.Path.{_≡_}
 use mathlib.Core.Logic.{_↔_}
 use mathlib.Core.Bool.{true}
-use mathlib.Core.List.{List, map}
-use Prim.Native.Nat.{ℕ, _≤_, _<_, min}
+use mathlib.Core.List.{List}
+use Prim.Native.Nat.{ℕ, _≤_}
 use lib.ListN.{length}
 use Rattle.process_list.specs.File.{fileList}
-use Rattle.process_list.specs.List.{Element, mostNodes, mostNumbers, nodeOf, allNumbers, firstDiffers}
+use Rattle.process_list.specs.List.{Element, mostNodes, allNumbers}
 use Rattle.room.specs.Room.{beyond, filledWith}
-use Rattle.valid.specs.Valid.{every, sound, isValid, elementsOf}
+use Rattle.valid.specs.Valid.{isValid, elementsOf}
 use Rattle.clf.specs.Reading.{accepted, read}
-use Rattle.clf.specs.Reading as Reading
-use Rattle.look.specs.Look.{Look, roomLengthOf}
+use Rattle.look.specs.Look.{Look, roomLengthOf, asRead}
 use Rattle.claims.specs.LookRuns.{readInto}
 use Rattle.claims.specs.Rules.{Allowed}
 use Rattle.written_form.specs.Written.{Writing, written, writeOf}
@@ -45,10 +44,6 @@ pub record EqualRoom (x y : Look) : Type 0 where
   pub room : roomLengthOf y ≡ roomLengthOf x
   pub behind : beyond (y .room) ≡ beyond (x .room)
 
--- what a file says of list and room
-abbrev pub asRead : Look → Look
-asRead x = record { list = fileList (x .list); room = x .room }
-
 -- reading the file into y is accepted, and leaves the list and room x, by what a file says of them
 pub record ReadingLeaves (y : Look) (file : List ℕ) (x : Look) : Type 0 where
   pub nodes : List Element
@@ -62,11 +57,12 @@ pub record ReadingLeavesIn (y : Look) (file : List ℕ) (x : Look) : Type 0 wher
   pub list : readInto y file .list ≡ fileList (x .list)
   pub room : readInto y file .room ≡ filledWith (allNumbers (elementsHeld x)) (y .room)
 
--- 'list and room are [an] accepted reading of [some] file into that room'
+-- 'list and room are [an] accepted reading of [some] file into that room', by what a file says of them: '16 ignores' the kept numbers
 abbrev pub SomeReading : Look → Type 0
 SomeReading x = (file : List ℕ) × ReadingLeaves x file x
 
--- DEMAND 2, its last part. Whatever text writing answers for list and room is accepted, and leaves this very list and room, when it is read into equal room
+-- DEMAND 2, its last part. Whatever text writing answers for list and room is accepted, and leaves this very list and room, by what a file says of them, when it is read into equal room: the kept
+-- numbers, 'read back', are 0
 abbrev pub WrittenReadsBack : Look → Type 0
 WrittenReadsBack x = (id : List ℕ) (out : ℕ) (text : List ℕ) → writing x id out ≡ written text → (y : Look) → EqualRoom x y → ReadingLeaves y text x
 
@@ -74,7 +70,7 @@ WrittenReadsBack x = (id : List ℕ) (out : ℕ) (text : List ℕ) → writing x
 abbrev pub WrittenReadsIn : Look → Type 0
 WrittenReadsIn x = (id : List ℕ) (out : ℕ) (text : List ℕ) → writing x id out ≡ written text → (y : Look) → length (allNumbers (elementsHeld x)) ≤ roomLengthOf y → ReadingLeavesIn y text x
 
--- REFUSAL 16, both ways: list and room pass exactly if they are the accepted reading of some file into that room
+-- REFUSAL 16, both ways: list and room pass exactly if, by what a file says of them, they are the accepted reading of some file into that room
 abbrev pub Refusal16 : Look → Type 0
 Refusal16 x = Valid x ↔ SomeReading x
 

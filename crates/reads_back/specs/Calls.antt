@@ -1,6 +1,7 @@
 -- What is promised of the code: a list written out and read back, refusal 16 of every function that gives it, the file check beside reading, and a Description beside its number.
 use mathlib.Core.Path.{_≡_}
 use mathlib.Core.Logic.{_↔_}
+use mathlib.Core.Bool.{Bool, true}
 use mathlib.Core.List.{List}
 use Prim.Native.Nat.{ℕ, _≤_}
 use lib.Ieee.{Float}
@@ -9,11 +10,13 @@ use Rattle.process_list.specs.File.{fileList}
 use Rattle.process_list.specs.declared.ProcessList.{ProcessList}
 use Rattle.process_list.specs.List.{allNumbers}
 use Rattle.room.specs.Room.{Room, roomLength, filledWith}
+use Rattle.valid.specs.Valid.{isValid}
 use Rattle.clf.specs.Reading.{read, descriptionAsked}
 use Rattle.clf.specs.Description.{descriptionPart, bytesOf}
 use Rattle.reading.specs.declared.Answer.{Answer}
 use Rattle.reading.specs.Code.{checkedOf, ReadsInto}
-use Rattle.look.specs.Look.{Look}
+use Rattle.look.specs.Look.{Look, asRead, withKept}
+use Rattle.look.specs.Replacing.{Call}
 use Rattle.replacing.specs.Code.{lookOf, Replaced}
 use Rattle.running.specs.declared.Ran.{Ran}
 use Rattle.running.specs.Running.{ranOf, pixelsOf}
@@ -27,7 +30,7 @@ use Rattle.reads_back.specs.Back.{SomeReading, EqualRoom, elementsHeld, 
 
 -- ---- 'a list written out reads back as that list'
 
--- a reading that is accepted and leaves the list and room x, by what a file says of them
+-- a reading that is accepted and leaves the list and room x, by what a file says of them: each kept number, 'read back', is 0
 pub record ReadBack (x : Look) (r : Answer) (m₁ : Room) : Type 0 where
   pub number : r .number ≡ 0
   pub list : r .list ≡ fileList (x .list)
@@ -39,8 +42,8 @@ pub record ReadIn (x : Look) (r : Answer) (m₀ m₁ : Room) : Type 0 where
   pub list : r .list ≡ fileList (x .list)
   pub room : m₁ ≡ filledWith (allNumbers (elementsHeld x)) m₀
 
--- list and room x written under an id into an output, and the text read into the room m₀: what both answer and leave, for all inputs; and, where the text was written,
--- the same list is back with its numbers in every room that holds them, and list and room are the very same in equal room
+-- list and room x written under an id into an output, and the text read into the room m₀: what both answer and leave, for all inputs; and, where the text was written, the list is back, by what
+-- a file says of it, with its numbers in every room that holds them, and in equal room the very same room too
 pub record WroteAndRead (x : Look) (id : List ℕ) (r : WrittenRead) (out₀ out₁ : List ℕ) (m₀ m₁ : Room) : Type 0 where
   pub wrote : r .wrote ≡ writingAnswer (writing x id (length out₀))
   pub output : out₁ ≡ outputOf (writing x id (length out₀)) out₀
@@ -50,6 +53,11 @@ pub record WroteAndRead (x : Look) (id : List ℕ) (r : WrittenRead) (out₀ out
 
 -- ---- 16, 'list and room are no accepted reading of any file into that room', both ways
 
+-- whether list and room are some file's accepted reading: '16 ignores' the kept numbers, so that with any others the answer is the same
+pub record IsReading (x : Look) (r : Bool) : Type 0 where
+  pub both : (r ≡ true) ↔ SomeReading x
+  pub ignores : (kept : List ℕ) → r ≡ isValid (withKept kept x .list) (x .room)
+
 -- a call on list and room answers this number
 abbrev pub Refuses16 : Look → ℕ → Type 0
 Refuses16 x n = (n ≡ 16) ↔ (SomeReading x → ⊥)
@@ -58,14 +66,20 @@ pub record WriteRefuses (x : Look) (id : List ℕ) (r : Written) (out₀ out₁ 
   pub answer : r ≡ writingAnswer (writing x id (length out₀))
   pub output : out₁ ≡ outputOf (writing x id (length out₀)) out₀
   pub refuses : Refuses16 x (r .number)
+  -- 'Files don't carry them': no text depends on a kept number
+  pub unseen : writing x id (length out₀) ≡ writing (asRead x) id (length out₀)
 
 pub record RunRefuses (x : Look) (r : Ran) (pixels₀ pixels₁ : List Float) : Type 0 where
   pub answer : r ≡ ranOf (x .list) (x .room) pixels₀
   pub pixels : pixels₁ ≡ pixelsOf (x .list) (x .room) pixels₀
   pub refuses : Refuses16 x (r .number)
+  -- nor does a pixel
+  pub unseen : ranOf (x .list) (x .room) pixels₀ ≡ ranOf (asRead x .list) (asRead x .room) pixels₀
+  pub unseenPixels : pixelsOf (x .list) (x .room) pixels₀ ≡ pixelsOf (asRead x .list) (asRead x .room) pixels₀
 
-pub record ReplaceRefuses (l : ProcessList) (m₀ : Room) (k : ℕ) (e : List ℕ) (r : Answer) (m₁ : Room) : Type 0 where
-  pub leaves : Replaced l m₀ k e r m₁
+-- a replacing call of either kind
+pub record ReplaceRefuses (l : ProcessList) (m₀ : Room) (c : Call) (r : Answer) (m₁ : Room) : Type 0 where
+  pub leaves : Replaced l m₀ c r m₁
   pub refuses : Refuses16 (lookOf l m₀) (r .number)
 
 -- ---- the file check says what reading says

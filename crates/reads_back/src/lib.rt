@@ -1,11 +1,8 @@
 // What is promised of the code together, each as a contract here: a list written out and read back (demand 2), refusal 16 of every function that gives it,
 // the file check beside reading, a Description beside its number.
-ghost use mathlib.Core.Path.{_≡_};
-ghost use mathlib.Core.Bool.{true};
-ghost use mathlib.Core.Logic.{_↔_};
+ghost use Rattle.look.specs.Replacing.{plainCall, numberedCall};
 ghost use Rattle.room.specs.Room.{lent};
 ghost use Rattle.replacing.specs.Code.{lookOf};
-ghost use Rattle.reads_back.specs.Back as Back;
 ghost use Rattle.reads_back.specs.Calls as Calls;
 use process_list::ProcessList;
 use reading::Answer;
@@ -38,14 +35,14 @@ pub fn write_and_read(
     WrittenRead { wrote, answer }
 }
 
-// Whether list and room are some file's accepted reading.
+// Whether list and room, but for the kept numbers, are some file's accepted reading.
 pub fn is_reading(list: ProcessList, coefficients: &[i64], powers: &[i8]) -> bool
-    ensures { λ r. ⌜ ((r ≡ true) ↔ Back.SomeReading (lookOf list (lent (now (coefficients .entry)) (now (powers .entry))))) ⌝ }
+    ensures { λ r. ⌜ Calls.IsReading (lookOf list (lent (now (coefficients .entry)) (now (powers .entry)))) r ⌝ }
 {
     valid::valid(list, coefficients, powers)
 }
 
-// `writing::write`, whose 16 is given exactly where list and room are no reading.
+// `writing::write`, whose 16 is given exactly where list and room, but for the kept numbers, are no reading.
 pub fn write_reading(
     list: ProcessList,
     coefficients: &[i64],
@@ -78,9 +75,25 @@ pub fn replace_reading(
     k: usize,
     element: &[u8],
 ) -> Answer
-    ensures { λ r. ⌜ Calls.ReplaceRefuses list (lent (now (coefficients .entry)) (now (powers .entry))) k (now (element .entry)) r (lent (now (coefficients .exit)) (now (powers .exit))) ⌝ }
+    ensures { λ r. ⌜ Calls.ReplaceRefuses list (lent (now (coefficients .entry)) (now (powers .entry))) (plainCall k (now (element .entry))) r
+        (lent (now (coefficients .exit)) (now (powers .exit))) ⌝ }
 {
     replacing::replace(list, coefficients, powers, k, element)
+}
+
+// `replacing::replace_numbered` likewise.
+pub fn replace_numbered_reading(
+    list: ProcessList,
+    coefficients: &mut [i64],
+    powers: &mut [i8],
+    k: usize,
+    number: u32,
+    element: &[u8],
+) -> Answer
+    ensures { λ r. ⌜ Calls.ReplaceRefuses list (lent (now (coefficients .entry)) (now (powers .entry))) (numberedCall k number (now (element .entry))) r
+        (lent (now (coefficients .exit)) (now (powers .exit))) ⌝ }
+{
+    replacing::replace_numbered(list, coefficients, powers, k, number, element)
 }
 
 // What the file check said, and what reading then answered.

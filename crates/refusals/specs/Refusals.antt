@@ -1,4 +1,4 @@
--- The refusal numbers of document 01 (Refusal numbers), each with its words there. 0 is 'accepted', and no fault.
+-- The refusal numbers of document 01 (Refusal numbers) and document 02 (from 23 on), each with its words there. 0 is 'accepted', and no fault.
 use Prim.Native.Nat.{ℕ}
 
 -- 'bytes end inside something unfinished or before the root'
@@ -88,3 +88,7 @@ ruleBroken = 21
 -- 'too few or too many numbers'
 abbrev pub wrongCount : ℕ
 wrongCount = 22
+
+-- 'late' (02, W-208)
+abbrev pub late : ℕ
+late = 28

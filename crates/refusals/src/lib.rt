@@ -1,4 +1,4 @@
-// The refusal numbers of document 01 (Refusal numbers), each with its words there. 0 is accepted, and no fault.
+// The refusal numbers of document 01 (Refusal numbers) and document 02 (from 23 on), each with its words there. 0 is accepted, and no fault.
 
 // bytes end inside something unfinished or before the root
 pub const CUT_SHORT: u8 = 1;
@@ -65,3 +65,6 @@ pub const RULE_BROKEN: u8 = 21;
 
 // too few or too many numbers
 pub const WRONG_COUNT: u8 = 22;
+
+// late (02, W-208): a numbered replacement whose number is not larger than the one kept at its node
+pub const LATE: u8 = 28;

@@ -1,10 +1,10 @@
 -- The element in the place of node k: the verdict over the list, and list and room afterwards. Assumes nothing.
 use mathlib.Core.Path.{_≡_, refl, sym, ap, _∙_, subst}
-use mathlib.Core.List.{List, [], _∷_, map}
-use Prim.Native.Nat.{ℕ, zero, suc, _+_, _-_, _≤_, _<_}
+use mathlib.Core.List.{List, [], map}
+use Prim.Native.Nat.{ℕ, _+_, _-_, _≤_, _<_}
 use native.Mathlib.Omega.{arith}
 use native.Mathlib.Nat.{zero-add}
-use lib.ListN.{length, take, set, getD, length-set}
+use lib.ListN.{length, take, set, getD, length-set, List·getD-map}
 use lib.Seq.{getD-set-same}
 use Rattle.decimal.specs.declared.Decimal.{Decimal}
 use Rattle.grammar.specs.Parse.{done}
@@ -13,8 +13,10 @@ use Rattle.process_list.specs.declared.Node.{Node}
 use Rattle.process_list.specs.declared.ProcessList.{ProcessList}
 use Rattle.process_list.specs.declared.Verdict.{Verdict}
 use Rattle.process_list.specs.declared.Verdict.the-variants.{Accepted, NoNode, TooManyNodes, DepthDiffers, TooManyNumbers}
-use Rattle.process_list.specs.List.{blankElement, Element, mostNodes, numbersOf, nodeOf, withPosition, total, placed, allNumbers, blankNode, listOf, nodesOf, nodeAt, replacedAt, placedList}
+use Rattle.process_list.specs.File.{fileNode, fileList, keptNumbers, withNewest, keeping}
+use Rattle.process_list.specs.List.{blankElement, Element, mostNodes, numbersOf, nodeOf, unplaced, withPosition, total, placed, allNumbers, blankNode, listOf, nodesOf, nodeAt, replacedAt, placedList}
 use Rattle.process_list.specs.List.{capped, judged, verdict, verdictNumber, verdictPlace}
+use Rattle.process_list.proofs.Files.{list-split, file-nodes, file-judged, file-total, file-replaced, file-placed, kept-replaced, kept-placed}
 use Rattle.process_list.proofs.Laws.{capped-exact, total-take, total-take-le}
 use Rattle.process_list.proofs.Lists.{Fine, accepted-fine, accepted-number, heads-length, placed-length, list-nodes, place-at, total-place, replaced-verdict, replaced-list}
 use Rattle.room.specs.Room.{Room, roomLength, laidIn, filledWith, resizedIn}
@@ -28,10 +30,10 @@ use Rattle.xml.specs.Code.{scanOut}
 use Rattle.node_parts.specs.declared.NodeStep.{NodeStep}
 use Rattle.values.specs.Code.{roomAfter}
 use Rattle.node_parts.specs.Code.{NodeReads}
-use Rattle.look.specs.Replacing.{element, byElement, replacingBy, listed}
+use Rattle.look.specs.Replacing.{element, byElement, replacingBy, listed, plainCall, numberedCall}
 use Rattle.look.specs.Replacing as Replacing
-use Rattle.look.specs.Look.{Look, holding, replaceIn}
-use Rattle.replacing.specs.Code.{replacingAnswer, AnswersWith, lookOf, Replaced, refusedAnswer, madeWay, Stores, Fits}
+use Rattle.look.specs.Look.{Look, holding, callIn, lookAfter}
+use Rattle.replacing.specs.Code.{replacingAnswer, AnswersWith, lookOf, ReplacedKeeping, refusedAnswer, madeWay, Stores, Fits}
 use Rattle.replacing.proofs.Calls.{leaves-refused, elements-length, by-element}
 
 -- ---- nodes of elements
@@ -40,14 +42,9 @@ none-node : nodeOf blankElement ≡ blankNode
 unfolding nodeOf blankNode
 none-node = refl
 
-getD-map : {A B : Type 0} (f : A → B) (xs : List A) (k : ℕ) (d : A) → getD (map f xs) k (f d) ≡ f (getD xs k d)
-getD-map f [] k d = refl
-getD-map f (x ∷ xs) zero d = refl
-getD-map f (x ∷ xs) (suc k) d = getD-map f xs k d
-
 head-at : (es : List Element) (k : ℕ) → getD (map nodeOf es) k blankNode .kind ≡ getD es k blankElement .kind
 head-at es k =
-    ap (λ (d : Node). getD (map nodeOf es) k d .kind) (sym none-node) ∙ ap (λ (n : Node). n .kind) (getD-map nodeOf es k blankElement) ∙ head-kind (getD es k blankElement)
+    ap (λ (d : Node). getD (map nodeOf es) k d .kind) (sym none-node) ∙ ap (λ (n : Node). n .kind) (List·getD-map nodeOf es k blankElement) ∙ head-kind (getD es k blankElement)
 
 -- a node has no more numbers than all together
 part-few : (es : List Element) (k : ℕ) → k < length es → numbersOf (getD es k blankElement .kind) ≤ total (map nodeOf es)
@@ -78,7 +75,8 @@ value-is e v w (Scans.At q) r h = cc
 value-is e v w (Scans.Fault k q) r h = nope cc
 value-is e v w Scans.Cut r h = nope cc
 
-module _ (l : ProcessList) (m₀ : Room) (k : ℕ) (node : Node) (e : List ℕ) (f : Fits l m₀ k node e) where
+-- the node that is put keeps the number w
+module _ (w : ℕ) (l : ProcessList) (m₀ : Room) (k : ℕ) (node : Node) (e : List ℕ) (f : Fits l m₀ k node e) where
   abbrev x : Look
   x = lookOf l m₀
 
@@ -95,13 +93,13 @@ module _ (l : ProcessList) (m₀ : Room) (k : ℕ) (node : Node) (e : List ℕ) 
   i = k - 1
 
   abbrev next : ProcessList
-  next = replacedAt l i node
+  next = replacedAt l i (withNewest w node)
 
   abbrev new : List Element
   new = set es i el
 
   reading : Readings.Reading l m₀ es
-  reading = Readings.parts l m₀ (f .callable .array) (f .callable .valid)
+  reading = Readings.parts l m₀ (f .callable .on .array) (f .callable .on .valid)
 
   fine : Fine room (map nodeOf es)
   unfolding verdict
@@ -111,22 +109,27 @@ module _ (l : ProcessList) (m₀ : Room) (k : ℕ) (node : Node) (e : List ℕ) 
   few = omega (arith, fine .few, heads-length es)
 
   inside : i < length es
-  inside = omega (arith, f .callable .first, f .callable .last, elements-length l m₀)
+  inside = omega (arith, f .callable .on .there .first, f .callable .on .there .last, elements-length l m₀)
 
-  next-is : next ≡ replacedAt (listOf (placed es)) i (nodeOf el)
-  next-is = ap (λ (a : ProcessList). replacedAt a i node) (reading .list) ∙ ap (λ (a : Node). replacedAt (listOf (placed es)) i a) (f .is)
+  -- what a file says of the list with its new node
+  file-next : fileList next ≡ replacedAt (listOf (placed es)) i (nodeOf el)
+  unfolding nodeOf unplaced
+  file-next =
+      file-replaced l i (withNewest w node) ∙ ap (λ (a : ProcessList). replacedAt a i (fileNode node)) (reading .list) ∙ ap (λ (a : Node). replacedAt (listOf (placed es)) i (fileNode a)) (f .is)
 
   verdict-is : judged room (nodesOf next) ≡ verdict room new
-  verdict-is = ap (λ (a : ProcessList). judged room (nodesOf a)) next-is ∙ replaced-verdict es i el few inside room
+  verdict-is =
+      sym (file-judged room (nodesOf next)) ∙ ap (judged room) (sym (file-nodes next)) ∙ ap (λ (a : ProcessList). judged room (nodesOf a)) file-next
+      ∙ replaced-verdict es i el few inside room
 
   -- what the call answers: 10 or 13, or the new element is in its place
-  answer-is : replaceIn x k e ≡ replacingBy new (verdict room new)
+  answer-is : callIn x (plainCall k e) ≡ replacingBy new (verdict room new)
   unfolding listed
   answer-is = by-element l m₀ k e (f .callable) ∙ ap (byElement room es k e) (f .out)
 
-  pub node-refused : (v : Verdict) → v ≡ judged room (nodesOf next) → (verdictNumber v ≡ 0 → ⊥) → Replaced l m₀ k e (refusedAnswer (verdictNumber v) (verdictPlace v) l) m₀
+  pub node-refused : (v : Verdict) → v ≡ judged room (nodesOf next) → (verdictNumber v ≡ 0 → ⊥) → ReplacedKeeping w l m₀ k e (refusedAnswer (verdictNumber v) (verdictPlace v) l) m₀
   node-refused v q z =
-      leaves-refused l m₀ (replaceIn x k e) (verdictNumber v) (verdictPlace v)
+      leaves-refused l m₀ (numberedCall k w e) (callIn x (plainCall k e)) (verdictNumber v) (verdictPlace v)
       (answer-is ∙ ap (replacingBy new) (sym (q ∙ verdict-is)) ∙ verdict-refused new v z)
 
   -- ---- accepted
@@ -136,15 +139,21 @@ module _ (l : ProcessList) (m₀ : Room) (k : ℕ) (node : Node) (e : List ℕ) 
     unfolding verdict
     fine-new = accepted-fine room (map nodeOf new) a
 
-    list-is : placedList next ≡ listOf (placed new)
-    list-is = ap placedList next-is ∙ replaced-list es i el few inside (omega (arith, fine-new .holds))
+    -- the list: the new elements, and of the kept numbers node k's is w
+    list-is : placedList next ≡ keeping (set (keptNumbers l) i w) (listOf (placed new))
+    list-is =
+        let a : keptNumbers (placedList next) ≡ set (keptNumbers l) i w = kept-placed next ∙ kept-replaced l i (withNewest w node) (omega (arith, inside, elements-length l m₀)) in
+        let b : fileList (placedList next) ≡ listOf (placed new) =
+        file-placed next ∙ ap placedList file-next ∙ replaced-list es i el few inside (omega (arith, fine-new .holds)) in
+        sym (list-split (placedList next)) ∙ ap (λ (ks : List ℕ). keeping ks (fileList (placedList next))) a ∙ ap (keeping (set (keptNumbers l) i w)) b
 
-    nodes-are : nodesOf l ≡ placed es
-    nodes-are = ap nodesOf (reading .list) ∙ list-nodes (placed es) (rw placed-length few)
+    nodes-are : map fileNode (nodesOf l) ≡ placed es
+    nodes-are = sym (file-nodes l) ∙ ap nodesOf (reading .list) ∙ list-nodes (placed es) (rw placed-length few)
 
-    old-node : nodeAt l i ≡ withPosition (0 + total (take i (map nodeOf es))) (getD (map nodeOf es) i blankNode)
-    unfolding nodeAt placed
-    old-node = ap (λ (ns : List Node). getD ns i blankNode) nodes-are ∙ place-at 0 (map nodeOf es) i blankNode (rw heads-length inside)
+    old-node : fileNode (nodeAt l i) ≡ withPosition (0 + total (take i (map nodeOf es))) (getD (map nodeOf es) i blankNode)
+    unfolding nodeAt placed blankNode unplaced
+    old-node =
+        sym (List·getD-map fileNode (nodesOf l) i blankNode) ∙ ap (λ (ns : List Node). getD ns i blankNode) nodes-are ∙ place-at 0 (map nodeOf es) i blankNode (rw heads-length inside)
 
     at-is : nodeAt l i .at ≡ total (take i (map nodeOf es))
     at-is = ap (λ (n : Node). n .at) old-node ∙ stands-at (0 + total (take i (map nodeOf es))) (getD (map nodeOf es) i blankNode) ∙ zero-add (total (take i (map nodeOf es)))
@@ -166,7 +175,7 @@ module _ (l : ProcessList) (m₀ : Room) (k : ℕ) (node : Node) (e : List ℕ) 
     used-is : capped (total (nodesOf l)) ≡ total (map nodeOf es)
     unfolding placed
     used-is =
-        ap (λ (ns : List Node). capped (total ns)) nodes-are ∙ ap capped (total-place 0 (map nodeOf es))
+        ap capped (sym (file-total (nodesOf l))) ∙ ap (λ (ns : List Node). capped (total ns)) nodes-are ∙ ap capped (total-place 0 (map nodeOf es))
         ∙ capped-exact (total (map nodeOf es)) (omega (arith, fine .holds))
 
     -- the room: the old numbers have given way, and the new ones are laid
@@ -189,16 +198,16 @@ module _ (l : ProcessList) (m₀ : Room) (k : ℕ) (node : Node) (e : List ℕ) 
           ∙ room-done e (nodeAt l i .at) (h .reads .value .numbers) (h .reads .value) (f .value) (h .step .scan) [] (madeWay l i node m₀) (h .reads .out ∙ f .out)
           ∙ ap (λ (xs : List Decimal). laidIn (nodeAt l i .at) xs (madeWay l i node m₀)) numbers-are
 
-      held : AnswersWith x (Replacing.replaced new) (record { number = 0; place = 0; list = placedList next }) m₁
+      held : AnswersWith (Replacing.replaced new) (lookAfter x (numberedCall k w e) (Replacing.replaced new)) (record { number = 0; place = 0; list = placedList next }) m₁
       unfolding replacingAnswer holding
       held = record { answer = ap (λ (a : ProcessList). record { number = 0; place = 0; list = a }) list-is; room = room-is m₁ laid-as }
 
   pub node-replaced : (v : Verdict) → v ≡ judged room (nodesOf next) → verdictNumber v ≡ 0 → (m₁ : Room) → Stores l i node e m₀ m₁ → (r : ProcessList) → r ≡ placedList next
-      → Replaced l m₀ k e (record { number = 0; place = 0; list = r }) m₁
+      → ReplacedKeeping w l m₀ k e (record { number = 0; place = 0; list = r }) m₁
   node-replaced v q z m₁ h r t =
       let a : verdict room new ≡ Accepted = sym (q ∙ verdict-is) ∙ accepted-number v z in
-      let b : replaceIn x k e ≡ Replacing.replaced new = answer-is ∙ ap (replacingBy new) a in
-      rw t (subst (λ (y : Replacing.Replacing). AnswersWith x y (record { number = 0; place = 0; list = placedList next }) m₁) (sym b) (held a m₁ h))
+      let b : callIn x (plainCall k e) ≡ Replacing.replaced new = answer-is ∙ ap (replacingBy new) a in
+      rw t (subst (λ (y : Replacing.Replacing). AnswersWith y (lookAfter x (numberedCall k w e) y) (record { number = 0; place = 0; list = placedList next }) m₁) (sym b) (held a m₁ h))
 
 -- ---- as the code goes
 
@@ -210,13 +219,16 @@ unfolding madeWay
 stores l i node e m₀ m m₁ old a b u qo qa qb qu qm step r = record { step = step; reads = rw (← qo, ← qa, ← qb, ← qu, ← qm) r }
 
 -- the verdict over the list with its new node: l₁ is that list, n the room's length
-module _ (l : ProcessList) (m₀ : Room) (k : ℕ) (node : Node) (e : List ℕ) (f : Fits l m₀ k node e) (l₁ : ProcessList) (ql : l₁ ≡ replacedAt l (k - 1) node) (n : ℕ) (qn : n ≡ roomLength m₀)
-    (v : Verdict) (qv : v ≡ judged n (nodesOf l₁)) (number : ℕ) (qr : number ≡ verdictNumber v) where
-  judged-so : v ≡ judged (roomLength m₀) (nodesOf (replacedAt l (k - 1) node))
-  judged-so = qv ∙ ap (λ (m : ℕ). judged m (nodesOf l₁)) qn ∙ ap (λ (a : ProcessList). judged (roomLength m₀) (nodesOf a)) ql
+module _ (w : ℕ) (l : ProcessList) (m₀ : Room) (k : ℕ) (node : Node) (e : List ℕ) (f : Fits l m₀ k node e) (new : Node) (qw : new ≡ withNewest w node)
+    (l₁ : ProcessList) (ql : l₁ ≡ replacedAt l (k - 1) new) (n : ℕ) (qn : n ≡ roomLength m₀) (v : Verdict) (qv : v ≡ judged n (nodesOf l₁)) (number : ℕ) (qr : number ≡ verdictNumber v) where
+  next-so : l₁ ≡ replacedAt l (k - 1) (withNewest w node)
+  next-so = ql ∙ ap (replacedAt l (k - 1)) qw
 
-  pub code-refused : (number ≡ 0 → ⊥) → (place : ℕ) → place ≡ verdictPlace v → Replaced l m₀ k e (refusedAnswer number place l) m₀
-  code-refused z place qp = rw (qr, qp) (node-refused l m₀ k node e f v judged-so (λ y. z (qr ∙ y)))
+  judged-so : v ≡ judged (roomLength m₀) (nodesOf (replacedAt l (k - 1) (withNewest w node)))
+  judged-so = qv ∙ ap (λ (m : ℕ). judged m (nodesOf l₁)) qn ∙ ap (λ (a : ProcessList). judged (roomLength m₀) (nodesOf a)) next-so
 
-  pub code-replaced : number ≡ 0 → (m₁ : Room) → Stores l (k - 1) node e m₀ m₁ → (r : ProcessList) → r ≡ placedList l₁ → Replaced l m₀ k e (record { number = 0; place = 0; list = r }) m₁
-  code-replaced z m₁ h r t = node-replaced l m₀ k node e f v judged-so (sym qr ∙ z) m₁ h r (t ∙ ap placedList ql)
+  pub code-refused : (number ≡ 0 → ⊥) → (place : ℕ) → place ≡ verdictPlace v → ReplacedKeeping w l m₀ k e (refusedAnswer number place l) m₀
+  code-refused z place qp = rw (qr, qp) (node-refused w l m₀ k node e f v judged-so (λ y. z (qr ∙ y)))
+
+  pub code-replaced : number ≡ 0 → (m₁ : Room) → Stores l (k - 1) node e m₀ m₁ → (r : ProcessList) → r ≡ placedList l₁ → ReplacedKeeping w l m₀ k e (record { number = 0; place = 0; list = r }) m₁
+  code-replaced z m₁ h r t = node-replaced w l m₀ k node e f v judged-so (sym qr ∙ z) m₁ h r (t ∙ ap placedList next-so)

@@ -9,6 +9,7 @@ use lib.ListN.{length}
 use Rattle.grammar.specs.Parse.{done}
 use Rattle.process_list.specs.declared.Node.{Node}
 use Rattle.process_list.specs.declared.ProcessList.{ProcessList}
+use Rattle.process_list.specs.File.{keptNumbers}
 use Rattle.process_list.specs.List as Lists
 use Rattle.room.specs.Room.{Room, resizedIn}
 use Rattle.valid.specs.Valid.{isValid}
@@ -20,9 +21,9 @@ use Rattle.node_parts.specs.Code.{NodeReads}
 use Rattle.reading.specs.declared.Answer.{Answer}
 use Rattle.reading.specs.declared.Judged.{Judged}
 use Rattle.reading.specs.declared.Judged.the-variants.{Accepted, Refused}
-use Rattle.look.specs.Replacing.{element}
+use Rattle.look.specs.Replacing.{element, Call, plainCall, numberedCall, keptAt}
 use Rattle.look.specs.Replacing as Replacing
-use Rattle.look.specs.Look.{Look, replaceIn, lookAfter}
+use Rattle.look.specs.Look.{Look, callIn, lookAfter}
 use Rattle.refusals.specs.Refusals as Refusal
 
 -- ---- what a call answers
@@ -36,34 +37,57 @@ abbrev pub replacingPlace : Replacing.Replacing → ℕ
 replacingPlace (Replacing.replaced es) = 0
 replacingPlace (Replacing.refused n p) = p
 
--- and the list after the call, for the look x: 'Any other refusal changes nothing'
-unfoldable pub replacingAnswer : Look → Replacing.Replacing → Answer
-replacingAnswer x a = record { number = replacingNumber a; place = replacingPlace a; list = lookAfter x a .list }
+-- and the list of the look y that the call leaves
+unfoldable pub replacingAnswer : Replacing.Replacing → Look → Answer
+replacingAnswer a y = record { number = replacingNumber a; place = replacingPlace a; list = y .list }
 
--- the answer r where the call on the look x answers a, and the whole room after it
-pub record AnswersWith (x : Look) (a : Replacing.Replacing) (r : Answer) (m₁ : Room) : Type 0 where
-  pub answer : r ≡ replacingAnswer x a
-  pub room : m₁ ≡ lookAfter x a .room
+-- the answer r of a call that answers a and leaves the look y, and the whole room after it
+pub record AnswersWith (a : Replacing.Replacing) (y : Look) (r : Answer) (m₁ : Room) : Type 0 where
+  pub answer : r ≡ replacingAnswer a y
+  pub room : m₁ ≡ y .room
 
 abbrev pub lookOf : ProcessList → Room → Look
 lookOf l m = record { list = l; room = m }
 
--- the call on this list and this room, for node k and the element e
-abbrev pub Replaced : ProcessList → Room → ℕ → List ℕ → Answer → Room → Type 0
-Replaced l m₀ k e r m₁ = AnswersWith (lookOf l m₀) (replaceIn (lookOf l m₀) k e) r m₁
+-- the call c on the look x
+abbrev pub CallAnswers : Look → Call → Answer → Room → Type 0
+CallAnswers x c r m₁ = AnswersWith (callIn x c) (lookAfter x c (callIn x c)) r m₁
+
+-- the call c on this list and this room
+abbrev pub Replaced : ProcessList → Room → Call → Answer → Room → Type 0
+Replaced l m₀ c r m₁ = CallAnswers (lookOf l m₀) c r m₁
 
 -- ---- what the small steps of the code do
 
 abbrev pub refusedAnswer : ℕ → ℕ → ProcessList → Answer
 refusedAnswer n p l = record { number = n; place = p; list = l }
 
--- '16, 19, 4 (the element alone)', for an element of n bytes; 0 where none is given
-unfoldable pub callFault : Bool → ℕ → ℕ → ℕ → ℕ
-callFault valid count k n = cond valid (cond (isNumbered k count) (cond (ltb mostBytes n) Refusal.tooLong 0) Refusal.noSuchNode) Refusal.noReading
+-- '16, 19', of node k; 0 where neither is given
+unfoldable pub nodeRefusal : Bool → ℕ → ℕ → ℕ
+nodeRefusal valid count k = cond valid (cond (isNumbered k count) 0 Refusal.noSuchNode) Refusal.noReading
 
-pub record CallFault (l : ProcessList) (m : Room) (k n r : ℕ) : Type 0 where
-  pub number : r ≡ callFault (isValid l m) (length (Lists.nodesOf l)) k n
+pub record NodeRefusal (l : ProcessList) (m : Room) (k r : ℕ) : Type 0 where
+  pub number : r ≡ nodeRefusal (isValid l m) (length (Lists.nodesOf l)) k
   pub array : length (l .nodes) ≡ Lists.mostNodes
+
+-- the list has node k, from 1
+pub record There (l : ProcessList) (k : ℕ) : Type 0 where
+  pub first : 0 < k
+  pub last : k ≤ length (Lists.nodesOf l)
+
+-- the number kept with node k
+abbrev pub keptWith : ProcessList → ℕ → ℕ
+keptWith l k = keptAt (keptNumbers l) k
+
+-- a call on node k for which 16 and 19 are not given; 28 does not depend on what is done then
+pub record OnNode (l : ProcessList) (m : Room) (k : ℕ) : Type 0 where
+  pub valid : isValid l m ≡ true
+  pub array : length (l .nodes) ≡ Lists.mostNodes
+  pub there : There l k
+
+-- a call that answers as an unnumbered one does, and leaves the number w with node k if it is accepted
+abbrev pub ReplacedKeeping : ℕ → ProcessList → Room → ℕ → List ℕ → Answer → Room → Type 0
+ReplacedKeeping w l m₀ k e r m₁ = AnswersWith (callIn (lookOf l m₀) (plainCall k e)) (lookAfter (lookOf l m₀) (numberedCall k w e) (callIn (lookOf l m₀) (plainCall k e))) r m₁
 
 -- an element read without room: some room of one number was lent
 pub record ElementAlone (s : List ℕ) (r : NodeStep) : Type 0 where
@@ -89,10 +113,7 @@ pub record Stores (l : ProcessList) (i : ℕ) (node : Node) (e : List ℕ) (m₀
 
 -- a call that 16, 19 and 4 do not refuse
 pub record Callable (l : ProcessList) (m : Room) (k : ℕ) (e : List ℕ) : Type 0 where
-  pub valid : isValid l m ≡ true
-  pub array : length (l .nodes) ≡ Lists.mostNodes
-  pub first : 0 < k
-  pub last : k ≤ length (Lists.nodesOf l)
+  pub on : OnNode l m k
   pub small : length e ≤ mostBytes
 
 -- and whose element has no fault, and this node

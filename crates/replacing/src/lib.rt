@@ -1,8 +1,10 @@
-// Replacing a node of a look by an element (document 01, Replacing): 16, 19, 4 (the element alone), then the element's own fault, then 10, 13.
+// Replacing a node of a look by an element (document 01, Replacing): 16, 19, 4 (the element alone), then the element's own fault, then 10, 13. A numbered replacement (document 02, W-208)
+// may be late: 28, between 19 and 4.
 // The element is read twice: first alone, so that a refusal changes nothing, then into the room.
 ghost use mathlib.Core.Path.{_≡_};
 ghost use Prim.Native.Nat.{_<_};
 ghost use lib.ListN.{length};
+ghost use Rattle.look.specs.Replacing.{plainCall, numberedCall};
 ghost use Rattle.room.specs.Room.{lent};
 ghost use Rattle.replacing.specs.Code as Code;
 use node_parts::NodeStep;
@@ -22,9 +24,9 @@ fn refused(number: u8, place: usize, list: ProcessList) -> Answer
     }
 }
 
-// 16, 19 or 4, or 0 where none is given, for an element of this length.
-fn call_fault(list: ProcessList, coefficients: &[i64], powers: &[i8], k: usize, length: usize) -> u8
-    ensures { λ r. ⌜ Code.CallFault list (lent (now (coefficients .entry)) (now (powers .entry))) k length r ⌝ }
+// 16 or 19, or 0 where neither is given.
+fn node_refusal(list: ProcessList, coefficients: &[i64], powers: &[i8], k: usize) -> u8
+    ensures { λ r. ⌜ Code.NodeRefusal list (lent (now (coefficients .entry)) (now (powers .entry))) k r ⌝ }
 {
     let count = process_list::held(list);
     if !valid::valid(list, coefficients, powers) {
@@ -36,10 +38,16 @@ fn call_fault(list: ProcessList, coefficients: &[i64], powers: &[i8], k: usize, 
     if count < k {
         return refusals::NO_SUCH_NODE;
     }
-    if process_list::MOST_BYTES < length {
-        return refusals::TOO_LONG;
-    }
     0
+}
+
+// The number kept with node k, from 1, of a list that has it.
+fn kept_at(list: ProcessList, k: usize) -> u32
+    requires { ⌜ Code.There list k ⌝ }
+    ensures { λ r. ⌜ r ≡ Code.keptWith list k ⌝ }
+{
+    let node = process_list::get(list, k - 1);
+    node.newest
 }
 
 // The element without room.
@@ -89,20 +97,22 @@ fn store_element(
     element::element(element, coefficients, powers, at);
 }
 
-// The element, which has this node and no fault, in the place of node k, from 1: 10 or 13, or it is there.
+// The element, which has this node and no fault, in the place of node k, from 1, with this number kept where it is accepted: 10 or 13, or it is there.
 fn replace_node(
     list: ProcessList,
     coefficients: &mut [i64],
     powers: &mut [i8],
     k: usize,
+    kept: u32,
     node: Node,
     element: &[u8],
 ) -> Answer
     requires { ⌜ Code.Fits list (lent (now coefficients) (now powers)) k node (now element) ⌝ }
-    ensures { λ r. ⌜ Code.Replaced list (lent (now (coefficients .entry)) (now (powers .entry))) k (now (element .entry)) r (lent (now (coefficients .exit)) (now (powers .exit))) ⌝ }
+    ensures { λ r. ⌜ Code.ReplacedKeeping kept list (lent (now (coefficients .entry)) (now (powers .entry))) k (now (element .entry)) r (lent (now (coefficients .exit)) (now (powers .exit))) ⌝ }
 {
     let i = k - 1;
-    let next = process_list::replaced(list, i, node);
+    let numbered = process_list::with_newest(kept, node);
+    let next = process_list::replaced(list, i, numbered);
     let room = room::length(coefficients, powers);
     let verdict = process_list::judge(false, next, room);
     let number = process_list::refusal(verdict);
@@ -117,16 +127,17 @@ fn replace_node(
     }
 }
 
-// The element in the place of node k of a valid look.
+// The element in the place of node k of a valid look, with this number kept where it is accepted.
 fn replace_valid(
     list: ProcessList,
     coefficients: &mut [i64],
     powers: &mut [i8],
     k: usize,
+    kept: u32,
     element: &[u8],
 ) -> Answer
     requires { ⌜ Code.Callable list (lent (now coefficients) (now powers)) k (now element) ⌝ }
-    ensures { λ r. ⌜ Code.Replaced list (lent (now (coefficients .entry)) (now (powers .entry))) k (now (element .entry)) r (lent (now (coefficients .exit)) (now (powers .exit))) ⌝ }
+    ensures { λ r. ⌜ Code.ReplacedKeeping kept list (lent (now (coefficients .entry)) (now (powers .entry))) k (now (element .entry)) r (lent (now (coefficients .exit)) (now (powers .exit))) ⌝ }
 {
     let step = element_alone(element);
     let scan = step.scan;
@@ -134,11 +145,29 @@ fn replace_valid(
     let j = judge_element(element, scan);
     match j {
         Judged::Refused(n, p) => refused(n, p, list),
-        Judged::Accepted => replace_node(list, coefficients, powers, k, node, element),
+        Judged::Accepted => replace_node(list, coefficients, powers, k, kept, node, element),
     }
 }
 
-// Puts the element in the place of node k, from 1, in list and room; refused, nothing changes, and the answer has the list as it was given.
+// What is left behind 16, 19 and 28: 4, and then the element, with this number kept where it is accepted.
+fn replace_there(
+    list: ProcessList,
+    coefficients: &mut [i64],
+    powers: &mut [i8],
+    k: usize,
+    kept: u32,
+    element: &[u8],
+) -> Answer
+    requires { ⌜ Code.OnNode list (lent (now coefficients) (now powers)) k ⌝ }
+    ensures { λ r. ⌜ Code.ReplacedKeeping kept list (lent (now (coefficients .entry)) (now (powers .entry))) k (now (element .entry)) r (lent (now (coefficients .exit)) (now (powers .exit))) ⌝ }
+{
+    if process_list::MOST_BYTES < element.len() {
+        return refused(refusals::TOO_LONG, 0, list);
+    }
+    replace_valid(list, coefficients, powers, k, kept, element)
+}
+
+// Puts the element in the place of node k, from 1, in list and room; the number kept with the node stays. Refused, nothing changes, and the answer has the list as it was given.
 pub fn replace(
     list: ProcessList,
     coefficients: &mut [i64],
@@ -146,11 +175,34 @@ pub fn replace(
     k: usize,
     element: &[u8],
 ) -> Answer
-    ensures { λ r. ⌜ Code.Replaced list (lent (now (coefficients .entry)) (now (powers .entry))) k (now (element .entry)) r (lent (now (coefficients .exit)) (now (powers .exit))) ⌝ }
+    ensures { λ r. ⌜ Code.Replaced list (lent (now (coefficients .entry)) (now (powers .entry))) (plainCall k (now (element .entry))) r (lent (now (coefficients .exit)) (now (powers .exit))) ⌝ }
 {
-    let number = call_fault(list, coefficients, powers, k, element.len());
-    if number != 0 {
-        return refused(number, 0, list);
+    let fault = node_refusal(list, coefficients, powers, k);
+    if fault != 0 {
+        return refused(fault, 0, list);
     }
-    replace_valid(list, coefficients, powers, k, element)
+    let kept = kept_at(list, k);
+    replace_there(list, coefficients, powers, k, kept, element)
+}
+
+// The same for a numbered replacement: 28 where its number is not larger than the one kept with the node; accepted, its number is kept.
+pub fn replace_numbered(
+    list: ProcessList,
+    coefficients: &mut [i64],
+    powers: &mut [i8],
+    k: usize,
+    number: u32,
+    element: &[u8],
+) -> Answer
+    ensures { λ r. ⌜ Code.Replaced list (lent (now (coefficients .entry)) (now (powers .entry))) (numberedCall k number (now (element .entry))) r
+        (lent (now (coefficients .exit)) (now (powers .exit))) ⌝ }
+{
+    let fault = node_refusal(list, coefficients, powers, k);
+    if fault != 0 {
+        return refused(fault, 0, list);
+    }
+    if number <= kept_at(list, k) {
+        return refused(refusals::LATE, 0, list);
+    }
+    replace_there(list, coefficients, powers, k, number, element)
 }

@@ -19,12 +19,15 @@ use Rattle.process_list.specs.declared.Node.{Node}
 use Rattle.process_list.specs.declared.ProcessList.{ProcessList}
 use Rattle.process_list.specs.declared.Verdict.the-variants.{Accepted}
 use Rattle.process_list.specs.List.{Element, mostNodes, numbersOf, nodeOf, unplaced, withPosition, total, placeFrom, placed, capped, blankNode, listOf, nodesOf, judged, verdict, sameDepth, allNumbers}
+use Rattle.process_list.specs.File.{fileNode, fileList}
+use Rattle.process_list.proofs.Maps.{map-drop}
+use Rattle.process_list.proofs.Files.{file-place, file-judged, file-total, file-nodes}
 use Rattle.process_list.proofs.Laws.{same-depth-refl, capped-exact}
 use Rattle.process_list.proofs.Lists.{same-depth, list-nodes, list-count, list-is, place-judged, total-place, heads-length, placed-length, accepted-fine, Fine}
 use Rattle.room.specs.Room.{Room, roomLength, filled, filledWith, coefficientParts, powerParts}
 use Rattle.room.proofs.Contents.{filled-run}
 use Rattle.room.proofs.Rooms.{same-room, length-at-most, filled-room}
-use Rattle.valid.specs.Valid.{every, pairs, numbersAt, elementOf, elementsOf, sound, shapeRight, carried, rulesHold, gapless, isBlank, isBlankList, isSmallMatrix, isZero}
+use Rattle.valid.specs.Valid.{every, pairs, numbersAt, elementOf, elementsOf, sound, shapeRight, carried, rulesHold, gapless, isBlank, isBlankList, isSmallMatrix, isZero, listRight}
 use Rattle.valid.specs.Valid.{restZero, zeroFrom, isValid}
 use Rattle.valid.proofs.Laws.{numbers-length}
 use Rattle.valid.proofs.Elements.{both-true, Right, right-few, right-holds, Holds, valid-parts, valid-made}
@@ -218,9 +221,9 @@ gapless-placed a (n ∷ ns) h =
     let p = both-true (eqb (n .at) a) (gapless (a + numbersOf (n .kind)) ns) h in
     rw (stands-there a n (eqb-true (n .at) a (p .0)), gapless-placed (a + numbersOf (n .kind)) ns (p .1)) refl
 
--- a node's element gives its node back, but for the position
+-- a node's element gives back what a file says of the node, but for the position
 module _ (m : Room) where
-  stands-back : (a : ℕ) (n : Node) → withPosition a (nodeOf (elementOf m n)) ≡ withPosition a n
+  stands-back : (a : ℕ) (n : Node) → withPosition a (nodeOf (elementOf m n)) ≡ withPosition a (fileNode n)
   unfolding withPosition nodeOf unplaced elementOf
   stands-back a n = refl
 
@@ -228,14 +231,14 @@ module _ (m : Room) where
   unfolding nodeOf unplaced elementOf
   kind-back n = refl
 
-  place-back : (a : ℕ) (ns : List Node) → placeFrom a (map nodeOf (map (elementOf m) ns)) ≡ placeFrom a ns
+  place-back : (a : ℕ) (ns : List Node) → placeFrom a (map nodeOf (map (elementOf m) ns)) ≡ placeFrom a (map fileNode ns)
   unfolding placeFrom
   place-back a [] = refl
   place-back a (n ∷ ns) = rw (stands-back a n, kind-back n, place-back (a + numbersOf (n .kind)) ns) refl
 
--- a blank node is one
+-- a blank node is one, but for its kept number
 node : Kind → Depth → Depth → ℕ → Node
-node k i o a = record { kind = k; input = i; output = o; at = a }
+node k i o a = record { kind = k; input = i; output = o; at = a; newest = 0 }
 
 small-is : (k : Kind) → isSmallMatrix k ≡ true → k ≡ Matrix false
 small-is (Matrix true) h = absurd (let z : _≡_ {A = ℕ} 0 1 = cc in omega arith)
@@ -244,7 +247,7 @@ small-is (Lut1d n c) h = absurd (let z : _≡_ {A = ℕ} 0 1 = cc in omega arith
 small-is (Range c) h = absurd (let z : _≡_ {A = ℕ} 0 1 = cc in omega arith)
 small-is (Cdl c) h = absurd (let z : _≡_ {A = ℕ} 0 1 = cc in omega arith)
 
-node-is : (n : Node) → n ≡ node (n .kind) (n .input) (n .output) (n .at)
+node-is : (n : Node) → fileNode n ≡ node (n .kind) (n .input) (n .output) (n .at)
 unfolding node
 node-is n = refl
 
@@ -252,7 +255,7 @@ blank-node-is : blankNode ≡ node (Matrix false) I8 I8 0
 unfolding node blankNode unplaced
 blank-node-is = refl
 
-pub blank-only : (n : Node) → isBlank n ≡ true → n ≡ blankNode
+pub blank-only : (n : Node) → isBlank n ≡ true → fileNode n ≡ blankNode
 unfolding isBlank
 blank-only n h =
     let a = isSmallMatrix (n .kind) in
@@ -267,12 +270,12 @@ blank-only n h =
     let z = eqb-true (n .at) 0 (p .1) in
     node-is n ∙ (rw (k, i, o, z) (sym blank-node-is))
 
--- where every one is a, the list repeats a
-pub every-same : {A : Type 0} (p : A → Bool) (a : A) → ((x : A) → p x ≡ true → x ≡ a) → (xs : List A) → every p xs ≡ true → xs ≡ replicate (length xs) a
-every-same p a f [] h = refl
-every-same p a f (x ∷ xs) h =
+-- where g makes a of every one, the list of these repeats a
+pub every-same : {A B : Type 0} (p : A → Bool) (g : A → B) (a : B) → ((x : A) → p x ≡ true → g x ≡ a) → (xs : List A) → every p xs ≡ true → map g xs ≡ replicate (length xs) a
+every-same p g a f [] h = refl
+every-same p g a f (x ∷ xs) h =
     let q = every-cons p x xs h in
-    rw (← every-same p a f xs (q .1), f x (q .0)) refl
+    rw (← every-same p g a f xs (q .1), f x (q .0)) refl
 
 pub zero-only : (z : ℤ) → isZero z ≡ true → z ≡ pos 0
 zero-only (pos n) h = ap pos (eqb-true n 0 h)
@@ -282,12 +285,12 @@ zero-only (negsuc n) h = absurd (let e : suc n ≡ 0 = eqb-true (suc n) 0 h in o
 same-list : {a b : ℕ} {xs ys : List Node} → a ≡ b → xs ≡ ys → _≡_ {A = ProcessList} (record { count = a; nodes = xs }) (record { count = b; nodes = ys })
 same-list e f = cc
 
-pub blank-list-is : (l : ProcessList) → length (l .nodes) ≡ mostNodes → isBlankList l ≡ true → l ≡ listOf []
-unfolding isBlankList
+pub blank-list-is : (l : ProcessList) → length (l .nodes) ≡ mostNodes → isBlankList l ≡ true → fileList l ≡ listOf []
+unfolding isBlankList fileList
 blank-list-is l array h =
     let p = both-true (eqb (l .count) 0) (every isBlank (l .nodes)) h in
     let c = eqb-true (l .count) 0 (p .0) in
-    let n : l .nodes ≡ replicate mostNodes blankNode = rw array at (every-same isBlank blankNode blank-only (l .nodes) (p .1)) in
+    let n : map fileNode (l .nodes) ≡ replicate mostNodes blankNode = rw array at (every-same isBlank fileNode blankNode blank-only (l .nodes) (p .1)) in
     same-list c n ∙ sym (list-is [] (omega arith))
 
 pub blank-list : isBlankList (listOf []) ≡ true
@@ -344,10 +347,14 @@ module _ (m : Room) where
       rw (element-numbers n, e, r) (sym (numbers-split a (numbersOf (n .kind)) (total ns) h))
 
 -- ---- a room of which t numbers are used and the rest is zero: one slice, then the whole
+map-self : (s : List ℤ) → map (λ (y : ℤ). y) s ≡ s
+map-self [] = refl
+map-self (y ∷ s) = ap (λ (l : List ℤ). y ∷ l) (map-self s)
+
 pub room-filled : (n t : ℕ) (s : List ℤ) → t ≤ n → n ≤ length s → restZero n t s ≡ true → s ≡ filled n (pos 0) (take t s) s
 unfolding restZero filled
 room-filled n t s h k z =
-    let r : drop t (take n s) ≡ replicate (length (drop t (take n s))) (pos 0) = every-same isZero (pos 0) zero-only (drop t (take n s)) z in
+    let r : drop t (take n s) ≡ replicate (length (drop t (take n s))) (pos 0) = sym (map-self (drop t (take n s))) ∙ every-same isZero (λ (y : ℤ). y) (pos 0) zero-only (drop t (take n s)) z in
     let l : length (drop t (take n s)) ≡ n - length (take t s) = simp (length-drop, length-take) (omega arith) in
     let a : take t (take n s) ≡ take t s = take-take t n s h in
     let b : take t (take n s) ++ drop t (take n s) ≡ take n s = take-append-drop t (take n s) in
@@ -366,9 +373,9 @@ zero-filled m t h z =
     (rw (coefficients-pairs (take t (m .coefficients)) (take t (m .powers)) e) (room-filled n t (m .coefficients) h (l .0) (p .0)))
     (rw (powers-pairs (take t (m .coefficients)) (take t (m .powers)) e) (room-filled n t (m .powers) h (l .1) (p .1)))
 
--- what is valid: the list and the room that a reading of these elements leaves
+-- what is valid: the list, by what a file says of it, and the room that a reading of these elements leaves
 pub record Reading (l : ProcessList) (m : Room) (es : List Element) : Type 0 where
-  pub list : l ≡ listOf (placed es)
+  pub list : fileList l ≡ listOf (placed es)
   pub room : m ≡ filledWith (allNumbers es) m
   pub accepted : verdict (roomLength m) es ≡ Accepted
   pub sounds : every sound es ≡ true
@@ -395,27 +402,31 @@ module _ (l : ProcessList) (m : Room) (array : length (l .nodes) ≡ 32) (h : is
   right : Right l (roomLength m)
   right = valid-parts l m h .list
 
-  back : placed (elementsOf l m) ≡ nodesOf l
+  back : placed (elementsOf l m) ≡ map fileNode (nodesOf l)
   unfolding placed elementsOf
-  back = place-back m 0 (nodesOf l) ∙ gapless-placed 0 (nodesOf l) (right .placed)
+  back = place-back m 0 (nodesOf l) ∙ sym (file-place 0 (nodesOf l)) ∙ ap (map fileNode) (gapless-placed 0 (nodesOf l) (right .placed))
 
   held : length (nodesOf l) ≡ l .count
   unfolding nodesOf
   held = let r = right .few in simp length-take (omega arith)
 
-  nodes-back : nodesOf l ++ replicate (mostNodes - length (nodesOf l)) blankNode ≡ l .nodes
+  nodes-back : map fileNode (nodesOf l) ++ replicate (mostNodes - length (nodesOf l)) blankNode ≡ map fileNode (l .nodes)
   unfolding nodesOf
   nodes-back =
-      let e = every-same isBlank blankNode blank-only (drop (l .count) (l .nodes)) (right .blank) in
+      let e = every-same isBlank fileNode blankNode blank-only (drop (l .count) (l .nodes)) (right .blank) in
       let k : mostNodes - length (take (l .count) (l .nodes)) ≡ length (drop (l .count) (l .nodes)) = rw length-drop (omega (arith, held)) in
-      rw (k, ← e) (take-append-drop (l .count) (l .nodes))
+      rw (k, ← e, ← map-append fileNode (take (l .count) (l .nodes)) (drop (l .count) (l .nodes)), take-append-drop (l .count) (l .nodes)) refl
 
-  list-back : l ≡ listOf (nodesOf l)
-  list-back = let r = right .few in rw (list-is (nodesOf l) (omega (arith, held)), nodes-back, held) refl
+  list-back : fileList l ≡ listOf (map fileNode (nodesOf l))
+  unfolding fileList
+  list-back =
+      let r = right .few in
+      let n : length (map fileNode (nodesOf l)) ≡ l .count = length-map (nodesOf l) fileNode ∙ held in
+      rw (list-is (map fileNode (nodesOf l)) (omega arith), length-map, nodes-back, held) refl
 
   accepted-back : verdict (roomLength m) (elementsOf l m) ≡ Accepted
   unfolding verdict placed
-  accepted-back = sym (place-judged (roomLength m) 0 (map nodeOf (elementsOf l m))) ∙ ap (judged (roomLength m)) back ∙ right .accepted
+  accepted-back = sym (place-judged (roomLength m) 0 (map nodeOf (elementsOf l m))) ∙ ap (judged (roomLength m)) back ∙ file-judged (roomLength m) (nodesOf l) ∙ right .accepted
 
   pub parts : Reading l m (elementsOf l m)
   parts =
@@ -427,11 +438,48 @@ module _ (l : ProcessList) (m : Room) (array : length (l .nodes) ≡ 32) (h : is
         sounds = v .sounds;
       }
 
+-- ---- 16 'ignores' the kept numbers (02, W-208)
+file-elements : (m : Room) (ns : List Node) → map (elementOf m) (map fileNode ns) ≡ map (elementOf m) ns
+unfolding elementOf
+file-elements m [] = refl
+file-elements m (n ∷ ns) = ap (λ (es : List Element). elementOf m n ∷ es) (file-elements m ns)
+
+pub elements-file : (l : ProcessList) (m : Room) → elementsOf (fileList l) m ≡ elementsOf l m
+unfolding elementsOf
+elements-file l m = rw (file-nodes l) (file-elements m (nodesOf l))
+
+file-gapless : (a : ℕ) (ns : List Node) → gapless a (map fileNode ns) ≡ gapless a ns
+unfolding gapless
+file-gapless a [] = refl
+file-gapless a (n ∷ ns) = rw (file-gapless (a + numbersOf (n .kind)) ns) refl
+
+file-blank : (ns : List Node) → every isBlank (map fileNode ns) ≡ every isBlank ns
+unfolding every isBlank
+file-blank [] = refl
+file-blank (n ∷ ns) = rw (file-blank ns) refl
+
+pub valid-file : (l : ProcessList) (m : Room) → isValid (fileList l) m ≡ isValid l m
+unfolding isValid listRight fileList
+valid-file l m =
+    rw (
+      elements-file l m,
+      file-nodes l,
+      file-total (nodesOf l),
+      file-judged (roomLength m) (nodesOf l),
+      file-gapless 0 (nodesOf l),
+      ← map-drop fileNode (l .count) (l .nodes),
+      file-blank (drop (l .count) (l .nodes)),
+    ) refl
+
 -- ---- the two together
 module _ (l : ProcessList) (m : Room) (es : List Element) (r : Reading l m es) where
   pub reading-valid : isValid l m ≡ true
-  reading-valid = let v = made m es (r .sounds) (r .accepted) in cc
+  reading-valid =
+      let v : isValid (listOf (placed es)) (filledWith (allNumbers es) m) ≡ true = made m es (r .sounds) (r .accepted) in
+      sym (valid-file l m) ∙ ap (λ (k : ProcessList). isValid k m) (r .list) ∙ ap (isValid (listOf (placed es))) (r .room) ∙ v
 
   -- list and room say which elements were read
   pub reading-elements : elementsOf l m ≡ es
-  reading-elements = let e = left-elements m es (r .sounds) (r .accepted) in cc
+  reading-elements =
+      let e : elementsOf (listOf (placed es)) (filledWith (allNumbers es) m) ≡ es = left-elements m es (r .sounds) (r .accepted) in
+      sym (elements-file l m) ∙ ap (λ (k : ProcessList). elementsOf k m) (r .list) ∙ ap (elementsOf (listOf (placed es))) (r .room) ∙ e

@@ -29,7 +29,7 @@ fn three(a: bool, b: bool, c: bool) -> bool
     both(both(a, b), c)
 }
 
-// Whether a node is what stands behind the last one.
+// Whether a node is what stands behind the last one, whatever number is kept with it.
 fn is_blank(node: Node) -> bool
     ensures { λ r. ⌜ r ≡ Spec.isBlank node ⌝ }
 {
@@ -75,7 +75,7 @@ fn blank_behind(list: ProcessList) -> bool
     true
 }
 
-// Whether this is the list of no nodes, as a refused reading leaves it.
+// Whether this is the list of no nodes, by what a file says: kept numbers are not looked at.
 pub fn is_blank_list(list: ProcessList) -> bool
     ensures { λ r. ⌜ r ≡ Spec.isBlankList list ⌝ }
 {
@@ -332,7 +332,7 @@ pub fn zero_from(coefficients: &[i64], powers: &[i8], at: usize) -> bool
     powers_zero(powers, at, room)
 }
 
-// Whether list and room are an accepted reading of some file into that room; if not, the answer is refusal 16.
+// Whether list and room, but for the kept numbers, are an accepted reading of some file into that room; if not, the answer is refusal 16.
 pub fn valid(list: ProcessList, coefficients: &[i64], powers: &[i8]) -> bool
     ensures { λ r. ⌜ r ≡ Spec.isValid list (Room.lent (now (coefficients .entry)) (now (powers .entry))) ⌝ }
 {

@@ -12,7 +12,7 @@ replace-node-requires c κs =
 returns : tie.Need-returns
 returns c =
     let t = c .before .before .before .before in
-    rw (c .refused .ensures) (element-refused _ _ _ _ (t .before .before .before .before .pre) _ (t .before .before .element-alone .ensures) _ _
+    rw (c .refused .ensures) (element-refused _ _ _ _ _ (t .before .before .before .before .pre) _ (t .before .before .element-alone .ensures) _ _
     (sym (t .judge-element .ensures) ∙ c .before .before .j .given .1))
 
 pub replace-valid-spec : {M : Type 1} → statement M

@@ -1,8 +1,8 @@
--- `demand3::part` meets its contract. Assumes nothing.
+-- `replace_run::part` meets its contract. Assumes nothing.
 use borrow.Author.Needs.{needs}
-use Rattle.demand3.proofs.Laws.{part-is}
-use Rattle.demand3.proofs.part.Statement.{statement}
-use Rattle.demand3.proofs.part.Tie as tie
+use Rattle.replace_run.proofs.Laws.{part-is}
+use Rattle.replace_run.proofs.part.Statement.{statement}
+use Rattle.replace_run.proofs.part.Tie as tie
 
 returns : tie.Need-returns
 returns c = part-is (c .before .before .before .before .args .s .now) _ _ _ _ (c .before .before .smaller .ensures) (c .before .smaller2 .ensures)
