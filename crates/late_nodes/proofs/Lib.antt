@@ -1,0 +1,5 @@
+pub mod Wins
+pub mod Shapes
+pub mod Orders
+pub mod Whole
+pub mod One
