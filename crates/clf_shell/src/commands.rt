@@ -8,6 +8,7 @@ use crate::show::put_state;
 use crate::writes;
 use libc::STDOUT_FILENO;
 use process_list::ProcessList;
+use reading::Answer;
 use shell_text::Command;
 use shell_text::commands::command;
 use shell_text::lines::least;
@@ -25,23 +26,22 @@ fn unknown() {
     io::write_all(STDOUT_FILENO, b"?\n");
 }
 
-// Answers with a number, a place and the state.
-fn print_state(number: u8, place: usize, state: State, coefficients: &[i64], powers: &[i8]) {
+// Answers with the number, the place and the state that a reading or a replacing leaves, in room of this length.
+fn print_answer(answer: Answer, room: usize, coefficients: &[i64], powers: &[i8]) -> State {
+    let list = answer.list;
     let mut buffer = io::buffer();
-    let a = put_answer(&mut buffer, 0, number, place);
-    let b = put_state(&mut buffer, a, state.list, state.room, coefficients, powers);
+    let a = put_answer(&mut buffer, 0, answer.number, answer.place);
+    let b = put_state(&mut buffer, a, list, room, coefficients, powers);
     let c = put_byte(&mut buffer, b, b'\n');
     flush(&buffer, c);
+    State { list, room }
 }
 
 // `R ROOM HEX`: reads the file into room for so many numbers.
 fn read_file(file: &[u8], room: usize, coefficients: &mut [i64], powers: &mut [i8]) -> State {
     let n = least(room, powers.len());
     let answer = reading::read(file, coefficients, &mut powers[0..n]);
-    let list = answer.list;
-    let state = State { list, room };
-    print_state(answer.number, answer.place, state, coefficients, powers);
-    state
+    print_answer(answer, room, coefficients, powers)
 }
 
 // `P K HEX`: puts the element in the place of node k, in the table room that the list was read into.
@@ -55,10 +55,24 @@ fn replace_by(
     let room = state.room;
     let n = least(room, powers.len());
     let answer = replacing::replace(state.list, coefficients, &mut powers[0..n], k, element);
-    let list = answer.list;
-    let after = State { list, room };
-    print_state(answer.number, answer.place, after, coefficients, powers);
-    after
+    print_answer(answer, room, coefficients, powers)
+}
+
+// `N K NUMBER HEX`: the same by the feed's number.
+fn replace_numbered_by(
+    element: &[u8],
+    k: usize,
+    number: u32,
+    state: State,
+    coefficients: &mut [i64],
+    powers: &mut [i8],
+) -> State {
+    let list = state.list;
+    let room = state.room;
+    let n = least(room, powers.len());
+    let lent = &mut powers[0..n];
+    let answer = replacing::replace_numbered(list, coefficients, lent, k, number, element);
+    print_answer(answer, room, coefficients, powers)
 }
 
 // `C HEX`: the file check.
@@ -107,19 +121,16 @@ fn answer_alone(line: &[u8], c: Command, state: State, coefficients: &[i64], pow
 // Answers a command line.
 pub fn answer(line: &mut [u8], state: State, coefficients: &mut [i64], powers: &mut [i8]) -> State {
     let c = command(line);
+    let number = c.number;
+    let bytes = part(line, c.start, c.end);
     let letter = c.letter;
-    if letter == b'R' {
-        return read_file(part(line, c.start, c.end), c.number, coefficients, powers);
+    match letter {
+        b'R' => read_file(bytes, number, coefficients, powers),
+        b'P' => replace_by(bytes, number, state, coefficients, powers),
+        b'N' => replace_numbered_by(bytes, number, c.feed, state, coefficients, powers),
+        _ => {
+            answer_alone(line, c, state, coefficients, powers);
+            state
+        }
     }
-    if letter == b'P' {
-        return replace_by(
-            part(line, c.start, c.end),
-            c.number,
-            state,
-            coefficients,
-            powers,
-        );
-    }
-    answer_alone(line, c, state, coefficients, powers);
-    state
 }

@@ -1,4 +1,4 @@
--- The pieces of an answer (tests/PROTOCOL.md): `NUM PLACE`; of STATE a node, `;KIND,IN,OUT,STYLE,SHAPE,AT`, and a number, `coefficient:power`. Definitions only.
+-- The pieces of an answer (tests/PROTOCOL.md): `NUM PLACE`; of STATE a node, `;KIND,IN,OUT,STYLE,SHAPE,AT,NEWEST`, and a number, `coefficient:power`. Definitions only.
 -- Each text is written in front of what follows it: `shownNode n t` is the text of the node n, then t.
 use mathlib.Core.Bool.{Bool, cond}
 use mathlib.Core.List.{List, _++_}
@@ -35,9 +35,13 @@ formText (Lut1d entries columns) t = tableText entries columns t
 formText (Range style) t = oneOfTwo (rangeClamps style) (bytes "Clamp,-") (bytes "noClamp,-") ++ t
 formText (Cdl style) t = oneOfTwo (cdlClamps style) (bytes "Fwd,-") (bytes "FwdNoClamp,-") ++ t
 
--- `;KIND,IN,OUT,STYLE,SHAPE,AT`: 'AT the index of its first number'
+-- `AT,NEWEST`: 'AT the index of its first number', 'NEWEST the number of the newest numbered replacement accepted there'
+unfoldable pub placeText : ℕ → ℕ → List ℕ → List ℕ
+placeText at newest t = digits at ++ (bytes "," ++ (digits newest ++ t))
+
+-- `;KIND,IN,OUT,STYLE,SHAPE,AT,NEWEST`
 unfoldable pub shownNode : Node → List ℕ → List ℕ
-shownNode n t = bytes ";" ++ (nameText (n .kind) ++ shownDepths (n .input) (n .output) (formText (n .kind) (bytes "," ++ (digits (n .at) ++ t))))
+shownNode n t = bytes ";" ++ (nameText (n .kind) ++ shownDepths (n .input) (n .output) (formText (n .kind) (bytes "," ++ placeText (n .at) (n .newest) t)))
 
 -- `coefficient:power`
 unfoldable pub decimalText : ℤ → ℤ → List ℕ → List ℕ

@@ -18,10 +18,19 @@ pub enum Word {
     Malformed,
 }
 
-// A command: its letter (`?` for none), its number (0 where it has none), and its bytes, which stand in the line from `start` up to `end`.
+// The numbers that stand in a line before its bytes: the command's own and that of the feed, 0 where the command has none; then the place behind them. None
+// where the line does not have those that its letter asks for.
+pub enum Numbers {
+    Given(usize, u32, usize),
+    None,
+}
+
+// A command: its letter (`?` for none), its number (0 where it has none), the feed's number of a numbered replacement (0 for every other command), and its bytes, which
+// stand in the line from `start` up to `end`.
 pub struct Command {
     pub letter: u8,
     pub number: usize,
+    pub feed: u32,
     pub start: usize,
     pub end: usize,
 }

@@ -79,6 +79,15 @@ fn put_form(out: &mut [u8], at: usize, kind: Kind) -> usize
     }
 }
 
+// The index of a node's first number, a comma and the number that is kept.
+fn put_place(out: &mut [u8], at: usize, first: usize, newest: u32) -> usize
+    ensures { λ r. ⌜ Puts (Show.placeText first newest) at (now (out .entry)) (now (out .exit)) r ⌝ }
+{
+    let a = put_digits(out, at, first);
+    let b = put(out, a, b",");
+    put_digits(out, b, newest as usize)
+}
+
 // A node of a list.
 pub fn put_node(out: &mut [u8], at: usize, node: Node) -> usize
     ensures { λ r. ⌜ Puts (Show.shownNode node) at (now (out .entry)) (now (out .exit)) r ⌝ }
@@ -91,7 +100,7 @@ pub fn put_node(out: &mut [u8], at: usize, node: Node) -> usize
     let c = put_depths(out, b, input, output);
     let d = put_form(out, c, kind);
     let e = put(out, d, b",");
-    put_digits(out, e, node.at)
+    put_place(out, e, node.at, node.newest)
 }
 
 // A number of the table room: its coefficient, `:` and its power.

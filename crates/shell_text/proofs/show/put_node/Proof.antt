@@ -13,7 +13,7 @@ returns c =
     let v = u .before .before .before .before in
     puts-then (v .before .before .before .before .before .before .before .before .put .ensures)
     (puts-then (v .before .before .before .before .put-name .ensures)
-    (puts-then (v .put-depths .ensures) (puts-then (u .put-form .ensures) (puts-then (t .put2 .ensures) (c .before .before .put-digits .ensures)))))
+    (puts-then (v .put-depths .ensures) (puts-then (u .put-form .ensures) (puts-then (t .put2 .ensures) (c .before .before .put-place .ensures)))))
 
 pub put-node-spec : {M : Type 1} → statement M
 put-node-spec =
