@@ -1,4 +1,4 @@
--- An Array, the children of a Matrix or LUT1D, and the node, by their parts. Assumes nothing.
+-- An Array, the children of a node that holds one, and the node, by their parts. Assumes nothing.
 use mathlib.Core.Path.{_≡_, refl, sym, ap, _∙_, subst}
 use mathlib.Core.Bool.{Bool, true, false, cond, _||_}
 use mathlib.Core.List.{List, []}
@@ -26,7 +26,7 @@ use Rattle.tags.specs.Ended.{tagOf}
 use Rattle.tags.specs.declared.StartTag.{StartTag}
 use Rattle.values.specs.Code.{Laid, NumbersRead}
 use Rattle.clf.specs.Numbers.{numbers, anyNumber}
-use Rattle.clf.specs.Nodes.{isSome, arrayRules, arrayOf, array, ArrayState, noArray, tableNode, nodeRules, matrix, lut1d, Table}
+use Rattle.clf.specs.Nodes.{isSome, arrayRules, arrayOf, array, ArrayState, noArray, tableNode, nodeRules, matrix, lut1d, lut3d, Table}
 use Rattle.node_parts.specs.Code.{NumbersIn, finishedNode, failedNode, NodeReads}
 use Rattle.node_parts.specs.Held.{Went, Goes, HeldAt, ReadsTo}
 use Rattle.node_parts.specs.declared.NodeStep.{NodeStep}
@@ -34,10 +34,11 @@ use Rattle.room.specs.Room.{Room, clearedFrom}
 use Rattle.values.proofs.Stored.{laid-none-yet, laid-then, cleared-laid, cleared-twice}
 use Rattle.node_parts.proofs.Held.{end-lacks, child-refused, child-body, held-end}
 use Rattle.node_parts.proofs.Reading.{to-map, to-then, to-failed, to-part, numbers-to, text-to, left-failed, node-reads, node-failed, finished-is, NodeIs}
-use Rattle.array_node.specs.Code.{nodeFor, shapeOf, nameOf, namesOf, textsOf, holderOf, tableOf, Filled, SameCleared, TableIn, ArrayStands, ArrayWhole, withScan, withTable, noneFound}
+use Rattle.array_node.specs.Code.{nodeFor, shapeOf, nameOf, namesOf, textsOf, kindBy, holderOf, tableOf, Filled, SameCleared, TableIn, ArrayStands, ArrayWhole, withScan, withTable, noneFound}
 use Rattle.array_node.proofs.Shapes.{kind-numbers}
 use Rattle.array_node.specs.declared.TableKind.{TableKind}
-use Rattle.array_node.specs.declared.TableKind.the-variants as Tables
+use Rattle.array_node.specs.declared.TableNode.{TableNode}
+use Rattle.array_node.specs.declared.TableNode.the-variants as Named
 use Rattle.array_node.specs.declared.ArrayStep.{ArrayStep}
 use Rattle.array_node.specs.declared.TableStep.{TableStep}
 
@@ -200,29 +201,34 @@ module _ (table : TableKind) (s : List ℕ) (at i base : ℕ) (m₀ m : Room) (s
 
 -- ---- the node
 
-module _ (table : TableKind) (s : List ℕ) (at base : ℕ) (tag : StartTag) where
+module _ (named : TableNode) (s : List ℕ) (at base : ℕ) (tag : StartTag) where
   abbrev opens : Parser Tag
-  opens = (startTag (nodeRules (namesOf table) (textsOf table))) .run
+  opens = (startTag (nodeRules (namesOf named) (textsOf named))) .run
+
+  abbrev content-by : Tag → Parser ArrayState
+  content-by t = (held (holderOf (kindBy named (t .attributes))) noArray) .run
 
   abbrev content-of : Parser ArrayState
-  content-of = (held (holderOf table) noArray) .run
+  content-of = content-by (tagOf s tag)
 
   abbrev rest-of : Tag → Parser Element
-  rest-of t = bindP content-of (λ st. retP (tableNode (t .attributes) st))
+  rest-of t = bindP (content-by t) (λ st. retP (tableNode (t .attributes) st))
 
-  by-name : (step : NodeStep) (m₀ m₁ : Room) → NodeReads (bindP opens rest-of) s at base step m₀ m₁ → NodeReads ((nodeFor table) .run) s at base step m₀ m₁
-  unfolding lut1d matrix
-  by-name step m₀ m₁ v = go table v
+  by-name : (step : NodeStep) (m₀ m₁ : Room) → NodeReads (bindP opens rest-of) s at base step m₀ m₁ → NodeReads ((nodeFor named) .run) s at base step m₀ m₁
+  unfolding lut1d matrix lut3d
+  by-name step m₀ m₁ v = go named v
     where
-      go : (b : TableKind)
-          → NodeReads (bindP ((startTag (nodeRules (namesOf b) (textsOf b))) .run) (λ t. bindP ((held (holderOf b) noArray) .run) (λ st. retP (tableNode (t .attributes) st)))) s at base step m₀ m₁
+      go : (b : TableNode)
+          → NodeReads (bindP ((startTag (nodeRules (namesOf b) (textsOf b))) .run) (λ t.
+          bindP ((held (holderOf (kindBy b (t .attributes))) noArray) .run) (λ st. retP (tableNode (t .attributes) st)))) s at base step m₀ m₁
           → NodeReads ((nodeFor b) .run) s at base step m₀ m₁
-      go Tables.Matrix v = v
-      go Tables.Lut1d v = v
+      go Named.Matrix v = v
+      go Named.Lut1d v = v
+      go Named.Lut3d v = v
 
   -- the start tag is at fault
   pub table-failed : (m₀ m₁ : Room) (r : Scan) (step : NodeStep) → Failed r → Reads 1 opens (λ e. tagOf s tag) s at r → (step ≡ failedNode r) × (m₁ ≡ clearedFrom base m₀)
-      → NodeReads ((nodeFor table) .run) s at base step m₀ m₁
+      → NodeReads ((nodeFor named) .run) s at base step m₀ m₁
   table-failed m₀ m₁ r step f v g =
       by-name step m₀ m₁
       (node-failed (bindP opens rest-of) s at base r step m₀ m₁ (λ t. Unit {0}) (Unit {0}) f (g .0) (g .1)
@@ -232,7 +238,7 @@ module _ (table : TableKind) (s : List ℕ) (at base : ℕ) (tag : StartTag) whe
       (w : ReadsTo content-of s q (r .scan) (ArrayWhole base m₀ m₁ r) (SameCleared base m₀ m₁)) where
     -- the content is at fault
     pub table-content-failed : (m₂ : Room) (step : NodeStep) → Failed (r .scan) → (step ≡ failedNode (r .scan)) × (m₂ ≡ clearedFrom base m₁)
-        → NodeReads ((nodeFor table) .run) s at base step m₀ m₂
+        → NodeReads ((nodeFor named) .run) s at base step m₀ m₂
     table-content-failed m₂ step f g =
         by-name step m₀ m₂
         (node-failed (bindP opens rest-of) s at base (r .scan) step m₀ m₂ (λ t. Unit {0}) (SameCleared base m₀ m₁) f (g .0)
@@ -253,7 +259,7 @@ module _ (table : TableKind) (s : List ℕ) (at base : ℕ) (tag : StartTag) whe
             (finished-is s base m₀ m₁ (tag .attributes) (At i) (r .kind) (w .stands .xs) a (w .stands .room))
         go false z e a = nope cc
 
-    pub table-node : (e : ℕ) → r .scan ≡ At e → NodeReads ((nodeFor table) .run) s at base (step e) m₀ m₁
+    pub table-node : (e : ℕ) → r .scan ≡ At e → NodeReads ((nodeFor named) .run) s at base (step e) m₀ m₁
     unfolding tagOf finishedNode
     table-node e z =
         by-name (step e) m₀ m₁

@@ -11,9 +11,11 @@ use borrow.Author.Tests.{leb-true}
 use Rattle.grammar.specs.Laws.{nope}
 use Rattle.xml.specs.Bytes.{same, bytes}
 use Rattle.process_list.specs.declared.Kind.{Kind}
-use Rattle.process_list.specs.declared.Kind.the-variants.{Matrix, Lut1d}
+use Rattle.process_list.specs.declared.Kind.the-variants.{Matrix, Lut1d, Lut3d}
+use Rattle.process_list.specs.declared.Interpolation.{Interpolation}
 use Rattle.process_list.specs.List.{numbersOf, capped}
-use Rattle.clf.specs.Nodes.{matrixShape, lutShape, lutColumns, beginsWithZero, wholeFrom, behindDigits}
+use Rattle.process_list.proofs.Laws.{cube-few}
+use Rattle.clf.specs.Nodes.{matrixShape, lutShape, lutColumns, beginsWithZero, wholeFrom, behindDigits, cubeDim, cubeShape}
 use Rattle.array_node.specs.Code.{shapeOf}
 use Rattle.array_node.specs.declared.TableKind.{TableKind}
 use Rattle.array_node.specs.declared.TableKind.the-variants as Tables
@@ -69,7 +71,25 @@ lut1d t k q = go (beginsWithZero t) (leb 2 n) (leb n 65536) (ltb 0 c) refl q
     go false true true false e q = nope cc
     go false true true true e q = let z : k ≡ Lut1d n c = cc in rw z (table n c (leb-true n 65536 e) (columns (behindDigits t)))
 
+cube : (i : Interpolation) (n : ℕ) → 2 ≤ n → n ≤ 33 → numbersOf (Lut3d n i) ≤ 262144
+unfolding numbersOf
+cube i n h k = omega (arith, cube-few n (omega arith) k .1)
+
+lut3d : (i : Interpolation) (t : List ℕ) (k : Kind) → some k ≡ cubeShape i t → numbersOf k ≤ 262144
+unfolding cubeShape
+lut3d i t k q = go (leb 2 n) (leb n 33) (same t (cubeDim n)) refl refl q
+  where
+    n : ℕ
+    n = wholeFrom 0 t
+
+    go : (a b d : Bool) → leb 2 n ≡ a → leb n 33 ≡ b → some k ≡ cond (a && (b && d)) (some (Lut3d n i)) none → numbersOf k ≤ 262144
+    go false b d e f q = nope cc
+    go true false d e f q = nope cc
+    go true true false e f q = nope cc
+    go true true true e f q = let z : k ≡ Lut3d n i = cc in rw z (cube i n (leb-true 2 n e) (leb-true n 33 f))
+
 -- as many numbers as the code counts
 pub kind-numbers : (table : TableKind) (t : List ℕ) (k : Kind) → some k ≡ shapeOf table t → capped (numbersOf k) ≡ numbersOf k
 kind-numbers Tables.Lut1d t k q = few k (lut1d t k q)
 kind-numbers Tables.Matrix t k q = few k (matrix t k q)
+kind-numbers (Tables.Lut3d i) t k q = few k (lut3d i t k q)

@@ -1,4 +1,4 @@
--- Matrix and LUT1D by their name in the code, and what the answers of the code mean.
+-- Matrix, LUT1D and LUT3D by their name in the code, and what the answers of the code mean.
 use mathlib.Core.Path.{_≡_}
 use mathlib.Core.Bool.{Bool, true, false}
 use mathlib.Core.List.{List, []}
@@ -13,37 +13,52 @@ use Rattle.xml.specs.Bytes.{bytes}
 use Rattle.xml.specs.Elements.{Holder}
 use Rattle.room.specs.Room.{Room, clearedFrom}
 use Rattle.values.specs.Code.{Laid}
-use Rattle.clf.specs.Nodes.{matrixShape, lutShape, lutNames, lutTexts, ArrayState, arrayHolder, Table, matrix, lut1d}
+use Rattle.xml.specs.Xml.{Attribute, textOf}
+use Rattle.clf.specs.Nodes.{matrixShape, lutShape, cubeShape, lutNames, lutTexts, cubeTexts, interpolationOf, ArrayState, arrayHolder, Table, matrix, lut1d, lut3d}
 use Rattle.xml.specs.declared.Scan.{Scan}
 use Rattle.xml.specs.declared.Scan.the-variants.{At}
 use Rattle.process_list.specs.declared.Kind.the-variants.{Matrix}
 use Rattle.array_node.specs.declared.ArrayStep.{ArrayStep}
 use Rattle.array_node.specs.declared.TableStep.{TableStep}
+use Rattle.array_node.specs.declared.TableNode.{TableNode}
+use Rattle.array_node.specs.declared.TableNode.the-variants as Named
 use Rattle.array_node.specs.declared.TableKind.{TableKind}
 use Rattle.array_node.specs.declared.TableKind.the-variants as Tables
 use Rattle.array_node.specs.declared.KindRead.{KindRead}
 use Rattle.array_node.specs.declared.KindRead.the-variants as Kinds
 
--- the grammar, the shapes, the name and the rules of each
-abbrev pub nodeFor : TableKind → G Element
-nodeFor Tables.Matrix = matrix
-nodeFor Tables.Lut1d = lut1d
+-- the grammar and the rules of each
+abbrev pub nodeFor : TableNode → G Element
+nodeFor Named.Matrix = matrix
+nodeFor Named.Lut1d = lut1d
+nodeFor Named.Lut3d = lut3d
 
+abbrev pub namesOf : TableNode → List ℕ → ℕ
+namesOf Named.Matrix = λ w. 0
+namesOf Named.Lut1d = lutNames
+namesOf Named.Lut3d = λ w. 0
+
+abbrev pub textsOf : TableNode → List ℕ → List ℕ → ℕ
+textsOf Named.Matrix = λ w t. 0
+textsOf Named.Lut1d = lutTexts
+textsOf Named.Lut3d = cubeTexts
+
+-- what its Array may be, by the attributes of its tag
+abbrev pub kindBy : TableNode → List Attribute → TableKind
+kindBy Named.Matrix l = Tables.Matrix
+kindBy Named.Lut1d l = Tables.Lut1d
+kindBy Named.Lut3d l = Tables.Lut3d (interpolationOf (textOf (bytes "interpolation") l))
+
+-- the shapes and the name of each
 abbrev pub shapeOf : TableKind → List ℕ → Option Kind
 shapeOf Tables.Matrix = matrixShape
 shapeOf Tables.Lut1d = lutShape
+shapeOf (Tables.Lut3d interpolation) = cubeShape interpolation
 
 abbrev pub nameOf : TableKind → List ℕ
 nameOf Tables.Matrix = bytes "Matrix"
 nameOf Tables.Lut1d = bytes "LUT1D"
-
-abbrev pub namesOf : TableKind → List ℕ → ℕ
-namesOf Tables.Matrix = λ w. 0
-namesOf Tables.Lut1d = lutNames
-
-abbrev pub textsOf : TableKind → List ℕ → List ℕ → ℕ
-textsOf Tables.Matrix = λ w t. 0
-textsOf Tables.Lut1d = lutTexts
+nameOf (Tables.Lut3d interpolation) = bytes "LUT3D"
 
 abbrev pub holderOf : TableKind → Holder ArrayState
 holderOf table = arrayHolder (nameOf table) (shapeOf table)

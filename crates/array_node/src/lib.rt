@@ -1,4 +1,4 @@
-// Matrix and LUT1D: Descriptions, then one Array, whose numbers go into the table room from `base` on.
+// Matrix, LUT1D and LUT3D: Descriptions, then one Array, whose numbers go into the table room from `base` on.
 ghost use mathlib.Core.Path.{_≡_};
 ghost use mathlib.Core.Bool.{cond};
 ghost use Prim.Native.Nat.{_+_, _≤_};
@@ -16,20 +16,30 @@ ghost use Rattle.node_parts.specs.Held.{Goes, ReadsTo};
 ghost use Rattle.array_node.specs.Code as Code;
 use markup::NextTag;
 use node_parts::NodeStep;
+use process_list::Interpolation;
 use process_list::Kind;
 use tags::Attributes;
+use tags::PointsRead;
 use tags::ShapeRead;
 use tags::TagKind;
 use values::Rule;
 use xml::Scan;
 
-// The two nodes that hold an Array.
-pub enum TableKind {
+// The three nodes that hold an Array.
+pub enum TableNode {
     Matrix,
     Lut1d,
+    Lut3d,
 }
 
-// The content of a Matrix or LUT1D so far: its Array's shape, if the Array was there.
+// The same behind the start tag, which says a LUT3D's method.
+enum TableKind {
+    Matrix,
+    Lut1d,
+    Lut3d { interpolation: Interpolation },
+}
+
+// The content of such a node so far: its Array's shape, if the Array was there.
 pub struct ArrayStep {
     pub scan: Scan,
     pub found: bool,
@@ -69,6 +79,19 @@ fn lut_kind(text: &[u8]) -> KindRead
     }
 }
 
+fn cube_kind(text: &[u8], interpolation: Interpolation) -> KindRead
+    ensures { λ r. ⌜ Code.kindRead r ≡ Nodes.cubeShape interpolation (now (text .entry)) ⌝ }
+{
+    let points = tags::points_of(text);
+    match points {
+        PointsRead::Is(n) => KindRead::Is(Kind::Lut3d {
+            points: n,
+            interpolation,
+        }),
+        PointsRead::Other => KindRead::Other,
+    }
+}
+
 // The shape that an Array's tag says.
 fn kind_of(s: &[u8], attributes: Attributes, table: TableKind) -> KindRead
     ensures { λ r. ⌜ Code.kindRead r ≡ Code.shapeOf table (textOf (bytes "dim") (attributesOf (now (s .entry)) attributes)) ⌝ }
@@ -80,6 +103,7 @@ fn kind_of(s: &[u8], attributes: Attributes, table: TableKind) -> KindRead
     match table {
         TableKind::Matrix => matrix_kind(text),
         TableKind::Lut1d => lut_kind(text),
+        TableKind::Lut3d { interpolation } => cube_kind(text, interpolation),
     }
 }
 
@@ -89,6 +113,7 @@ fn array_tag(table: TableKind) -> TagKind
     match table {
         TableKind::Matrix => TagKind::MatrixArray,
         TableKind::Lut1d => TagKind::Lut1dArray,
+        TableKind::Lut3d { interpolation } => TagKind::Lut3dArray { interpolation },
     }
 }
 
@@ -154,7 +179,7 @@ fn array_with(state: ArrayStep, scan: Scan) -> ArrayStep
     ArrayStep { scan, found, kind }
 }
 
-// A child of a Matrix or LUT1D: its `<` stands at `at`, and its name ends at e.
+// A child of such a node: its `<` stands at `at`, and its name ends at e.
 fn array_child(
     s: &[u8],
     at: usize,
@@ -193,13 +218,14 @@ fn array_missing(found: bool) -> u8
     refusals::WRONG_ELEMENT
 }
 
-// The end tag of a Matrix or LUT1D.
+// The end tag of such a node.
 fn node_end(s: &[u8], at: usize, table: TableKind, missing: u8) -> Scan
     ensures { λ r. ⌜ Reads 1 ((endTag (Code.nameOf table) missing) .run) noValue (now (s .entry)) at r ⌝ }
 {
     match table {
         TableKind::Matrix => markup::end_tag(s, at, b"Matrix", missing),
         TableKind::Lut1d => markup::end_tag(s, at, b"LUT1D", missing),
+        TableKind::Lut3d { interpolation: _ } => markup::end_tag(s, at, b"LUT3D", missing),
     }
 }
 
@@ -213,7 +239,7 @@ fn no_array(at: usize) -> ArrayStep
     }
 }
 
-// The content of a Matrix or LUT1D, and its end tag.
+// The content of such a node, and its end tag.
 fn array_content(
     s: &[u8],
     at: usize,
@@ -248,34 +274,63 @@ fn array_content(
     }
 }
 
-fn node_tag(table: TableKind) -> TagKind
-    ensures { λ r. ⌜ rulesOf r ≡ Nodes.nodeRules (Code.namesOf table) (Code.textsOf table) ⌝ }
+fn node_tag(node: TableNode) -> TagKind
+    ensures { λ r. ⌜ rulesOf r ≡ Nodes.nodeRules (Code.namesOf node) (Code.textsOf node) ⌝ }
 {
-    match table {
-        TableKind::Matrix => TagKind::Matrix,
-        TableKind::Lut1d => TagKind::Lut1d,
+    match node {
+        TableNode::Matrix => TagKind::Matrix,
+        TableNode::Lut1d => TagKind::Lut1d,
+        TableNode::Lut3d => TagKind::Lut3d,
     }
 }
 
-// A Matrix or a LUT1D, behind its name.
+// The method that a LUT3D's tag says.
+fn interpolation_of(s: &[u8], attributes: Attributes) -> Interpolation
+    ensures { λ r. ⌜ r ≡ Nodes.interpolationOf (textOf (bytes "interpolation") (attributesOf (now (s .entry)) attributes)) ⌝ }
+{
+    let span = tags::text_of(s, attributes, b"interpolation");
+    let a = span.start;
+    let e = span.end;
+    let text = tags::part(s, a, e);
+    if xml::same(text, b"tetrahedral") {
+        return Interpolation::Tetrahedral;
+    }
+    Interpolation::Trilinear
+}
+
+// What a node's Array may be, by its tag.
+fn table_kind(s: &[u8], attributes: Attributes, node: TableNode) -> TableKind
+    ensures { λ r. ⌜ r ≡ Code.kindBy node (attributesOf (now (s .entry)) attributes) ⌝ }
+{
+    match node {
+        TableNode::Matrix => TableKind::Matrix,
+        TableNode::Lut1d => TableKind::Lut1d,
+        TableNode::Lut3d => TableKind::Lut3d {
+            interpolation: interpolation_of(s, attributes),
+        },
+    }
+}
+
+// A Matrix, a LUT1D or a LUT3D, behind its name.
 pub fn table_node(
     s: &[u8],
     at: usize,
-    table: TableKind,
+    node: TableNode,
     coefficients: &mut [i64],
     powers: &mut [i8],
     base: usize,
 ) -> NodeStep
-    ensures { λ r. ⌜ NodeReads ((Code.nodeFor table) .run) (now (s .entry)) at base r
+    ensures { λ r. ⌜ NodeReads ((Code.nodeFor node) .run) (now (s .entry)) at base r
         (lent (now (coefficients .entry)) (now (powers .entry))) (lent (now (coefficients .exit)) (now (powers .exit))) ⌝ }
 {
-    let tag = tags::start_tag(s, at, node_tag(table));
+    let tag = tags::start_tag(s, at, node_tag(node));
     let end = tag.end;
     let attributes = tag.attributes;
     let r = tags::behind(end);
     let Scan::At(q) = r else {
         return node_parts::failed(r, coefficients, powers, base);
     };
+    let table = table_kind(s, attributes, node);
     let c = array_content(s, q, table, coefficients, powers, base);
     let scan = c.scan;
     let Scan::At(e) = scan else {

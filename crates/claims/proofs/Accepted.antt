@@ -13,13 +13,13 @@ use Rattle.grammar.specs.Grammar.{kept, added, items}
 use Rattle.xml.specs.Bytes.{bytes, same}
 use Rattle.xml.specs.Xml.{Tag}
 use Rattle.xml.specs.Elements.{Part, misc, child, close, textElement, info}
-use Rattle.clf.specs.Nodes.{NodeName, isMatrix, isLut1d, isRange, isCdl, notCarried, noNode, nodeName, nodeBody}
+use Rattle.clf.specs.Nodes.{NodeName, isMatrix, isLut1d, isRange, isCdl, isLut3d, notCarried, noNode, nodeName, nodeBody}
 use Rattle.clf.specs.List.{Child, node, description, inputDescriptor, outputDescriptor, infoChild, Flags, noFlags, childBody, listItem, nextFlags, head, Document, listContent, document, tail}
 use Rattle.clf.specs.Reading.{accepted, withChild, withPart, nodesAmong, readingBy, listReading, tailReading, textReading, readText}
 use Rattle.claims.proofs.Always.{Holds, holds-ret, holds-bad, holds-cond, holds-strict, holds-kept, holds-seq, holds-then, TurnHolds, holds-loop}
 use Rattle.claims.proofs.Numbers.{Each, each-more, endTag-holds}
 use Rattle.claims.proofs.Held.{PartHolds, between-holds}
-use Rattle.claims.proofs.Tables.{matrix-holds, lut1d-holds}
+use Rattle.claims.proofs.Tables.{matrix-holds, lut1d-holds, lut3d-holds}
 use Rattle.claims.proofs.Ranges.{range-holds}
 use Rattle.claims.proofs.Cdls.{cdl-holds}
 
@@ -33,6 +33,7 @@ node-holds isMatrix = matrix-holds
 node-holds isLut1d = lut1d-holds
 node-holds isRange = range-holds
 node-holds isCdl = cdl-holds
+node-holds isLut3d = lut3d-holds
 node-holds notCarried = holds-bad 7
 node-holds noNode = holds-bad 5
 

@@ -18,10 +18,10 @@ use Rattle.xml.specs.Bytes.{bytes, same, isSpace, lessThan}
 use Rattle.xml.specs.Xml.{Attribute, isNamed, textOf}
 use Rattle.xml.specs.Elements.{held}
 use Rattle.clf.specs.Numbers.{endsToken, token, saidBy, faultOf, numbers, anyNumber, notBelowZero, mustBeOne, valueRules, valueElement}
-use Rattle.clf.specs.Nodes.{isSome, depthOf, nodeTexts, nodeMissing, nodeRules, matrixShape, lutShape, arrayRules, arrayOf, array, noArray, arrayHolder, tableNode, matrix}
-use Rattle.clf.specs.Nodes.{lutNames, lutTexts, lut1d, rangeIndex, noValues, isThere, anyThere, allThere, inOrder, onlyNumber, rangeHolder, rangeTexts, rangeNode, range, notEmptyRules}
+use Rattle.clf.specs.Nodes.{isSome, depthOf, nodeTexts, nodeMissing, nodeRules, matrixShape, lutShape, cubeShapeBy, arrayRules, arrayOf, array, noArray, arrayHolder, tableNode}
+use Rattle.clf.specs.Nodes.{matrix, lutNames, lutTexts, lut1d, cubeTexts, lut3d, rangeIndex, noValues, isThere, anyThere, allThere, inOrder, onlyNumber, rangeHolder, rangeTexts, rangeNode, range, notEmptyRules}
 use Rattle.clf.specs.Nodes.{sopName, sopRule, sopHolder, sopNode, satHolder, satNode, CdlState, noCdl, cdlFault, cdlBody, cdlHolder, cdlTexts, cdlNode, cdlRules, ascCdl, NodeName}
-use Rattle.clf.specs.Nodes.{isMatrix, isLut1d, isRange, isCdl, notCarried, noNode, nodeFault, nodeBody}
+use Rattle.clf.specs.Nodes.{isMatrix, isLut1d, isRange, isCdl, isLut3d, notCarried, noNode, nodeFault, nodeBody}
 use Rattle.claims.proofs.Faults.{fair-zero, fair-by, fair-cond, blames-ret, blames-bad, blames-cond, blames-look, blames-judge, blames-eat, blames-seq, blames-loop}
 use Rattle.claims.proofs.Blamed.{Well, Right, five, RightRules, text-well, startTag-well, held-well, onlyEnd-well, textElement-well}
 
@@ -80,7 +80,7 @@ node-missing l = fair-cond (isNamed (bytes "inBitDepth") l && isNamed (bytes "ou
 node-rules : (names : List ℕ → ℕ) (texts : List ℕ → List ℕ → ℕ) → ((w : List ℕ) → Right (names w)) → ((w t : List ℕ) → Right (texts w t)) → RightRules (nodeRules names texts)
 node-rules names texts a b = record { names = a; texts = node-texts texts b; opened = node-missing; emptied = λ l. five }
 
--- ---- Matrix and LUT1D
+-- ---- Matrix, LUT1D and LUT3D
 
 module _ (shape : List ℕ → Option Kind) where
   arrayOf-well : (o : Option Kind) → Well (arrayOf o)
@@ -120,6 +120,13 @@ lut1d-well =
     (λ w. fair-cond (same w (bytes "halfDomain") || same w (bytes "rawHalfs")) seven fair-zero)
     (λ w t. fair-cond (same w (bytes "interpolation")) (fair-cond (same t (bytes "linear")) fair-zero eight) fair-zero)))
     (λ tag. blames-seq (table-well lutShape (bytes "LUT1D")) (λ st. blames-ret (tableNode (tag .attributes) st)))
+
+lut3d-well : Well lut3d
+unfolding lut3d
+lut3d-well =
+    blames-seq (startTag-well (nodeRules (λ w. 0) cubeTexts) (node-rules (λ w. 0) cubeTexts (λ w. fair-zero)
+    (λ w t. fair-cond (same w (bytes "interpolation")) (fair-cond (same t (bytes "trilinear") || same t (bytes "tetrahedral")) fair-zero eight) fair-zero)))
+    (λ tag. blames-seq (table-well (cubeShapeBy (tag .attributes)) (bytes "LUT3D")) (λ st. blames-ret (tableNode (tag .attributes) st)))
 
 -- ---- Range
 
@@ -193,6 +200,7 @@ name-right isMatrix = fair-zero
 name-right isLut1d = fair-zero
 name-right isRange = fair-zero
 name-right isCdl = fair-zero
+name-right isLut3d = fair-zero
 name-right notCarried = seven
 name-right noNode = five
 
@@ -201,5 +209,6 @@ node-well isMatrix = matrix-well
 node-well isLut1d = lut1d-well
 node-well isRange = range-well
 node-well isCdl = cdl-well
+node-well isLut3d = lut3d-well
 node-well notCarried = blames-bad 7 refl
 node-well noNode = blames-bad 5 refl

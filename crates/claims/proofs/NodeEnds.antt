@@ -16,9 +16,9 @@ use Rattle.grammar.specs.Splice.{done-law, bind-inv, strict-inv}
 use Rattle.xml.specs.Bytes.{bytes, same, isSpace, lessThan, slash, exclamation, question, ampersand}
 use Rattle.xml.specs.Xml.{entity, comment, Tag, startTag, openName, endTag}
 use Rattle.xml.specs.Elements.{Part, misc, child, close, markup, between, held, textElement, info}
-use Rattle.clf.specs.Nodes.{nodeRules, arrayHolder, noArray, tableNode, matrixShape, matrix, lutShape, lutNames, lutTexts, lut1d, rangeHolder, noValues, rangeTexts, rangeNode}
-use Rattle.clf.specs.Nodes.{range, CdlState, cdlHolder, noCdl, cdlRules, cdlContent, cdlNode, ascCdl, NodeName, isMatrix, isLut1d, isRange, isCdl, notCarried, noNode, nodeName}
-use Rattle.clf.specs.Nodes.{nodeBody}
+use Rattle.clf.specs.Nodes.{nodeRules, arrayHolder, noArray, tableNode, matrixShape, matrix, lutShape, lutNames, lutTexts, lut1d, cubeTexts, cubeShapeBy, lut3d, rangeHolder, noValues, rangeTexts, rangeNode}
+use Rattle.clf.specs.Nodes.{range, CdlState, cdlHolder, noCdl, cdlRules, cdlContent, cdlNode, ascCdl, NodeName, isMatrix, isLut1d, isRange, isCdl, isLut3d, notCarried, noNode}
+use Rattle.clf.specs.Nodes.{nodeName, nodeBody}
 use Rattle.clf.specs.List.{Child, node, description, inputDescriptor, outputDescriptor, infoChild, Flags, childFault, childBody, listItem}
 use Rattle.claims.proofs.Closing.{Ended, further, Closes, Stops, closes-last, closes-ret, closes-stops, stops-ret, startTag-closes, held-closes}
 
@@ -31,6 +31,12 @@ matrix-closes = closes-last (startTag (nodeRules (λ w. 0) (λ w t. 0))) (λ tag
 lut1d-closes : Closes lut1d
 unfolding lut1d
 lut1d-closes = closes-last (startTag (nodeRules lutNames lutTexts)) (λ tag. closes-ret (tableNode (tag .attributes)) (held-closes (arrayHolder (bytes "LUT1D") lutShape) noArray))
+
+lut3d-closes : Closes lut3d
+unfolding lut3d
+lut3d-closes =
+    closes-last (startTag (nodeRules (λ w. 0) cubeTexts)) (λ tag.
+    closes-ret (tableNode (tag .attributes)) (held-closes (arrayHolder (bytes "LUT3D") (cubeShapeBy (tag .attributes))) noArray))
 
 range-closes : Closes range
 unfolding range
@@ -52,6 +58,7 @@ node-closes isMatrix = matrix-closes
 node-closes isLut1d = lut1d-closes
 node-closes isRange = range-closes
 node-closes isCdl = cdl-closes
+node-closes isLut3d = lut3d-closes
 node-closes notCarried = record { at = λ s a r e. nope cc }
 node-closes noNode = record { at = λ s a r e. nope cc }
 

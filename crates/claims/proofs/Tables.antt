@@ -1,4 +1,4 @@
--- What each Matrix and LUT1D that is read is. Assumes nothing.
+-- What each Matrix, LUT1D and LUT3D that is read is. Assumes nothing.
 use mathlib.Core.Path.{_≡_, refl, subst}
 use mathlib.Core.Bool.{Bool, true, false, cond, _&&_, _||_, not}
 use mathlib.Core.List.{List}
@@ -7,10 +7,11 @@ use Prim.Native.Nat.{ℕ}
 use native.Mathlib.Omega.{arith}
 use lib.Dec.{eqb, leb, ltb}
 use Rattle.decimal.specs.declared.Decimal.{Decimal}
+use Rattle.process_list.specs.declared.Interpolation.{Interpolation}
 use Rattle.process_list.specs.declared.Kind.{Kind}
-use Rattle.process_list.specs.declared.Kind.the-variants.{Matrix, Lut1d}
+use Rattle.process_list.specs.declared.Kind.the-variants.{Matrix, Lut1d, Lut3d}
 use Rattle.process_list.specs.List.{numbersOf}
-use Rattle.valid.specs.Valid.{tableRight, shapeRight, rulesHold, sound}
+use Rattle.valid.specs.Valid.{tableRight, cubeRight, shapeRight, rulesHold, sound}
 use Rattle.grammar.specs.Laws.{nope}
 use Rattle.grammar.specs.Grammar.{ret, seq}
 use Rattle.xml.specs.Bytes.{bytes, same}
@@ -18,7 +19,7 @@ use Rattle.xml.specs.Xml.{Attribute, textOf, startTag}
 use Rattle.xml.specs.Elements.{held, textElement}
 use Rattle.clf.specs.Numbers.{anyNumber}
 use Rattle.clf.specs.Nodes.{isSome, nodeRules, matrixShape, wholeFrom, behindDigits, beginsWithZero, lutColumns, lutShape, arrayRules, Table, arrayOf, array, ArrayState, noArray}
-use Rattle.clf.specs.Nodes.{arrayBody, arrayHolder, tableNode, matrix, lutNames, lutTexts, lut1d}
+use Rattle.clf.specs.Nodes.{arrayBody, arrayHolder, tableNode, matrix, lutNames, lutTexts, lut1d, cubeDim, cubeShape, cubeTexts, interpolationOf, lut3d}
 use Rattle.claims.proofs.Always.{Holds, holds-ret, holds-bad, holds-cond, holds-seq, holds-then}
 use Rattle.claims.proofs.Numbers.{each-map, Carried, Kept, Counted, numbers-hold}
 use Rattle.claims.proofs.Held.{Ended, held-holds}
@@ -77,7 +78,7 @@ module _ (shape : List ℕ → Option Kind) where
         (held-holds (arrayHolder w shape) Begun (λ st i v h q. body-holds st i v) tt)
         (λ st e. holds-ret (table-right l (st .table) (e .state) (e .nothing)))
 
--- ---- the two shapes
+-- ---- the three shapes
 
 matrix-plain : (b : Bool) → Plain (Matrix b)
 unfolding shapeRight rulesHold
@@ -123,6 +124,23 @@ lut-right dim k e = go (not (beginsWithZero dim)) (leb 2 n) (leb n 65536) (ltb 0
     go true false d f p q r z = nope cc
     go false b d f p q r z = nope cc
 
+cube-plain : (i : Interpolation) (n : ℕ) → leb 2 n ≡ true → leb n 33 ≡ true → Plain (Lut3d n i)
+unfolding shapeRight cubeRight rulesHold
+cube-plain i n p q = record { shape = rw (p, q); rules = λ ns. refl }
+
+cube-right : (i : Interpolation) (dim : List ℕ) (k : Kind) → cubeShape i dim ≡ some k → Plain k
+unfolding cubeShape
+cube-right i dim k e = go (leb 2 n) (leb n 33) (same dim (cubeDim n)) refl refl e
+  where
+    n : ℕ
+    n = wholeFrom 0 dim
+
+    go : (a b d : Bool) → leb 2 n ≡ a → leb n 33 ≡ b → cond (a && (b && d)) (some (Lut3d n i)) none ≡ some k → Plain k
+    go true true true p q z = subst Plain (cc) (cube-plain i n p q)
+    go true true false p q z = nope cc
+    go true false d p q z = nope cc
+    go false b d p q z = nope cc
+
 pub matrix-holds : Holds (λ n. sound n ≡ true) matrix
 unfolding matrix
 matrix-holds = holds-then (startTag (nodeRules (λ w. 0) (λ w t. 0))) (λ tag. table-holds matrixShape (bytes "Matrix") matrix-right (tag .attributes))
@@ -130,3 +148,10 @@ matrix-holds = holds-then (startTag (nodeRules (λ w. 0) (λ w t. 0))) (λ tag. 
 pub lut1d-holds : Holds (λ n. sound n ≡ true) lut1d
 unfolding lut1d
 lut1d-holds = holds-then (startTag (nodeRules lutNames lutTexts)) (λ tag. table-holds lutShape (bytes "LUT1D") lut-right (tag .attributes))
+
+pub lut3d-holds : Holds (λ n. sound n ≡ true) lut3d
+unfolding lut3d
+lut3d-holds =
+    holds-then (startTag (nodeRules (λ w. 0) cubeTexts)) (λ tag.
+    let i = interpolationOf (textOf (bytes "interpolation") (tag .attributes)) in
+    table-holds (cubeShape i) (bytes "LUT3D") (cube-right i) (tag .attributes))

@@ -10,7 +10,7 @@ use Rattle.grammar.specs.Grammar.{G, ret, bad, kept, blame, seq, loop, items, _
 use Rattle.xml.specs.Bytes.{bytes, same}
 use Rattle.xml.specs.Xml.{word, Attribute, isNamed, Rules, Tag, startTag, endTag, strayEnd}
 use Rattle.xml.specs.Elements.{Part, misc, child, close, between, textElement, info}
-use Rattle.clf.specs.Nodes.{NodeName, isMatrix, isLut1d, isRange, isCdl, notCarried, noNode, nodeName, nodeFault, nodeBody}
+use Rattle.clf.specs.Nodes.{NodeName, nodeName, nodeFault, nodeBody}
 use Rattle.refusals.specs.Refusals as Refusal
 
 -- 'It starts at byte 0 with the 38 bytes'; 'another start is 3 at 0, a start cut short is 1'

@@ -1,4 +1,4 @@
--- The four carried nodes (document 01, The file we carry): each is the grammar of what stands behind `<` and its name.
+-- The five carried nodes (document 01, The file we carry; the fifth, LUT3D, document 02, W-201): each is the grammar of what stands behind `<` and its name.
 use mathlib.Core.Bool.{Bool, true, false, cond, not, _&&_, _||_}
 use mathlib.Core.List.{List, [], _∷_, _++_}
 use mathlib.Core.Option.{Option, none, some}
@@ -10,15 +10,18 @@ use lib.ListN.{length, getD, set}
 use Rattle.decimal.specs.declared.Decimal.{Decimal}
 use Rattle.decimal.specs.Decimal as Decimals
 use Rattle.decimal_value.specs.Value.{less, atMost}
+use Rattle.decimal_write.specs.Written.{digits}
 use Rattle.process_list.specs.declared.Depth.{Depth}
 use Rattle.process_list.specs.declared.Depth.the-variants.{I8, I10, I12, I16, F16, F32}
 use Rattle.process_list.specs.declared.RangeStyle.{RangeStyle}
 use Rattle.process_list.specs.declared.RangeStyle.the-variants.{Clamp, NoClamp}
 use Rattle.process_list.specs.declared.CdlStyle.{CdlStyle}
 use Rattle.process_list.specs.declared.CdlStyle.the-variants.{Fwd, FwdNoClamp}
+use Rattle.process_list.specs.declared.Interpolation.{Interpolation}
+use Rattle.process_list.specs.declared.Interpolation.the-variants.{Trilinear, Tetrahedral}
 use Rattle.process_list.specs.declared.Kind.{Kind}
-use Rattle.process_list.specs.declared.Kind.the-variants.{Matrix, Lut1d, Range, Cdl}
-use Rattle.process_list.specs.List.{Element, numbersOf, mostEntries}
+use Rattle.process_list.specs.declared.Kind.the-variants.{Matrix, Lut1d, Range, Cdl, Lut3d}
+use Rattle.process_list.specs.List.{Element, numbersOf, mostEntries, mostPoints}
 use Rattle.grammar.specs.Grammar.{G, ret, bad, seq, _>>=_, _>>_}
 use Rattle.xml.specs.Bytes.{bytes, same, isDigit}
 use Rattle.xml.specs.Xml.{Attribute, isNamed, textOf, Rules, plain, Tag, startTag}
@@ -95,6 +98,16 @@ lutShape t =
     let c = lutColumns (behindDigits t) in
     cond (not (beginsWithZero t) && (leb 2 n && (leb n mostEntries && ltb 0 c))) (some (Lut1d n c)) none
 
+-- the text "n n n 3": whole numbers without leading zeros, one space between them
+unfoldable pub cubeDim : ℕ → List ℕ
+cubeDim n = digits n ++ bytes " " ++ digits n ++ bytes " " ++ digits n ++ bytes " 3"
+
+-- W-201: 'Array `dim` "n n n 3" with n from 2 to 33', for a LUT3D of this method: n is the whole number that the text begins with
+unfoldable pub cubeShape : Interpolation → List ℕ → Option Kind
+cubeShape interpolation t =
+    let n = wholeFrom 0 t in
+    cond (leb 2 n && (leb n mostPoints && same t (cubeDim n))) (some (Lut3d n interpolation)) none
+
 -- another `dim`, or none, is 8; an empty Array has too few numbers
 abbrev pub arrayRules : (List ℕ → Option Kind) → Rules
 arrayRules shape = record {
@@ -116,7 +129,7 @@ arrayOf (some k) = seq (numbers (bytes "Array") (numbersOf k) anyNumber) (λ l. 
 unfoldable pub array : (List ℕ → Option Kind) → G Table
 array shape = seq (startTag (arrayRules shape)) (λ tag. arrayOf (shape (textOf (bytes "dim") (tag .attributes))))
 
--- ---- Matrix and LUT1D: Descriptions, then one Array
+-- ---- Matrix, LUT1D and LUT3D: Descriptions, then one Array
 
 pub record ArrayState : Type 0 where
   pub table : Option Table
@@ -161,6 +174,24 @@ unfoldable pub lut1d : G Element
 lut1d = do
   tag ← startTag (nodeRules lutNames lutTexts)
   st ← held (arrayHolder (bytes "LUT1D") lutShape) noArray
+  ret (tableNode (tag .attributes) st)
+
+-- W-201: '`interpolation` "trilinear" (when absent) or "tetrahedral"', another text is 8
+abbrev pub cubeTexts : List ℕ → List ℕ → ℕ
+cubeTexts w t = cond (same w (bytes "interpolation")) (cond (same t (bytes "trilinear") || same t (bytes "tetrahedral")) 0 Refusal.wrongAttribute) 0
+
+-- the method by its text, which has been judged: what is not "tetrahedral" is "trilinear", or absent
+abbrev pub interpolationOf : List ℕ → Interpolation
+interpolationOf t = cond (same t (bytes "tetrahedral")) Tetrahedral Trilinear
+
+-- the shape of the Array of a LUT3D with these attributes: its method is in the tag, its n in the Array
+abbrev pub cubeShapeBy : List Attribute → List ℕ → Option Kind
+cubeShapeBy l = cubeShape (interpolationOf (textOf (bytes "interpolation") l))
+
+unfoldable pub lut3d : G Element
+lut3d = do
+  tag ← startTag (nodeRules (λ w. 0) cubeTexts)
+  st ← held (arrayHolder (bytes "LUT3D") (cubeShapeBy (tag .attributes))) noArray
   ret (tableNode (tag .attributes) st)
 
 -- ---- Range: 'minInValue, maxInValue, minOutValue, maxOutValue, each once, any order'
@@ -348,14 +379,15 @@ pub data NodeName : Type 0 where
   isLut1d : NodeName
   isRange : NodeName
   isCdl : NodeName
+  isLut3d : NodeName
   notCarried : NodeName
   noNode : NodeName
 
--- 'the seven node names (carried or not)', each with what it names; 'Known but not carried: Log, Exponent, LUT3D'
+-- 'the seven node names (carried or not)', each with what it names; 'Known but not carried: Log, Exponent', and no longer LUT3D (W-201)
 abbrev pub nodeNames : List (List ℕ × NodeName)
 nodeNames =
     (bytes "Matrix", isMatrix) ∷ (bytes "LUT1D", isLut1d) ∷ (bytes "Range", isRange) ∷ (bytes "ASC_CDL", isCdl)
-    ∷ (bytes "Log", notCarried) ∷ (bytes "Exponent", notCarried) ∷ (bytes "LUT3D", notCarried) ∷ []
+    ∷ (bytes "Log", notCarried) ∷ (bytes "Exponent", notCarried) ∷ (bytes "LUT3D", isLut3d) ∷ []
 
 abbrev pub namedIn : List (List ℕ × NodeName) → List ℕ → NodeName
 namedIn [] w = noNode
@@ -369,6 +401,7 @@ nodeFault isMatrix = 0
 nodeFault isLut1d = 0
 nodeFault isRange = 0
 nodeFault isCdl = 0
+nodeFault isLut3d = 0
 nodeFault notCarried = Refusal.notCarried
 nodeFault noNode = Refusal.wrongElement
 
@@ -378,5 +411,6 @@ nodeBody isMatrix = matrix
 nodeBody isLut1d = lut1d
 nodeBody isRange = range
 nodeBody isCdl = ascCdl
+nodeBody isLut3d = lut3d
 nodeBody notCarried = bad Refusal.notCarried
 nodeBody noNode = bad Refusal.wrongElement

@@ -14,7 +14,7 @@ use Rattle.xml.specs.declared.Scan.the-variants.{At, Fault, Cut}
 use Rattle.clf.specs.Nodes.{NodeName, nodeFault, nodeBody}
 use Rattle.nodes.specs.Code.{carriedOf}
 use Rattle.nodes.specs.declared.CarriedNode.{CarriedNode}
-use Rattle.nodes.specs.declared.CarriedNode.the-variants as Carrieds
+use Rattle.nodes.proofs.Carried.{carried-well}
 use Rattle.node_parts.specs.Code.{NodeReads, failedNode}
 use Rattle.node_parts.specs.declared.NodeStep.{NodeStep}
 use Rattle.look.specs.Replacing.{start, element}
@@ -24,12 +24,6 @@ judged = judgeP nodeFault (start .run)
 
 abbrev body : NodeName → Parser Element
 body n = (nodeBody n) .run
-
-carried-well : (n : CarriedNode) → nodeFault (carriedOf n) ≡ 0
-carried-well Carrieds.Matrix = refl
-carried-well Carrieds.Lut1d = refl
-carried-well Carrieds.Range = refl
-carried-well Carrieds.Cdl = refl
 
 module _ (s : List ℕ) (base : ℕ) where
   none : (m₀ m₁ : Room) → m₁ ≡ clearedFrom base m₀ → (n : NodeName) (r : Scan) → Failed r → Reads 0 judged (λ e. n) s 0 r → NodeReads (element .run) s 0 base (failedNode r) m₀ m₁

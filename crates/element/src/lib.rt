@@ -46,7 +46,7 @@ fn element_start(s: &[u8]) -> StartStep
     ensures { λ r. ⌜ StartReads (Replacing.start .run) (now (s .entry)) r ⌝ }
 {
     let none = no_name(Scan::Fault(refusals::NOT_ONE_NODE, 0));
-    let lut3d = word_or(s, b"<LUT3D", NodeName::NotCarried, none);
+    let lut3d = word_or(s, b"<LUT3D", NodeName::Carried(CarriedNode::Lut3d), none);
     let exponent = word_or(s, b"<Exponent", NodeName::NotCarried, lut3d);
     let log = word_or(s, b"<Log", NodeName::NotCarried, exponent);
     let cdl = word_or(s, b"<ASC_CDL", NodeName::Carried(CarriedNode::Cdl), log);

@@ -1,1 +1,4 @@
+pub mod Runs
+pub mod Readings
 pub mod Table
+pub mod Cubes

@@ -22,7 +22,7 @@ use Rattle.values.specs.Code.{roomAfter}
 use Rattle.node_parts.specs.declared.NodeStep.{NodeStep}
 use Rattle.node_parts.specs.Code.{NodeReads, AllNumbers, nodeAfter}
 use Rattle.nodes.specs.declared.CarriedNode.{CarriedNode}
-use Rattle.nodes.specs.declared.CarriedNode.the-variants as Carrieds
+use Rattle.nodes.proofs.Carried.{carried-well}
 use Rattle.nodes.specs.declared.NodeName.{NodeName}
 use Rattle.nodes.specs.Code.{carriedOf, nameOf}
 use Rattle.clf.specs.Nodes.{nodeName, nodeBody, nodeFault}
@@ -120,12 +120,6 @@ module _ (wanted : ℕ) (s w : List ℕ) (at e : ℕ) (st : ListState) (m : Room
       (then-child (info .run) infoChild h ∙ sym (body-by w false false false true d i o t (drop e s))) (h .inside) refl
 
 -- ---- nodes
-
-carried-well : (n : CarriedNode) → nodeFault (carriedOf n) ≡ 0
-carried-well Carrieds.Matrix = refl
-carried-well Carrieds.Lut1d = refl
-carried-well Carrieds.Range = refl
-carried-well Carrieds.Cdl = refl
 
 node-value : (q : Parser Element) (v : Element) (s : List ℕ) (e : ℕ) (r : Scan) → scanOut (λ x. v) s r ≡ q (drop e s) → scanOut (λ x. node v) s r ≡ bindP q (λ m. retP (node m)) (drop e s)
 node-value q v s e (Scans.At i) z = ap (λ (o : Out Element). thenOut o (λ m. retP (node m))) z

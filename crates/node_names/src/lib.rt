@@ -30,5 +30,9 @@ pub fn put_name(out: &mut [u8], at: usize, kind: Kind) -> usize
         } => put(out, at, b"LUT1D"),
         Kind::Range { style: _ } => put(out, at, b"Range"),
         Kind::Cdl { style: _ } => put(out, at, b"ASC_CDL"),
+        Kind::Lut3d {
+            points: _,
+            interpolation: _,
+        } => put(out, at, b"LUT3D"),
     }
 }

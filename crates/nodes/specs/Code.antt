@@ -1,5 +1,5 @@
 -- The names of the nodes, as the code has them.
-use Rattle.clf.specs.Nodes.{isMatrix, isLut1d, isRange, isCdl, notCarried, noNode}
+use Rattle.clf.specs.Nodes.{isMatrix, isLut1d, isRange, isCdl, isLut3d, notCarried, noNode}
 use Rattle.clf.specs.Nodes as Nodes
 use Rattle.nodes.specs.declared.CarriedNode.{CarriedNode}
 use Rattle.nodes.specs.declared.CarriedNode.the-variants as Carrieds
@@ -11,6 +11,7 @@ carriedOf Carrieds.Matrix = isMatrix
 carriedOf Carrieds.Lut1d = isLut1d
 carriedOf Carrieds.Range = isRange
 carriedOf Carrieds.Cdl = isCdl
+carriedOf Carrieds.Lut3d = isLut3d
 
 abbrev pub nameOf : NodeName → Nodes.NodeName
 nameOf (Names.Carried c) = carriedOf c

@@ -4,7 +4,7 @@ ghost use Rattle.room.specs.Room.{lent};
 ghost use Rattle.clf.specs.Nodes as Nodes;
 ghost use Rattle.node_parts.specs.Code.{NodeReads};
 ghost use Rattle.nodes.specs.Code.{nameOf, carriedOf};
-use array_node::TableKind;
+use array_node::TableNode;
 use node_parts::NodeStep;
 
 // The nodes that are carried.
@@ -13,6 +13,7 @@ pub enum CarriedNode {
     Lut1d,
     Range,
     Cdl,
+    Lut3d,
 }
 
 // A node's name: of a node that is carried, of one that CLF knows and is not carried, or no node's.
@@ -44,7 +45,7 @@ pub fn node_name(w: &[u8]) -> NodeName
         return NodeName::NotCarried;
     }
     if xml::same(w, b"LUT3D") {
-        return NodeName::NotCarried;
+        return NodeName::Carried(CarriedNode::Lut3d);
     }
     NodeName::Other
 }
@@ -63,12 +64,15 @@ pub fn node_body(
 {
     match name {
         CarriedNode::Matrix => {
-            array_node::table_node(s, at, TableKind::Matrix, coefficients, powers, base)
+            array_node::table_node(s, at, TableNode::Matrix, coefficients, powers, base)
         }
         CarriedNode::Lut1d => {
-            array_node::table_node(s, at, TableKind::Lut1d, coefficients, powers, base)
+            array_node::table_node(s, at, TableNode::Lut1d, coefficients, powers, base)
         }
         CarriedNode::Range => range_node::read_range(s, at, coefficients, powers, base),
         CarriedNode::Cdl => cdl_node::read_cdl(s, at, coefficients, powers, base),
+        CarriedNode::Lut3d => {
+            array_node::table_node(s, at, TableNode::Lut3d, coefficients, powers, base)
+        }
     }
 }

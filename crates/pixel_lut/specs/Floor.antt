@@ -1,21 +1,22 @@
--- The index of a LUT1D: the whole part of p is the largest index that is at most p; and p, a fraction held in 0..1 times n - 1, is at most n - 1. Assumes nothing.
+-- The index on an axis, of a LUT1D or a LUT3D: the whole part of p is the largest index that is at most p; and p, a fraction held in 0..1 times n - 1, is at most n - 1. Assumes nothing.
 use mathlib.Core.Path.{_≡_, refl, sym, ap, _∙_, subst}
 use mathlib.Core.Logic.{inl, inr}
 use mathlib.Core.Bool.{Bool, true, false, not, _&&_, _||_, cond, true≢false}
 use Prim.Native.Nat.{ℕ, zero, suc, _+_, _-_, _*_, _/_, _^_, _≤_, _<_, min}
-use native.Mathlib.Nat.{eq-or-lt-of-le, le-div-iff-mul-le, le-of-mul-le-mul-right, mul-le-mul-right, mul-left-comm, mul-right-comm, mul-one, div-one, le-trans, le-of-eq, mul-pos}
+use native.Mathlib.Nat.{eq-or-lt-of-le, le-div-iff-mul-le, le-of-mul-le-mul-right, mul-le-mul-right, mul-left-comm, mul-right-comm, mul-one, div-one, le-trans, le-of-eq, mul-pos, zero-mul}
 use native.Mathlib.Omega.{arith}
 use borrow.Author.Tests.{ltb-false, leb-true, leb-false, lt-ltb, le-ltb, le-leb, lt-leb, eq-eqb, ne-eqb}
 use lib.Dec.{T, ltb, leb, eqb, lit<, lit≤, lt→ltb}
 use lib.IntN.{ℤ, pos}
-use lib.Ieee.{Float, nan, inf, fin, binary64, prec, emax, low, up, down, odd, units, round, lt, le, eq, mul, ofInt, ofBits, toUnsigned}
+use lib.Ieee.{Float, nan, inf, fin, binary64, prec, emax, low, up, down, odd, units, round, lt, le, eq, neg, sum, add, sub, mul, ofInt, ofBits, toUnsigned}
 use lib.Ieee.Fits.{down-pos, round-is}
 use lib.Ieee.Exact.{HasValue, odd-sign}
 use lib.Ieee.Back.{round-whole}
 use lib.Ieee.Nearest.{div-mono}
+use lib.Ieee.Scale.{round-same}
 use lib.Ieee.Order.{round-mono, kept, drop}
 use Rattle.pixel.specs.declared.Fraction.{Fraction}
-use Rattle.pixel.specs.F64.{one, whole}
+use Rattle.pixel.specs.F64.{_⊖_, one, whole}
 use Rattle.pixel.specs.F64 as F64
 use Rattle.pixel.specs.Hold.{hold}
 use Rattle.pixel_lut.specs.Lut1d.{floorTo, position}
@@ -245,3 +246,28 @@ floor-largest (suc k) j p h t = go (le (whole (suc k)) p) refl (λ l. floor-larg
       | inl s ↦ absurd (subst T (ap (λ (i : ℕ). le (whole i) p) s ∙ e) t)
       | inr l ↦ f (omega arith)
     ]
+
+-- ---- of two values that are at most each other nothing remains
+zero-round : (c : ℕ) → 0 < c → eq (round binary64 false 0 c) F64.zero ≡ true
+unfolding eq ofBits round
+zero-round c C = rw (round-same binary64 false 0 c 0 1 C (lit< tt) (zero-mul 1 ∙ sym (zero-mul c)))
+
+pub none-remains : (x y : Float) → T (plainFloat x) → T (plainFloat y) → T (le x y) → T (le y x) → eq (x ⊖ y) F64.zero ≡ true
+unfolding le lt eq sub neg add sum
+none-remains nan y p q h k = absurd p
+none-remains (inf s) y p q h k = absurd p
+none-remains (fin true m e) y p q h k = absurd p
+none-remains (fin false m e) nan p q h k = absurd q
+none-remains (fin false m e) (inf s) p q h k = absurd q
+none-remains (fin false m e) (fin true n d) p q h k = absurd q
+none-remains (fin false m e) (fin false n d) p q h k = go (m * up e * down d) (n * up d * down e) (down e * down d) (mul-pos (down-pos e) (down-pos d)) h k
+  where
+    go : (a b c : ℕ) → 0 < c → T (ltb a b || (eqb a b && true)) → T (ltb b a || (eqb b a && true)) → eq (sum binary64 false a true b c) F64.zero ≡ true
+    go a b c C h k =
+        let ab : a ≤ b = lib.Dec.leb→le a b (subst T (or-leb a b) h) in
+        let ba : b ≤ a = lib.Dec.leb→le b a (subst T (or-leb b a) k) in
+        let none : a - b ≡ 0 = omega arith in
+        rw (le-ltb a b ba, none) (zero-round c C)
+
+pub whole-plain : (k : ℕ) → k < 65536 → T (plainFloat (whole k))
+whole-plain k h = plain-of (whole k) k 1 (whole-value k (omega arith))

@@ -3,7 +3,7 @@ use mathlib.Core.Path.{_≡_, refl, ap}
 use mathlib.Core.Bool.{Bool, true, false, not, cond}
 use Prim.Native.Nat.{ℕ, _+_, _-_, _≤_, _<_}
 use native.Mathlib.Omega.{arith}
-use borrow.Author.Tests.{eqb-false, eq-eqb}
+use borrow.Author.Tests.{eqb-true, eqb-false, eq-eqb, le-leb}
 use lib.Dec.{T, eqb}
 use lib.Ieee.{Float, lt, le, eq, isNan}
 use Rattle.pixel.specs.declared.Fraction.{Fraction}
@@ -12,8 +12,8 @@ use Rattle.pixel.specs.F64 as F64
 use Rattle.pixel.specs.Bounds.{Between}
 use Rattle.pixel.specs.Order.{not-above, lt-le, le-right, between-wider}
 use Rattle.pixel.specs.HoldLaws.{hold-between}
-use Rattle.pixel_lut.specs.Floor.{floor-le, floor-at-most, floor-largest, position-in}
-use Rattle.pixel_lut.specs.Lut1d.{position, index, remainder, smaller, larger, interpolated, stepped, lookedUp}
+use Rattle.pixel_lut.specs.Floor.{floor-le, floor-at-most, floor-largest, position-in, none-remains, whole-plain}
+use Rattle.pixel_lut.specs.Lut1d.{position, index, remainder, onAxis, smaller, larger, interpolated, stepped, lookedUp}
 
 -- ---- no index leaves the table
 pub index-below : (n : ℕ) (x : Fraction) → 0 < n → index n x < n
@@ -31,6 +31,30 @@ index-largest n j x h t = floor-largest (n - 1) j (position n x) (omega arith) t
 
 pub next-below : (n : ℕ) (x : Fraction) → 0 < n → (index n x ≡ n - 1 → ⊥) → index n x + 1 < n
 next-below n x h k = omega (arith, index-below n x h, k)
+
+-- ---- the place on an axis of a table that is carried
+pub on-axis : (n : ℕ) (x : Fraction) → 2 ≤ n → n ≤ 65536 → onAxis n x ≡ record { index = index n x; part = remainder n x }
+unfolding onAxis
+on-axis n x h k = simp (le-leb 2 n h, le-leb n 65536 k)
+
+-- at the last entry nothing remains
+pub last-exact : (n : ℕ) (x : Fraction) → 2 ≤ n → n ≤ 65536 → index n x ≡ n - 1 → eq (remainder n x) F64.zero ≡ true
+unfolding remainder
+last-exact n x h k e =
+    let p = position-in n x k in
+    let w = whole-plain (n - 1) (omega arith) in
+    rw e (none-remains (position n x) (whole (n - 1)) (p .0) w (p .1) (rw e at (index-at-most n x k)))
+
+-- so the step is between the entry at the index and the next one, wherever the index is
+pub looked-up-stepped : (entry : ℕ → Float) (n : ℕ) (x : Fraction) → 2 ≤ n → n ≤ 65536
+    → lookedUp entry n x .0 ≡ stepped (entry (index n x)) (entry (index n x + 1)) (remainder n x)
+unfolding lookedUp stepped
+looked-up-stepped entry n x h k = go (eqb (index n x) (n - 1)) refl
+  where
+    go : (q : Bool) → eqb (index n x) (n - 1) ≡ q
+        → cond q (entry (index n x)) (stepped (entry (index n x)) (entry (index n x + 1)) (remainder n x)) ≡ stepped (entry (index n x)) (entry (index n x + 1)) (remainder n x)
+    go true e = simp (last-exact n x h k (eqb-true _ _ e))
+    go false e = refl
 
 -- ---- between the two entries, whatever f is
 pub interpolated-between : (e e' f : Float) → T (not (isNan e)) → T (not (isNan e')) → Between (smaller e e') (larger e e') (interpolated e e' f)

@@ -14,6 +14,12 @@ use pixel::Fraction;
 use pixel::Fractions;
 use pixel::Pixel;
 
+// Where a fraction falls on an axis of entries: `index`, the last entry at or before it, and `part`, how far behind that entry it lies, 0 at the entry itself.
+pub struct AxisPlace {
+    pub index: usize,
+    pub part: f64,
+}
+
 fn position(n: usize, x: Fraction) -> f64
     requires { ⌜ 2 ≤ n ⌝ }
     requires { ⌜ n ≤ 65536 ⌝ }
@@ -30,6 +36,30 @@ fn floor_to(top: usize, p: f64) -> usize
     ensures { λ r. ⌜ r ≡ Lut1d.floorTo top p ⌝ }
 {
     std::num::truncating_f64_to_u64(p) as usize
+}
+
+// The place on an axis of n entries, for each axis of a LUT3D. LUT1D works both numbers out by itself, which is faster there.
+pub fn on_axis(n: usize, x: Fraction) -> AxisPlace
+    ensures { λ r. ⌜ r ≡ Lut1d.onAxis n x ⌝ }
+{
+    if n < 2 {
+        return AxisPlace {
+            index: 0,
+            part: 0.0,
+        };
+    }
+    if n > 65536 {
+        return AxisPlace {
+            index: 0,
+            part: 0.0,
+        };
+    }
+    let p = position(n, x);
+    let index = floor_to(n - 1, p);
+    AxisPlace {
+        index,
+        part: p - (index as f64),
+    }
 }
 
 // From entry e to the next one by the part f, held between the smaller and the larger of the two.
@@ -120,7 +150,7 @@ fn looked_up_all(
 }
 
 // Whether a room has count numbers from number at on.
-fn fits(room: usize, at: usize, count: usize) -> bool
+pub fn fits(room: usize, at: usize, count: usize) -> bool
     ensures { λ r. ⌜ r ≡ leb (at + count) room ⌝ }
 {
     if at > room {

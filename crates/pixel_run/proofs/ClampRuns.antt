@@ -8,7 +8,7 @@ use Rattle.pixel.specs.Range.{rangePixel}
 use Rattle.pixel.specs.RangeLaws.{range-within}
 use Rattle.room.specs.Room.{Room}
 use Rattle.pixel_run.specs.declared.Prepared.{Prepared}
-use Rattle.pixel_run.specs.declared.Prepared.the-variants.{Range, Cdl, Matrix, Lut1d}
+use Rattle.pixel_run.specs.declared.Prepared.the-variants.{Range, Cdl, Matrix, Lut1d, Lut3d}
 use Rattle.pixel_run.specs.Each.{eachPixel, EachWithin}
 use Rattle.pixel_run.specs.EachLaws.{each-within}
 use Rattle.pixel_run.specs.Step.{stepPixel, ClampHolds}
@@ -28,6 +28,7 @@ module _ (rows : List (List Float)) (inScale outScale : Float) (m : Room) (xs ys
   held (Cdl sr sg sb or og ob pr pg pb sat clamp) e = tt
   held (Matrix at wide) e = tt
   held (Lut1d at n columns) e = tt
+  held (Lut3d at n interpolation) e = tt
 
   pub node-ran : (p : Prepared) → ys ≡ eachPixel (stepPixel p rows inScale outScale m) xs
       → (ys ≡ eachPixel (stepPixel p rows inScale outScale m) xs) × ClampHolds p ys

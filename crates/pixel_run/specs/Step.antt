@@ -1,5 +1,6 @@
 -- A prepared node's step on a pixel. Document 01: 'A prepared node is one of four kinds: Range with four and CDL with ten numbers, each carrying its own f64 parameters; Matrix and
--- LUT1D with where their numbers stand. For a Matrix its three rows of four are handed over by value.'
+-- LUT1D with where their numbers stand. For a Matrix its three rows of four are handed over by value.' Document 02: 'a new kind or shape of node may be a prepared kind of its own'; LUT3D is one,
+-- with where its numbers stand.
 use mathlib.Core.List.{List}
 use lib.Dec.{T}
 use lib.Ieee.{Float, le}
@@ -8,9 +9,10 @@ use Rattle.pixel.specs.Range.{rangePixel}
 use Rattle.pixel.specs.Matrix.{matrixPixel}
 use Rattle.pixel.specs.Cdl.{cdlPixel}
 use Rattle.pixel_lut.specs.Table.{lut1dPixel}
+use Rattle.pixel_cube.specs.Table.{lut3dPixel}
 use Rattle.pixel_run.specs.Each.{EachWithin}
 use Rattle.pixel_run.specs.declared.Prepared.{Prepared}
-use Rattle.pixel_run.specs.declared.Prepared.the-variants.{Range, Cdl, Matrix, Lut1d}
+use Rattle.pixel_run.specs.declared.Prepared.the-variants.{Range, Cdl, Matrix, Lut1d, Lut3d}
 -- the table room, passed on to those who run nodes
 use Rattle.room.specs.Room.{Room}
 
@@ -21,6 +23,7 @@ stepPixel (Cdl slopeR slopeG slopeB offsetR offsetG offsetB powerR powerG powerB
     cdlPixel slopeR slopeG slopeB offsetR offsetG offsetB sat clamp inScale outScale x
 stepPixel (Matrix at wide) rows inScale outScale m x = matrixPixel rows wide x
 stepPixel (Lut1d at n columns) rows inScale outScale m x = lut1dPixel m at n columns inScale x
+stepPixel (Lut3d at n interpolation) rows inScale outScale m x = lut3dPixel m at n interpolation inScale x
 
 -- 'Clamp holds it between minOut and maxOut': what a slice that has gone through a Range of style Clamp keeps, whatever went in, NaN and infinities included
 unfoldable pub ClampHolds : Prepared → List Float → Type 0
@@ -28,3 +31,4 @@ ClampHolds (Range minIn maxIn minOut maxOut clamp) xs = T clamp → T (le minOut
 ClampHolds (Cdl slopeR slopeG slopeB offsetR offsetG offsetB powerR powerG powerB sat clamp) xs = Unit
 ClampHolds (Matrix at wide) xs = Unit
 ClampHolds (Lut1d at n columns) xs = Unit
+ClampHolds (Lut3d at n interpolation) xs = Unit

@@ -1,6 +1,6 @@
 -- What a step can put out, whatever comes in: a Range with style Clamp stays between minOut and maxOut, an ASC_CDL of style Fwd with an out scale of 1 between 0 and 1,
--- and a LUT1D that the room holds between the bounds of its columns. Over a slice: `each-within` of EachLaws. Assumes nothing.
-use mathlib.Core.Path.{_≡_}
+-- a LUT1D that the room holds between the bounds of its columns, and a LUT3D that it holds between the corners used. Over a slice: `each-within` of EachLaws. Assumes nothing.
+use mathlib.Core.Path.{_≡_, refl}
 use mathlib.Core.Bool.{true}
 use mathlib.Core.List.{List}
 use Prim.Native.Nat.{ℕ, _<_}
@@ -14,7 +14,10 @@ use Rattle.pixel.specs.CdlLaws.{cdl-within}
 use Rattle.room.specs.Room.{Room, roomLength}
 use Rattle.pixel_lut.specs.Table.{tableIn, entryAt, columnOf}
 use Rattle.pixel_lut.specs.TableLaws.{InColumns, lut1d-between}
-use Rattle.pixel_run.specs.declared.Prepared.the-variants.{Range, Cdl, Lut1d}
+use Rattle.process_list.specs.declared.Interpolation.{Interpolation}
+use Rattle.pixel_cube.specs.Corners.{LutKeeps}
+use Rattle.pixel_cube.proofs.Keeps.{kept}
+use Rattle.pixel_run.specs.declared.Prepared.the-variants.{Range, Cdl, Lut1d, Lut3d}
 use Rattle.pixel_run.specs.Step.{stepPixel}
 
 module _ (rows : List (List Float)) (inScale outScale : Float) (m : Room) where
@@ -33,3 +36,8 @@ module _ (rows : List (List Float)) (inScale outScale : Float) (m : Room) where
       → InColumns lo hi (stepPixel (Lut1d at n columns) rows inScale outScale m x)
   unfolding stepPixel
   lut1d-in-columns at n columns x lo hi h b = lut1d-between m at n columns inScale x lo hi h b
+
+  pub lut3d-keeps : (at n : ℕ) (interpolation : Interpolation) (x : Pixel)
+      → LutKeeps m at n interpolation inScale x (stepPixel (Lut3d at n interpolation) rows inScale outScale m x)
+  unfolding stepPixel
+  lut3d-keeps at n interpolation x = kept m at n interpolation inScale x _ refl .1

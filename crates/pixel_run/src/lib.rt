@@ -10,6 +10,7 @@ ghost use Rattle.pixel.specs.Matrix as Matrix;
 ghost use Rattle.pixel.specs.Cdl as Cdl;
 ghost use Rattle.room.specs.Room.{lent};
 ghost use Rattle.pixel_lut.specs.Table as Table;
+ghost use Rattle.pixel_cube.specs.Table as Cube;
 ghost use Rattle.pixel_run.specs.Step as Step;
 ghost use Rattle.pixel_run.specs.Prepare as Prepare;
 ghost use Rattle.pixel_run.specs.Each as Each;
@@ -17,8 +18,9 @@ ghost use Rattle.pixel_run.specs.EachLaws as EachLaws;
 ghost use Rattle.pixel_run.specs.Finite as Finite;
 ghost use Rattle.pixel_run.specs.FiniteLaws as FiniteLaws;
 use pixel::Pixel;
+use process_list::Interpolation;
 
-// A prepared node: Range with its four numbers, CDL with its ten, Matrix and LUT1D with where theirs stand.
+// A prepared node: Range with its four numbers, CDL with its ten, Matrix, LUT1D and LUT3D with where theirs stand.
 // clamp: a Range's style is Clamp, an ASC_CDL's is Fwd. wide: a Matrix is 3x4.
 pub enum Prepared {
     Range {
@@ -49,6 +51,11 @@ pub enum Prepared {
         at: usize,
         entries: usize,
         columns: usize,
+    },
+    Lut3d {
+        at: usize,
+        points: usize,
+        interpolation: Interpolation,
     },
 }
 
@@ -205,6 +212,34 @@ fn run_lut1d(
     }
 }
 
+fn run_lut3d(
+    pixels: &mut [f64],
+    coefficients: &[i64],
+    powers: &[i8],
+    at: usize,
+    points: usize,
+    interpolation: Interpolation,
+    in_scale: f64,
+)
+    ensures { λ _. ⌜ now (pixels .exit) ≡ Each.eachPixel (Cube.lut3dPixel (lent (now (coefficients .entry)) (now (powers .entry))) at points interpolation «in_scale») (now (pixels .entry)) ⌝ }
+{
+    let mut i = 0usize;
+    while pixels.len() - i >= 3 {
+        let x = load(pixels, i);
+        let y = pixel_cube::lut3d_pixel(
+            coefficients,
+            powers,
+            at,
+            points,
+            interpolation,
+            in_scale,
+            x,
+        );
+        store(pixels, i, y);
+        i += 3;
+    }
+}
+
 // One node over all pixels of the slice.
 pub fn run_node(
     pixels: &mut [f64],
@@ -257,6 +292,19 @@ pub fn run_node(
             entries,
             columns,
         } => run_lut1d(pixels, coefficients, powers, at, entries, columns, in_scale),
+        Prepared::Lut3d {
+            at,
+            points,
+            interpolation,
+        } => run_lut3d(
+            pixels,
+            coefficients,
+            powers,
+            at,
+            points,
+            interpolation,
+            in_scale,
+        ),
     }
 }
 

@@ -8,6 +8,6 @@ use Rattle.clf.specs.Reading.{Reading, nodesIn}
 abbrev pub nodeCount : Reading → ℕ
 nodeCount r = length (nodesIn r)
 
--- 'Matrix 9 or 12 numbers, LUT1D n or 3n, Range 4, ASC_CDL 10'
+-- the numbers of all nodes, by their kinds (`numbersOf`)
 abbrev pub numberCount : Reading → ℕ
 numberCount r = total (map nodeOf (nodesIn r))

@@ -18,13 +18,13 @@ use Rattle.clf.specs.Numbers.{anyNumber, notBelowZero, mustBeOne}
 use Rattle.clf.specs.Nodes.{cdlStyle, elementWith, notEmptyRules, sopHolder, sopNode, satHolder, satNode, CdlState, noCdl, cdlHolder, cdlTexts, cdlNode, cdlRules, cdlContent, ascCdl}
 use Rattle.claims.proofs.Numbers.{Each, Kept}
 use Rattle.valid.specs.Valid.{every}
-use Rattle.written_form.specs.Written.{depthText}
-use Rattle.written_form.proofs.Tail.{valueText, sopText, satText}
+use Rattle.written_form.specs.Written.{cdlStyleText}
+use Rattle.written_form.proofs.Tail.{valueText, sopText, satText, depthsText}
 use Rattle.reads_back.proofs.Texts.{isName}
 use Rattle.reads_back.proofs.Tags.{quoted, greater-name, tag-from, tag-ends}
 use Rattle.reads_back.proofs.Held.{heldFrom, held-from, held-line, held-child, held-end}
 use Rattle.reads_back.proofs.Values.{value-child}
-use Rattle.reads_back.proofs.Depths.{withDepths, node-is, NodeRules, style-tag}
+use Rattle.reads_back.proofs.Depths.{withDepths, lastText, node-is, NodeRules, style-last, last-tag}
 
 sop-name : isName (bytes "SOPNode") ≡ true
 unfolding isName isNameByte isLetter isDigit every
@@ -129,9 +129,13 @@ unfolding same
 sat-body l s m r e = ap (λ (o : Out (List Decimal)). thenOut o (λ m. retP (withBoth l m))) e
 
 -- the style of an ASC_CDL
-abbrev pub fwdText : CdlStyle → List ℕ
+abbrev fwdText : CdlStyle → List ℕ
 fwdText Fwd = bytes "Fwd"
 fwdText FwdNoClamp = bytes "FwdNoClamp"
+
+style-text : (style : CdlStyle) (t : List ℕ) → cdlStyleText style ++ t ≡ lastText (bytes "style") (fwdText style) t
+style-text Fwd t = refl
+style-text FwdNoClamp t = refl
 
 style-quoted : (style : CdlStyle) → quoted (fwdText style) ≡ true
 unfolding every
@@ -144,7 +148,7 @@ style-right Fwd = refl
 style-right FwdNoClamp = refl
 
 abbrev cdl-rules : NodeRules cdlRules
-cdl-rules = record { rest = cdlTexts; texts = refl; opened = refl; in-free = refl; out-free = refl; style-free = refl }
+cdl-rules = record { rest = cdlTexts; texts = refl; opened = refl; in-free = refl; out-free = refl }
 
 -- its ten numbers, each kept to its rule
 pub record Ten (s1 s2 s3 o1 o2 o3 p1 p2 p3 v : Decimal) : Type 0 where
@@ -184,15 +188,15 @@ module _ (s1 s2 s3 o1 o2 o3 p1 p2 p3 v : Decimal) (k : Ten s1 s2 s3 o1 o2 o3 p1 
     kind-said FwdNoClamp = refl
 
     pub cdl-reads : (style : CdlStyle) (t : List ℕ)
-        → ascCdl .run (bytes " inBitDepth=\"" ++ (depthText i ++ (bytes "\" outBitDepth=\"" ++ (depthText o ++ (bytes "\"" ++ (bytes " style=\"" ++ (fwdText style ++ (bytes "\">\n" ++
-        sopText ten (satText ten (bytes "</ASC_CDL>" ++ t))))))))))
+        → ascCdl .run (depthsText i o (cdlStyleText style ++ (bytes ">\n" ++ sopText ten (satText ten (bytes "</ASC_CDL>" ++ t)))))
         ≡ done (record { kind = Cdl style; input = i; output = o; numbers = ten }) t
     unfolding ascCdl
     cdl-reads style t =
         let r : List ℕ = 10 ∷ sopText ten (satText ten (bytes "</ASC_CDL>" ++ t)) in
         let l = withDepths i o (record { name = bytes "style"; text = fwdText style } ∷ []) in
-        ap (λ (x : Out Tag). thenOut x (λ tag u. thenOut ((cdlContent tag) .run u) (λ st. retP (cdlNode (tag .attributes) st))))
-        (style-tag cdlRules cdl-rules i o (fwdText style) r (style-quoted style) (style-right style))
+        ap (λ (s : List ℕ). ascCdl .run (depthsText i o s)) (style-text style (62 ∷ r))
+        ∙ ap (λ (x : Out Tag). thenOut x (λ tag u. thenOut ((cdlContent tag) .run u) (λ st. retP (cdlNode (tag .attributes) st))))
+        (last-tag cdlRules cdl-rules i o (bytes "style") (style-last cdlRules refl) (fwdText style) r (style-quoted style) (style-right style))
         ∙ ap (λ (x : Out CdlState). thenOut x (λ st. retP (cdlNode l st))) (content-reads t)
         ∙ ap (λ (u : CdlStyle). done (elementWith l (Cdl u) ten) t) (kind-said style)
         ∙ ap (λ (x : Element). done x t) (node-is i o (record { name = bytes "style"; text = fwdText style } ∷ []) (Cdl style) ten)

@@ -1,9 +1,8 @@
 -- A node of ProcessList in front of what follows it. Assumes nothing.
 use Rattle.process_list.specs.declared.RangeStyle.{RangeStyle}
-use Rattle.process_list.specs.declared.RangeStyle.the-variants.{Clamp, NoClamp}
 use Rattle.process_list.specs.declared.CdlStyle.{CdlStyle}
-use Rattle.process_list.specs.declared.CdlStyle.the-variants.{Fwd, FwdNoClamp}
-use mathlib.Core.Path.{_≡_, refl, sym, ap, subst}
+use Rattle.process_list.specs.declared.Interpolation.{Interpolation}
+use mathlib.Core.Path.{_≡_, refl, sym, ap, _∙_, subst}
 use mathlib.Core.Bool.{Bool, true, false}
 use mathlib.Core.List.{List, [], _∷_, _++_}
 use Prim.Native.Nat.{ℕ, _<_}
@@ -12,32 +11,34 @@ use lib.ListN.{length, length-append}
 use Rattle.decimal.specs.declared.Decimal.{Decimal}
 use Rattle.process_list.specs.declared.Depth.{Depth}
 use Rattle.process_list.specs.declared.Kind.{Kind}
-use Rattle.process_list.specs.declared.Kind.the-variants.{Matrix, Lut1d, Range, Cdl}
+use Rattle.process_list.specs.declared.Kind.the-variants.{Matrix, Lut1d, Range, Cdl, Lut3d}
 use Rattle.process_list.specs.List.{Element, numbersOf}
 use Rattle.valid.specs.Valid.{shapeRight, rulesHold, sound}
 use Rattle.grammar.specs.Parse.{Out, done, thenOut, retP}
+use Rattle.grammar.specs.Grammar.{G, seq, ret}
 use Rattle.xml.specs.Bytes.{bytes, same}
 use Rattle.xml.specs.Xml.{endTag}
 use Rattle.xml.specs.Elements.{child}
-use Rattle.clf.specs.Nodes.{nodeName, matrix, lut1d, range, ascCdl}
-use Rattle.clf.specs.List.{node, Flags, childFault, childBody, listItem}
+use Rattle.clf.specs.Nodes.{nodeName, matrix, lut1d, range, ascCdl, lut3d}
+use Rattle.clf.specs.List.{Child, node, Flags, childFault, childBody, listItem}
 use Rattle.written_form.specs.Written.{depthText, nameText, styleText}
 use Rattle.written_form.proofs.Tail.{contentText, startText, endText, nodeText}
 use Rattle.reads_back.proofs.Texts.{rest-short, isName}
 use Rattle.reads_back.proofs.Held.{between-child}
-use Rattle.reads_back.proofs.Tables.{space-name, matrix-name, lut-name, matrix-reads, lut-reads}
+use Rattle.reads_back.proofs.Tables.{space-name, matrix-name, lut-name, cube-name, matrix-reads, lut-reads, cube-reads}
 use Rattle.reads_back.proofs.Ranges.{range-name, range-reads}
 use Rattle.reads_back.proofs.Cdls.{cdl-name, cdl-reads}
 use Rattle.written_form.proofs.Short.{Parts, sound-parts}
 use Rattle.reads_back.proofs.Sound.{any-kept, Four, four, range-order, TenOf, ten-of, ten-kept}
 
--- ---- a child of each of the four names
+-- ---- a child of each of the five names
 
 name-right : (k : Kind) → isName (nameText k) ≡ true
 name-right (Matrix wide) = matrix-name
 name-right (Lut1d entries columns) = lut-name
 name-right (Range style) = range-name
 name-right (Cdl style) = cdl-name
+name-right (Lut3d points interpolation) = cube-name
 
 fault-none : (st : Flags) (k : Kind) → childFault st (nameText k) ≡ 0
 unfolding childFault nodeName same
@@ -45,22 +46,23 @@ fault-none st (Matrix wide) = refl
 fault-none st (Lut1d entries columns) = refl
 fault-none st (Range style) = refl
 fault-none st (Cdl style) = refl
+fault-none st (Lut3d points interpolation) = refl
 
-matrix-child : (s : List ℕ) (n : Element) (r : List ℕ) → matrix .run s ≡ done n r → (childBody (bytes "Matrix")) .run s ≡ done (node n) r
-unfolding childBody nodeName same
-matrix-child s n r e = ap (λ (o : Out Element). thenOut o (λ n. retP (node n))) e
+-- the grammar of each
+abbrev bodyOf : Kind → G Element
+bodyOf (Matrix wide) = matrix
+bodyOf (Lut1d entries columns) = lut1d
+bodyOf (Range style) = range
+bodyOf (Cdl style) = ascCdl
+bodyOf (Lut3d points interpolation) = lut3d
 
-lut-child : (s : List ℕ) (n : Element) (r : List ℕ) → lut1d .run s ≡ done n r → (childBody (bytes "LUT1D")) .run s ≡ done (node n) r
+child-is : (k : Kind) → childBody (nameText k) ≡ seq (bodyOf k) (λ n. ret (node n))
 unfolding childBody nodeName same
-lut-child s n r e = ap (λ (o : Out Element). thenOut o (λ n. retP (node n))) e
-
-range-child : (s : List ℕ) (n : Element) (r : List ℕ) → range .run s ≡ done n r → (childBody (bytes "Range")) .run s ≡ done (node n) r
-unfolding childBody nodeName same
-range-child s n r e = ap (λ (o : Out Element). thenOut o (λ n. retP (node n))) e
-
-cdl-child : (s : List ℕ) (n : Element) (r : List ℕ) → ascCdl .run s ≡ done n r → (childBody (bytes "ASC_CDL")) .run s ≡ done (node n) r
-unfolding childBody nodeName same
-cdl-child s n r e = ap (λ (o : Out Element). thenOut o (λ n. retP (node n))) e
+child-is (Matrix wide) = refl
+child-is (Lut1d entries columns) = refl
+child-is (Range style) = refl
+child-is (Cdl style) = refl
+child-is (Lut3d points interpolation) = refl
 
 -- ---- what stands behind a node's name, up to the LF behind its end tag
 
@@ -73,29 +75,30 @@ module _ (i o : Depth) (ds : List Decimal) (t : List ℕ) where
   abbrev made : Kind → Element
   made k = record { kind = k; input = i; output = o; numbers = ds }
 
-  matrix-body : (wide : Bool) → Parts (Matrix wide) ds → (childBody (bytes "Matrix")) .run (32 ∷ behindName (made (Matrix wide)) t) ≡ done (node (made (Matrix wide))) (10 ∷ t)
-  unfolding contentText endText numbersOf
-  matrix-body true p = matrix-child (32 ∷ behindName (made (Matrix true)) t) (made (Matrix true)) (10 ∷ t)
-      (matrix-reads i o true ds (10 ∷ t) (any-kept ds (p .each)) (p .count) (sym (p .count)))
-  matrix-body false p = matrix-child (32 ∷ behindName (made (Matrix false)) t) (made (Matrix false)) (10 ∷ t)
-      (matrix-reads i o false ds (10 ∷ t) (any-kept ds (p .each)) (p .count) (sym (p .count)))
+  -- a node's grammar reads its element, and leaves the LF
+  abbrev Back : Kind → Type 0
+  Back k = (bodyOf k) .run (32 ∷ behindName (made k) t) ≡ done (made k) (10 ∷ t)
 
-  lut-body : (n c : ℕ) → Parts (Lut1d n c) ds → (childBody (bytes "LUT1D")) .run (32 ∷ behindName (made (Lut1d n c)) t) ≡ done (node (made (Lut1d n c))) (10 ∷ t)
+  matrix-body : (wide : Bool) → Parts (Matrix wide) ds → Back (Matrix wide)
+  unfolding contentText endText numbersOf
+  matrix-body true p = matrix-reads i o true ds (10 ∷ t) (any-kept ds (p .each)) (p .count) (sym (p .count))
+  matrix-body false p = matrix-reads i o false ds (10 ∷ t) (any-kept ds (p .each)) (p .count) (sym (p .count))
+
+  lut-body : (n c : ℕ) → Parts (Lut1d n c) ds → Back (Lut1d n c)
   unfolding contentText endText numbersOf shapeRight
-  lut-body n c p = lut-child (32 ∷ behindName (made (Lut1d n c)) t) (made (Lut1d n c)) (10 ∷ t)
-      (lut-reads i o n c ds (10 ∷ t) (p .shape) (any-kept ds (p .each)) (p .count) (sym (p .count)))
+  lut-body n c p = lut-reads i o n c ds (10 ∷ t) (p .shape) (any-kept ds (p .each)) (p .count) (sym (p .count))
+
+  cube-body : (n : ℕ) (m : Interpolation) → Parts (Lut3d n m) ds → Back (Lut3d n m)
+  unfolding contentText endText numbersOf shapeRight
+  cube-body n m p = cube-reads i o n m ds (10 ∷ t) (p .shape) (any-kept ds (p .each)) (p .count) (sym (p .count))
 
 module _ (i o : Depth) (t : List ℕ) where
-  range-four : (style : RangeStyle) (a b c d : Decimal) → Parts (Range style) (a ∷ b ∷ c ∷ d ∷ [])
-      → (childBody (bytes "Range")) .run (32 ∷ behindName (made i o (a ∷ b ∷ c ∷ d ∷ []) t (Range style)) t) ≡ done (node (made i o (a ∷ b ∷ c ∷ d ∷ []) t (Range style))) (10 ∷ t)
-  unfolding contentText endText rulesHold
-  range-four Clamp a b c d p = range-child (32 ∷ behindName (made i o (a ∷ b ∷ c ∷ d ∷ []) t (Range Clamp)) t) (made i o (a ∷ b ∷ c ∷ d ∷ []) t (Range Clamp)) (10 ∷ t)
-      (range-reads i o a b c d Clamp (10 ∷ t) (any-kept (a ∷ b ∷ c ∷ d ∷ []) (p .each)) (range-order a b c d (p .rules)))
-  range-four NoClamp a b c d p = range-child (32 ∷ behindName (made i o (a ∷ b ∷ c ∷ d ∷ []) t (Range NoClamp)) t) (made i o (a ∷ b ∷ c ∷ d ∷ []) t (Range NoClamp)) (10 ∷ t)
-      (range-reads i o a b c d NoClamp (10 ∷ t) (any-kept (a ∷ b ∷ c ∷ d ∷ []) (p .each)) (range-order a b c d (p .rules)))
-
   abbrev RangeBack : RangeStyle → List Decimal → Type 0
-  RangeBack style ds = Parts (Range style) ds → (childBody (bytes "Range")) .run (32 ∷ behindName (made i o ds t (Range style)) t) ≡ done (node (made i o ds t (Range style))) (10 ∷ t)
+  RangeBack style ds = Parts (Range style) ds → Back i o ds t (Range style)
+
+  range-four : (style : RangeStyle) (a b c d : Decimal) → RangeBack style (a ∷ b ∷ c ∷ d ∷ [])
+  unfolding contentText endText rulesHold
+  range-four style a b c d p = range-reads i o a b c d style (10 ∷ t) (any-kept (a ∷ b ∷ c ∷ d ∷ []) (p .each)) (range-order a b c d (p .rules))
 
   range-body : (style : RangeStyle) (ds : List Decimal) → RangeBack style ds
   unfolding numbersOf
@@ -104,18 +107,12 @@ module _ (i o : Depth) (t : List ℕ) where
       subst (RangeBack style) (sym (f .is)) (range-four style (f .a) (f .b) (f .c) (f .d)) p
 
   abbrev CdlBack : CdlStyle → List Decimal → Type 0
-  CdlBack style ds = Parts (Cdl style) ds → (childBody (bytes "ASC_CDL")) .run (32 ∷ behindName (made i o ds t (Cdl style)) t) ≡ done (node (made i o ds t (Cdl style))) (10 ∷ t)
+  CdlBack style ds = Parts (Cdl style) ds → Back i o ds t (Cdl style)
 
   cdl-ten : (style : CdlStyle) (s1 s2 s3 o1 o2 o3 p1 p2 p3 v : Decimal) → CdlBack style (s1 ∷ s2 ∷ s3 ∷ o1 ∷ o2 ∷ o3 ∷ p1 ∷ p2 ∷ p3 ∷ v ∷ [])
   unfolding contentText endText rulesHold
-  cdl-ten Fwd s1 s2 s3 o1 o2 o3 p1 p2 p3 v p =
-      let ds : List Decimal = s1 ∷ s2 ∷ s3 ∷ o1 ∷ o2 ∷ o3 ∷ p1 ∷ p2 ∷ p3 ∷ v ∷ [] in
-      cdl-child (32 ∷ behindName (made i o ds t (Cdl Fwd)) t) (made i o ds t (Cdl Fwd)) (10 ∷ t)
-      (cdl-reads s1 s2 s3 o1 o2 o3 p1 p2 p3 v (ten-kept s1 s2 s3 o1 o2 o3 p1 p2 p3 v (p .each) (p .rules)) i o Fwd (10 ∷ t))
-  cdl-ten FwdNoClamp s1 s2 s3 o1 o2 o3 p1 p2 p3 v p =
-      let ds : List Decimal = s1 ∷ s2 ∷ s3 ∷ o1 ∷ o2 ∷ o3 ∷ p1 ∷ p2 ∷ p3 ∷ v ∷ [] in
-      cdl-child (32 ∷ behindName (made i o ds t (Cdl FwdNoClamp)) t) (made i o ds t (Cdl FwdNoClamp)) (10 ∷ t)
-      (cdl-reads s1 s2 s3 o1 o2 o3 p1 p2 p3 v (ten-kept s1 s2 s3 o1 o2 o3 p1 p2 p3 v (p .each) (p .rules)) i o FwdNoClamp (10 ∷ t))
+  cdl-ten style s1 s2 s3 o1 o2 o3 p1 p2 p3 v p =
+      cdl-reads s1 s2 s3 o1 o2 o3 p1 p2 p3 v (ten-kept s1 s2 s3 o1 o2 o3 p1 p2 p3 v (p .each) (p .rules)) i o style (10 ∷ t)
 
   cdl-body : (style : CdlStyle) (ds : List Decimal) → CdlBack style ds
   unfolding numbersOf
@@ -123,11 +120,17 @@ module _ (i o : Depth) (t : List ℕ) where
       let f : TenOf ds = ten-of ds (p .count) in
       subst (CdlBack style) (sym (f .is)) (cdl-ten style (f .s1) (f .s2) (f .s3) (f .o1) (f .o2) (f .o3) (f .p1) (f .p2) (f .p3) (f .v)) p
 
+  kind-body : (k : Kind) (ds : List Decimal) → Parts k ds → Back i o ds t k
+  kind-body (Matrix wide) ds p = matrix-body i o ds t wide p
+  kind-body (Lut1d n c) ds p = lut-body i o ds t n c p
+  kind-body (Range style) ds p = range-body style ds p
+  kind-body (Cdl style) ds p = cdl-body style ds p
+  kind-body (Lut3d n m) ds p = cube-body i o ds t n m p
+
   node-body : (k : Kind) (ds : List Decimal) → Parts k ds → (childBody (nameText k)) .run (32 ∷ behindName (made i o ds t k) t) ≡ done (node (made i o ds t k)) (10 ∷ t)
-  node-body (Matrix wide) ds p = matrix-body i o ds t wide p
-  node-body (Lut1d n c) ds p = lut-body i o ds t n c p
-  node-body (Range style) ds p = range-body style ds p
-  node-body (Cdl style) ds p = cdl-body style ds p
+  node-body k ds p =
+      ap (λ (g : G Child). g .run (32 ∷ behindName (made i o ds t k) t)) (child-is k)
+      ∙ ap (λ (x : Out Element). thenOut x (λ n. retP (node n))) (kind-body k ds p)
 
 -- A WRITTEN NODE READS BACK, as an item of ProcessList; the LF behind it is left
 pub node-reads : (st : Flags) (e : Element) (t : List ℕ) → sound e ≡ true → (listItem st) .run (nodeText e t) ≡ done (child (node e)) (10 ∷ t)

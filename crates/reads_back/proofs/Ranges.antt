@@ -19,13 +19,13 @@ use Rattle.clf.specs.Numbers.{anyNumber, valueElement}
 use Rattle.clf.specs.Nodes.{rangeStyle, elementWith, nodeRules, RangeState, noValues, rangeIndex, onlyNumber, rangeHolder, rangeTexts, rangeNode, range}
 use Rattle.claims.proofs.Numbers.{Each, Kept}
 use Rattle.valid.specs.Valid.{every}
-use Rattle.written_form.specs.Written.{depthText}
-use Rattle.written_form.proofs.Tail.{valueText, rangeText}
+use Rattle.written_form.specs.Written.{rangeStyleText}
+use Rattle.written_form.proofs.Tail.{valueText, rangeText, depthsText}
 use Rattle.reads_back.proofs.Texts.{isName}
 use Rattle.reads_back.proofs.Tags.{quoted}
 use Rattle.reads_back.proofs.Held.{heldFrom, held-from, held-line, held-end}
 use Rattle.reads_back.proofs.Values.{value-child}
-use Rattle.reads_back.proofs.Depths.{withDepths, node-is, NodeRules, style-tag}
+use Rattle.reads_back.proofs.Depths.{withDepths, lastText, node-is, NodeRules, style-last, last-tag}
 
 abbrev values : Option Decimal → Option Decimal → Option Decimal → Option Decimal → RangeState
 values a b c d = record { values = a ∷ b ∷ c ∷ d ∷ [] }
@@ -84,12 +84,16 @@ module _ (a b c d : Decimal) where
       ∙ held-end rangeHolder (values (some a) (some b) (some c) (some d)) t range-name (in-order e)
 
 abbrev range-rules : NodeRules (nodeRules (λ w. 0) rangeTexts)
-range-rules = record { rest = rangeTexts; texts = refl; opened = refl; in-free = refl; out-free = refl; style-free = refl }
+range-rules = record { rest = rangeTexts; texts = refl; opened = refl; in-free = refl; out-free = refl }
 
 -- the style of a Range
 abbrev clampText : RangeStyle → List ℕ
 clampText Clamp = bytes "Clamp"
 clampText NoClamp = bytes "noClamp"
+
+style-text : (style : RangeStyle) (t : List ℕ) → rangeStyleText style ++ t ≡ lastText (bytes "style") (clampText style) t
+style-text Clamp t = refl
+style-text NoClamp t = refl
 
 style-quoted : (style : RangeStyle) → quoted (clampText style) ≡ true
 unfolding every
@@ -109,15 +113,15 @@ module _ (i o : Depth) where
 
   module _ (a b c d : Decimal) where
     pub range-reads : (style : RangeStyle) (t : List ℕ) → Each (Kept anyNumber) (a ∷ b ∷ c ∷ d ∷ []) → (less a b && atMost c d) ≡ true
-        → range .run (bytes " inBitDepth=\"" ++ (depthText i ++ (bytes "\" outBitDepth=\"" ++ (depthText o ++ (bytes "\"" ++ (bytes " style=\"" ++ (clampText style ++ (bytes "\">\n" ++
-        rangeText (a ∷ b ∷ c ∷ d ∷ []) (bytes "</Range>" ++ t)))))))))
+        → range .run (depthsText i o (rangeStyleText style ++ (bytes ">\n" ++ rangeText (a ∷ b ∷ c ∷ d ∷ []) (bytes "</Range>" ++ t))))
         ≡ done (record { kind = Range style; input = i; output = o; numbers = a ∷ b ∷ c ∷ d ∷ [] }) t
     unfolding range
     range-reads style t k e =
         let r : List ℕ = 10 ∷ rangeText (a ∷ b ∷ c ∷ d ∷ []) (bytes "</Range>" ++ t) in
         let l = withDepths i o (record { name = bytes "style"; text = clampText style } ∷ []) in
-        ap (λ (x : Out Tag). thenOut x (λ tag u. thenOut ((held rangeHolder noValues) .run u) (λ st. retP (rangeNode (tag .attributes) st))))
-        (style-tag (nodeRules (λ w. 0) rangeTexts) range-rules i o (clampText style) r (style-quoted style) (style-right style))
+        ap (λ (s : List ℕ). range .run (depthsText i o s)) (style-text style (62 ∷ r))
+        ∙ ap (λ (x : Out Tag). thenOut x (λ tag u. thenOut ((held rangeHolder noValues) .run u) (λ st. retP (rangeNode (tag .attributes) st))))
+        (last-tag (nodeRules (λ w. 0) rangeTexts) range-rules i o (bytes "style") (style-last (nodeRules (λ w. 0) rangeTexts) refl) (clampText style) r (style-quoted style) (style-right style))
         ∙ ap (λ (x : Out RangeState). thenOut x (λ st. retP (rangeNode l st))) (content-reads a b c d t k e)
         ∙ ap (λ (v : RangeStyle). done (elementWith l (Range v) (a ∷ b ∷ c ∷ d ∷ [])) t) (kind-said style)
         ∙ ap (λ (x : Element). done x t) (node-is i o (record { name = bytes "style"; text = clampText style } ∷ []) (Range style) (a ∷ b ∷ c ∷ d ∷ []))

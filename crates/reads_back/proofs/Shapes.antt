@@ -12,19 +12,17 @@ use Rattle.decimal_write.specs.Written.{digitsWithin, digits}
 use Rattle.decimal_write.specs.Laws as Written
 use Rattle.decimal_write.specs.Laws.{Every, more, digits-every, both-every}
 use Rattle.decimal_back.specs.Digits.{numbers, digits-say}
-use Rattle.process_list.specs.declared.Kind.the-variants.{Matrix, Lut1d}
-use Rattle.valid.specs.Valid.{tableRight}
+use Rattle.process_list.specs.declared.Interpolation.{Interpolation}
+use Rattle.process_list.specs.declared.Kind.the-variants.{Matrix, Lut1d, Lut3d}
+use Rattle.valid.specs.Valid.{tableRight, cubeRight}
 use Rattle.valid.proofs.Elements.{both-true}
 use Rattle.grammar.specs.Laws.{nope}
 use Rattle.xml.specs.Bytes.{same, isDigit}
-use Rattle.clf.specs.Nodes.{matrixShape, wholeFrom, behindDigits, beginsWithZero, lutColumns, lutShape}
-use Rattle.reads_back.proofs.Tags.{quoted}
+use Rattle.clf.specs.Nodes.{matrixShape, wholeFrom, behindDigits, beginsWithZero, lutColumns, lutShape, cubeDim, cubeShape}
+use Rattle.written_form.specs.Written.{dims}
+use Rattle.reads_back.proofs.Tags.{quoted, same-self}
 use Rattle.reads_back.proofs.Texts.{plainByte}
 use Rattle.reads_back.proofs.Numbers.{every-of}
-
--- 'dims as held': rows, one space, columns
-abbrev pub dimText : ℕ → ℕ → List ℕ
-dimText rows columns = digits rows ++ 32 ∷ digits columns
 
 -- ---- its bytes
 
@@ -34,19 +32,23 @@ inQuotes = plainByte (λ b. eqb b 34)
 quoted-digit : (k : ℕ) → k < 10 → inQuotes (48 + k) ≡ true
 quoted-digit k h = rw (ne-eqb (48 + k) 34 (λ e. omega arith), ne-eqb (48 + k) 60 (λ e. omega arith), ne-eqb (48 + k) 38 (λ e. omega arith))
 
-pub dim-quoted : (rows columns : ℕ) → quoted (dimText rows columns) ≡ true
-dim-quoted rows columns =
-    every-of (dimText rows columns)
-    (both-every (digits-every (λ b. inQuotes b ≡ true) quoted-digit rows) (more refl (digits-every (λ b. inQuotes b ≡ true) quoted-digit columns)))
+dims-every : (ns : List ℕ) → Every (λ b. inQuotes b ≡ true) (dims ns)
+unfolding dims
+dims-every [] = Written.none
+dims-every (n ∷ []) = digits-every (λ b. inQuotes b ≡ true) quoted-digit n
+dims-every (n ∷ (k ∷ ns)) = both-every (both-every (digits-every (λ b. inQuotes b ≡ true) quoted-digit n) (more refl Written.none)) (dims-every (k ∷ ns))
+
+pub dims-quoted : (ns : List ℕ) → quoted (dims ns) ≡ true
+dims-quoted ns = every-of (dims ns) (dims-every ns)
 
 -- ---- a Matrix
 
-pub matrix-shape : (wide : Bool) → matrixShape (dimText 3 (cond wide 4 3)) ≡ some (Matrix wide)
-unfolding matrixShape same digits digitsWithin
+pub matrix-shape : (wide : Bool) → matrixShape (dims (3 ∷ cond wide 4 3 ∷ [])) ≡ some (Matrix wide)
+unfolding matrixShape same dims digits digitsWithin
 matrix-shape true = refl
 matrix-shape false = refl
 
--- ---- a LUT1D
+-- ---- the whole number that it begins with
 
 abbrev Digits : List ℕ → Type 0
 Digits l = Every (λ b. isDigit b ≡ true) l
@@ -85,6 +87,16 @@ first-digit : (n : ℕ) (r : List ℕ) → 1 ≤ n → beginsWithZero (digits n 
 unfolding digits
 first-digit n r h = within-first n n r h (omega arith)
 
+-- the first of the dims, one space, the others
+dims-first : (n k : ℕ) (ns : List ℕ) → dims (n ∷ (k ∷ ns)) ≡ digits n ++ 32 ∷ dims (k ∷ ns)
+unfolding dims
+dims-first n k ns = append-assoc (digits n) (32 ∷ []) (dims (k ∷ ns))
+
+first-said : (n k : ℕ) (ns : List ℕ) → wholeFrom 0 (dims (n ∷ (k ∷ ns))) ≡ n
+first-said n k ns = ap (wholeFrom 0) (dims-first n k ns) ∙ whole-all 0 (dims (k ∷ ns)) (digits-every (λ b. isDigit b ≡ true) digit-is n) ∙ digits-say n
+
+-- ---- a LUT1D
+
 columns-said : (c : ℕ) → (eqb c 1 || eqb c 3) ≡ true → (lutColumns (32 ∷ digits c) ≡ c) × (0 < c)
 unfolding lutColumns digits digitsWithin same
 columns-said c h = go (eqb c 1) (eqb c 3) refl refl h
@@ -97,13 +109,35 @@ columns-said c h = go (eqb c 1) (eqb c 3) refl refl h
     go false true p q z = is 3 (eqb-true c 3 q) (refl, omega arith)
     go false false p q z = nope cc
 
-pub lut-shape : (n c : ℕ) → tableRight n c ≡ true → lutShape (dimText n c) ≡ some (Lut1d n c)
-unfolding lutShape tableRight
+pub lut-shape : (n c : ℕ) → tableRight n c ≡ true → lutShape (dims (n ∷ c ∷ [])) ≡ some (Lut1d n c)
+unfolding lutShape tableRight dims
 lut-shape n c h =
     let p = both-true (leb 2 n && leb n 65536) (eqb c 1 || eqb c 3) h in
     let q = both-true (leb 2 n) (leb n 65536) (p .0) in
     let l : 2 ≤ n = leb-true 2 n (q .0) in
     let k = columns-said c (p .1) in
-    let a : wholeFrom 0 (dimText n c) ≡ n = whole-all 0 (digits c) (digits-every (λ b. isDigit b ≡ true) digit-is n) ∙ digits-say n in
-    let b : lutColumns (behindDigits (dimText n c)) ≡ c = ap lutColumns (behind-all (digits c) (digits-every (λ b. isDigit b ≡ true) digit-is n)) ∙ k .0 in
-    rw (a, b, first-digit n (32 ∷ digits c) (omega arith), q .0, q .1, lt-ltb 0 c (k .1))
+    let t : List ℕ = dims (n ∷ c ∷ []) in
+    let e : t ≡ digits n ++ 32 ∷ digits c = dims-first n c [] in
+    let a : wholeFrom 0 t ≡ n = first-said n c [] in
+    let b : lutColumns (behindDigits t) ≡ c = ap (λ (s : List ℕ). lutColumns (behindDigits s)) e ∙ ap lutColumns (behind-all (digits c) (digits-every (λ b. isDigit b ≡ true) digit-is n)) ∙ k .0 in
+    let z : beginsWithZero t ≡ false = ap beginsWithZero e ∙ first-digit n (32 ∷ digits c) (omega arith) in
+    rw (a, b, z, q .0, q .1, lt-ltb 0 c (k .1))
+
+-- ---- a LUT3D
+
+-- four pieces with one between each, grouped as `dims` and as `cubeDim` group them
+grouped : (d s e : List ℕ) → (d ++ s) ++ ((d ++ s) ++ ((d ++ s) ++ e)) ≡ d ++ s ++ d ++ s ++ d ++ (s ++ e)
+grouped d s e = simp append-assoc
+
+cube-dims : (n : ℕ) → dims (n ∷ n ∷ n ∷ 3 ∷ []) ≡ cubeDim n
+unfolding dims cubeDim digits digitsWithin
+cube-dims n = grouped (digits n) (32 ∷ []) (51 ∷ [])
+
+pub cube-shape : (i : Interpolation) (n : ℕ) → cubeRight n ≡ true → cubeShape i (dims (n ∷ n ∷ n ∷ 3 ∷ [])) ≡ some (Lut3d n i)
+unfolding cubeShape cubeRight
+cube-shape i n h =
+    let q = both-true (leb 2 n) (leb n 33) h in
+    let t : List ℕ = dims (n ∷ n ∷ n ∷ 3 ∷ []) in
+    let a : wholeFrom 0 t ≡ n = first-said n n (n ∷ 3 ∷ []) in
+    let b : same t (cubeDim n) ≡ true = ap (same t) (sym (cube-dims n)) ∙ same-self t in
+    rw (a, b, q .0, q .1)

@@ -1,13 +1,12 @@
 -- Value elements and Arrays in front of what follows them. Assumes nothing.
-use mathlib.Core.Path.{_≡_, refl, sym, ap, _∙_}
+use mathlib.Core.Path.{_≡_, refl, ap, _∙_}
 use mathlib.Core.Bool.{true, false}
-use mathlib.Core.List.{List, [], _∷_, _++_, append-assoc}
+use mathlib.Core.List.{List, [], _∷_, _++_}
 use mathlib.Core.Option.{Option, some}
 use Prim.Native.Nat.{ℕ, _*_}
 use native.Mathlib.Omega.{arith}
 use lib.ListN.{length}
 use Rattle.decimal.specs.declared.Decimal.{Decimal}
-use Rattle.decimal_write.specs.Written.{digits}
 use Rattle.process_list.specs.declared.Kind.{Kind}
 use Rattle.process_list.specs.List.{numbersOf}
 use Rattle.grammar.specs.Parse.{Out, done, thenOut, retP}
@@ -20,10 +19,9 @@ use Rattle.claims.proofs.Numbers.{Each, Kept}
 use Rattle.valid.specs.Valid.{every}
 use Rattle.written_form.proofs.Tail.{rowText, rowsText, valueText}
 use Rattle.reads_back.proofs.Texts.{isName}
-use Rattle.reads_back.proofs.Tags.{greater-name, tagFrom, tag-from, tag-ends, tag-more}
+use Rattle.reads_back.proofs.Tags.{quoted, greater-name, tag-from, tag-ends, tag-more}
 use Rattle.reads_back.proofs.Held.{heldFrom, held-line, held-child}
 use Rattle.reads_back.proofs.Numbers.{Ends, numbers-from, past-line, numbers-end, row-reads, rows-read}
-use Rattle.reads_back.proofs.Shapes.{dimText, dim-quoted}
 
 less-ends : (s : List ℕ) → Ends (60 ∷ s)
 unfolding isSpace
@@ -80,25 +78,22 @@ module _ (shape : List ℕ → Option Kind) where
   unfolding textOf same
   dim-text v = refl
 
-  pub array-tag : (rows columns : ℕ) (k : Kind) (t : List ℕ) → shape (dimText rows columns) ≡ some k
-      → (startTag (arrayRules shape)) .run (bytes " dim=\"" ++ (digits rows ++ (bytes " " ++ (digits columns ++ (bytes "\">" ++ t)))))
-      ≡ done (record { attributes = dimOf (dimText rows columns) ∷ []; empty = false }) t
-  array-tag rows columns k t e =
-      let v : List ℕ = dimText rows columns in
-      tag-from (arrayRules shape) (bytes " dim=\"" ++ (digits rows ++ (bytes " " ++ (digits columns ++ (bytes "\">" ++ t)))))
-      ∙ ap (λ (s : List ℕ). tagFrom (arrayRules shape) [] (bytes " dim=\"" ++ s)) (sym (append-assoc (digits rows) (32 ∷ digits columns) (34 ∷ 62 ∷ t)))
-      ∙ tag-more (arrayRules shape) [] (bytes "dim") v (62 ∷ t) dim-name (dim-quoted rows columns) dim-new (dim-fine v k e)
+  array-tag : (v : List ℕ) (k : Kind) (t : List ℕ) → quoted v ≡ true → shape v ≡ some k
+      → (startTag (arrayRules shape)) .run (bytes " dim=\"" ++ (v ++ (bytes "\">" ++ t))) ≡ done (record { attributes = dimOf v ∷ []; empty = false }) t
+  array-tag v k t q e =
+      tag-from (arrayRules shape) (bytes " dim=\"" ++ (v ++ (bytes "\">" ++ t)))
+      ∙ tag-more (arrayRules shape) [] (bytes "dim") v (62 ∷ t) dim-name q dim-new (dim-fine v k e)
       ∙ tag-ends (arrayRules shape) (dimOf v ∷ []) t (dim-there v)
 
-  -- behind its name: `dim`, the rows a line each, its end tag
-  pub array-reads : (rows columns : ℕ) (k : Kind) (ds : List Decimal) (t : List ℕ) → shape (dimText rows columns) ≡ some k → Each (Kept anyNumber) ds → length ds ≡ rows * columns
-      → numbersOf k ≡ length ds
-      → (array shape) .run (bytes " dim=\"" ++ (digits rows ++ (bytes " " ++ (digits columns ++ (bytes "\">\n" ++ rowsText rows columns ds (bytes "</Array>" ++ t)))))) ≡ done (k, ds) t
+  -- behind its name: the text of `dim`, the rows a line each, its end tag
+  pub array-reads : (v : List ℕ) (rows columns : ℕ) (k : Kind) (ds : List Decimal) (t : List ℕ) → quoted v ≡ true → shape v ≡ some k → Each (Kept anyNumber) ds
+      → length ds ≡ rows * columns → numbersOf k ≡ length ds
+      → (array shape) .run (bytes " dim=\"" ++ (v ++ (bytes "\">\n" ++ rowsText rows columns ds (bytes "</Array>" ++ t)))) ≡ done (k, ds) t
   unfolding array
-  array-reads rows columns k ds t e each c n =
+  array-reads v rows columns k ds t q e each c n =
       let r : List ℕ = rowsText rows columns ds (bytes "</Array>" ++ t) in
-      ap (λ (o : Out Tag). thenOut o (λ tag. (arrayOf (shape (textOf (bytes "dim") (tag .attributes)))) .run)) (array-tag rows columns k (10 ∷ r) e)
-      ∙ ap (λ (v : List ℕ). (arrayOf (shape v)) .run (10 ∷ r)) (dim-text (dimText rows columns))
+      ap (λ (o : Out Tag). thenOut o (λ tag. (arrayOf (shape (textOf (bytes "dim") (tag .attributes)))) .run)) (array-tag v k (10 ∷ r) q e)
+      ∙ ap (λ (u : List ℕ). (arrayOf (shape u)) .run (10 ∷ r)) (dim-text v)
       ∙ ap (λ (o : Option Kind). (arrayOf o) .run (10 ∷ r)) e
       ∙ ap (λ (o : Out (List Decimal)). thenOut o (λ l. retP (k, l)))
       (numbers-from (bytes "Array") (numbersOf k) anyNumber (10 ∷ r)

@@ -1,22 +1,24 @@
 -- Running pixels through a list (document 01, 'What a pixel goes through', and 'Running: 16, 14, 15 (lowest index)'). Definitions only.
-use mathlib.Core.Bool.{Bool, not, cond}
+use mathlib.Core.Bool.{Bool, true, not, cond}
 use mathlib.Core.List.{List, [], _∷_}
 use Prim.Native.Nat.{ℕ, _%_}
 use lib.Dec.{eqb, ltb}
 use lib.ListN.{length}
 use lib.Ieee.{Float}
 use Rattle.process_list.specs.declared.Kind.{Kind}
-use Rattle.process_list.specs.declared.Kind.the-variants.{Matrix, Lut1d, Range, Cdl}
+use Rattle.process_list.specs.declared.Kind.the-variants.{Matrix, Lut1d, Range, Cdl, Lut3d}
 use Rattle.process_list.specs.declared.Node.{Node}
 use Rattle.process_list.specs.declared.ProcessList.{ProcessList}
 use Rattle.process_list.specs.List.{nodesOf, scaleOf, rangeClamps, cdlClamps}
-use Rattle.valid.specs.Valid.{isValid}
+use Rattle.valid.specs.Valid.{every, isValid}
 use Rattle.pixel.specs.F64 as F64
 use Rattle.pixel_room.specs.Room.{rowsAt}
+use Rattle.pixel_lut.specs.Table.{tableIn}
+use Rattle.pixel_cube.specs.Table.{cubeIn}
 use Rattle.pixel_run.specs.declared.Prepared.{Prepared}
 use Rattle.pixel_run.specs.declared.Prepared.the-variants as prepared
 use Rattle.pixel_run.specs.Prepare.{rangeFrom, cdlFrom}
-use Rattle.room.specs.Room.{Room}
+use Rattle.room.specs.Room.{Room, roomLength}
 use Rattle.pixel_run.specs.Step.{stepPixel}
 use Rattle.pixel_run.specs.Each.{eachPixel}
 use Rattle.pixel_run.specs.Finite.{firstNotFinite}
@@ -26,10 +28,11 @@ use Rattle.refusals.specs.Refusals as Refusal
 -- ---- one node
 
 -- 'A prepared node is one of four kinds: Range with four and CDL with ten numbers, each carrying its own f64 parameters; Matrix and LUT1D with where their numbers stand.'
--- The numbers stand in the room from `at` on
+-- 02: 'a new kind or shape of node may be a prepared kind of its own'; LUT3D is one, with where its numbers stand. The numbers stand in the room from `at` on
 unfoldable pub preparedAs : Room → ℕ → Kind → Prepared
 preparedAs m at (Matrix wide) = prepared.Matrix at wide
 preparedAs m at (Lut1d entries columns) = prepared.Lut1d at entries columns
+preparedAs m at (Lut3d points interpolation) = prepared.Lut3d at points interpolation
 preparedAs m at (Range style) = rangeFrom m at (rangeClamps style)
 preparedAs m at (Cdl style) = cdlFrom m at (cdlClamps style)
 
@@ -46,6 +49,7 @@ noRows = zeroRow ∷ zeroRow ∷ zeroRow ∷ []
 unfoldable pub rowsAs : Room → Prepared → List (List Float)
 rowsAs m (prepared.Matrix at wide) = rowsAt m at wide
 rowsAs m (prepared.Lut1d at entries columns) = noRows
+rowsAs m (prepared.Lut3d at points interpolation) = noRows
 rowsAs m (prepared.Range minIn maxIn minOut maxOut clamp) = noRows
 rowsAs m (prepared.Cdl slopeR slopeG slopeB offsetR offsetG offsetB powerR powerG powerB sat clamp) = noRows
 
@@ -58,6 +62,18 @@ runNode m n xs =
     eachPixel
     (stepPixel (preparedOf m n) (rowsOf m n) (scaleOf (n .input)) (scaleOf (n .output)) m)
     xs
+
+-- the table that a node looks up stands in the room: a LUT1D's and a LUT3D's, for which `lut1dPixel` and `lut3dPixel` ask. The other kinds look up nothing
+abbrev pub tableStands : ℕ → ℕ → Kind → Bool
+tableStands room at (Matrix wide) = true
+tableStands room at (Lut1d entries columns) = tableIn room at entries columns
+tableStands room at (Lut3d points interpolation) = cubeIn room at points
+tableStands room at (Range style) = true
+tableStands room at (Cdl style) = true
+
+-- that of every node: then no node leaves a pixel as it is for want of its table
+unfoldable pub tablesStand : Room → List Node → Bool
+tablesStand m ns = every (λ (n : Node). tableStands (roomLength m) (n .at) (n .kind)) ns
 
 -- ---- all nodes, one after the other in the order of the list: what comes out of one goes into the next. 'Between nodes, and in the lent slice, it holds code values.'
 unfoldable pub runNodes : Room → List Node → List Float → List Float

@@ -1,5 +1,6 @@
 // Running pixels through a list (document 01, 'What a pixel goes through'): refusals 16, 14 and 15, then every node over the lent slice.
 ghost use mathlib.Core.Path.{_≡_};
+ghost use mathlib.Core.Bool.{true};
 ghost use Rattle.process_list.specs.List as List;
 ghost use Rattle.room.specs.Room.{lent};
 ghost use Rattle.running.specs.Running as Spec;
@@ -31,6 +32,14 @@ fn prepared(kind: Kind, at: usize, coefficients: &[i64], powers: &[i8]) -> Prepa
         Kind::Cdl { style } => {
             pixel_run::prepare_cdl(coefficients, powers, at, process_list::cdl_clamps(style))
         }
+        Kind::Lut3d {
+            points,
+            interpolation,
+        } => Prepared::Lut3d {
+            at,
+            points,
+            interpolation,
+        },
     }
 }
 
@@ -84,10 +93,12 @@ fn run_all(list: ProcessList, coefficients: &[i64], powers: &[i8], pixels: &mut 
     }
 }
 
-// Runs the pixels of the slice, three components a pixel, through the list; refused, nothing changes.
+// Runs the pixels of the slice, three components a pixel, through the list; refused, nothing changes. Where it is accepted, the table of every LUT1D and LUT3D
+// stands in the room.
 pub fn run(list: ProcessList, coefficients: &[i64], powers: &[i8], pixels: &mut [f64]) -> Ran
     ensures { λ r. ⌜ r ≡ Spec.ranOf list (lent (now (coefficients .entry)) (now (powers .entry))) (now (pixels .entry)) ⌝ }
     ensures { λ r. ⌜ now (pixels .exit) ≡ Spec.pixelsOf list (lent (now (coefficients .entry)) (now (powers .entry))) (now (pixels .entry)) ⌝ }
+    ensures { λ r. ⌜ (r .number ≡ 0 → Spec.tablesStand (lent (now (coefficients .entry)) (now (powers .entry))) (List.nodesOf list) ≡ true) ⌝ }
 {
     if !valid::valid(list, coefficients, powers) {
         return Ran {

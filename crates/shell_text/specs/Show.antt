@@ -6,8 +6,10 @@ use Prim.Native.Nat.{ℕ}
 use lib.IntN.{ℤ}
 use Rattle.decimal_write.specs.Written.{digits, wholeText}
 use Rattle.process_list.specs.declared.Depth.{Depth}
+use Rattle.process_list.specs.declared.Interpolation.{Interpolation}
+use Rattle.process_list.specs.declared.Interpolation.the-variants.{Trilinear, Tetrahedral}
 use Rattle.process_list.specs.declared.Kind.{Kind}
-use Rattle.process_list.specs.declared.Kind.the-variants.{Matrix, Lut1d, Range, Cdl}
+use Rattle.process_list.specs.declared.Kind.the-variants.{Matrix, Lut1d, Range, Cdl, Lut3d}
 use Rattle.process_list.specs.declared.Node.{Node}
 use Rattle.process_list.specs.List.{rangeClamps, cdlClamps}
 use Rattle.xml.specs.Bytes.{bytes}
@@ -28,12 +30,22 @@ oneOfTwo first this other = cond first this other
 unfoldable pub tableText : ℕ → ℕ → List ℕ → List ℕ
 tableText entries columns t = bytes "-," ++ (digits entries ++ (bytes "x" ++ (digits columns ++ t)))
 
--- `STYLE,SHAPE`: 'shape `3x3`, `3x4`, `65x3`, and `-` for Range and ASC_CDL'
+-- STYLE of a LUT3D: its method
+abbrev pub methodText : Interpolation → List ℕ
+methodText Trilinear = bytes "trilinear,"
+methodText Tetrahedral = bytes "tetrahedral,"
+
+-- SHAPE of a LUT3D of n entries on each axis, as `17x17x17x3`
+unfoldable pub cubeText : ℕ → List ℕ → List ℕ
+cubeText n t = digits n ++ (bytes "x" ++ (digits n ++ (bytes "x" ++ (digits n ++ (bytes "x3" ++ t)))))
+
+-- `STYLE,SHAPE`: 'shape `3x3`, `3x4`, `65x3`, `17x17x17x3`, and `-` for Range and ASC_CDL'
 unfoldable pub formText : Kind → List ℕ → List ℕ
 formText (Matrix wide) t = oneOfTwo wide (bytes "-,3x4") (bytes "-,3x3") ++ t
 formText (Lut1d entries columns) t = tableText entries columns t
 formText (Range style) t = oneOfTwo (rangeClamps style) (bytes "Clamp,-") (bytes "noClamp,-") ++ t
 formText (Cdl style) t = oneOfTwo (cdlClamps style) (bytes "Fwd,-") (bytes "FwdNoClamp,-") ++ t
+formText (Lut3d points interpolation) t = methodText interpolation ++ cubeText points t
 
 -- `AT,NEWEST`: 'AT the index of its first number', 'NEWEST the number of the newest numbered replacement accepted there'
 unfoldable pub placeText : ℕ → ℕ → List ℕ → List ℕ

@@ -5,6 +5,7 @@ ghost use Rattle.shell_text.specs.Show as Show;
 use node_names::put_depth;
 use node_names::put_name;
 use process_list::Depth;
+use process_list::Interpolation;
 use process_list::Kind;
 use process_list::Node;
 use text_out::put;
@@ -51,6 +52,28 @@ fn put_either(out: &mut [u8], at: usize, first: bool, this: &[u8], other: &[u8])
     put(out, at, other)
 }
 
+// A LUT3D's method and a comma.
+fn put_method(out: &mut [u8], at: usize, interpolation: Interpolation) -> usize
+    ensures { λ r. ⌜ Puts (λ t. Show.methodText interpolation ++ t) at (now (out .entry)) (now (out .exit)) r ⌝ }
+{
+    match interpolation {
+        Interpolation::Trilinear => put(out, at, b"trilinear,"),
+        Interpolation::Tetrahedral => put(out, at, b"tetrahedral,"),
+    }
+}
+
+// The shape of a LUT3D.
+fn put_cube(out: &mut [u8], at: usize, points: usize) -> usize
+    ensures { λ r. ⌜ Puts (Show.cubeText points) at (now (out .entry)) (now (out .exit)) r ⌝ }
+{
+    let a = put_digits(out, at, points);
+    let b = put(out, a, b"x");
+    let c = put_digits(out, b, points);
+    let d = put(out, c, b"x");
+    let e = put_digits(out, d, points);
+    put(out, e, b"x3")
+}
+
 // Style and shape.
 fn put_form(out: &mut [u8], at: usize, kind: Kind) -> usize
     ensures { λ r. ⌜ Puts (Show.formText kind) at (now (out .entry)) (now (out .exit)) r ⌝ }
@@ -75,6 +98,13 @@ fn put_form(out: &mut [u8], at: usize, kind: Kind) -> usize
                 b"Fwd,-",
                 b"FwdNoClamp,-",
             )
+        }
+        Kind::Lut3d {
+            points,
+            interpolation,
+        } => {
+            let held = put_method(out, at, interpolation);
+            put_cube(out, held, points)
         }
     }
 }

@@ -1,5 +1,6 @@
 pub mod Words
 pub mod Dims
+pub mod Cubes
 pub mod Lists
 pub mod AttributeLaws
 pub mod Standing

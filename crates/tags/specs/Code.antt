@@ -7,13 +7,14 @@ use Prim.Native.Nat.{ℕ, zero, suc, _+_, _-_, _≤_, _<_, min}
 use lib.Dec.{leb, ltb}
 use lib.ListN.{length, drop, getD, set, replicate}
 use Rattle.process_list.specs.declared.Depth.{Depth}
+use Rattle.process_list.specs.declared.Interpolation.{Interpolation}
 use Rattle.process_list.specs.declared.Kind as Kinds
 use Rattle.grammar.specs.Parse.{Out, done, fault, cut, thenOut, judgedTo}
 use Rattle.grammar.specs.Grammar.{G, ret, judge, eat, seq, _>>_}
 use Rattle.xml.specs.Bytes.{bytes, same, isQuote, equals}
 use Rattle.xml.specs.Xml.{byte, word, spaces, textTo, Attribute, isNamed, textOf, Rules, nameFault, Tag}
 use Rattle.xml.specs.Code.{part}
-use Rattle.clf.specs.Nodes.{wholeFrom, behindDigits}
+use Rattle.clf.specs.Nodes.{wholeFrom, behindDigits, cubeShape}
 use Rattle.tags.specs.declared.Digits.{Digits}
 use Rattle.tags.specs.declared.Attributes.{Attributes}
 use Rattle.tags.specs.declared.Span.{Span}
@@ -26,6 +27,8 @@ use Rattle.tags.specs.declared.DepthRead.{DepthRead}
 use Rattle.tags.specs.declared.DepthRead.the-variants as Depths
 use Rattle.tags.specs.declared.ShapeRead.{ShapeRead}
 use Rattle.tags.specs.declared.ShapeRead.the-variants as Shapes
+use Rattle.tags.specs.declared.PointsRead.{PointsRead}
+use Rattle.tags.specs.declared.PointsRead.the-variants as Points
 use Rattle.refusals.specs.Refusals as Refusal
 
 -- the bytes of s from a up to e, none where e is no place of s
@@ -48,7 +51,7 @@ firstOnes f (suc n) = firstOnes f n ++ f n ∷ []
 unfoldable pub attributesOf : List ℕ → Attributes → List Attribute
 attributesOf s attributes = firstOnes (attributeAt s attributes) (min (attributes .count) 16)
 
--- a depth, and the shape of a table, as the definitions have them
+-- a depth, and the shape of a LUT1D, as the definitions have them
 abbrev pub depthRead : DepthRead → Option Depth
 depthRead (Depths.Is d) = some d
 depthRead Depths.Other = none
@@ -56,6 +59,15 @@ depthRead Depths.Other = none
 abbrev pub shapeRead : ShapeRead → Option Kinds.Kind
 shapeRead (Shapes.Is n c) = some (Kinds.the-variants.Lut1d n c)
 shapeRead Shapes.Other = none
+
+-- the shape of a LUT3D of this method
+abbrev pub cubeRead : Interpolation → PointsRead → Option Kinds.Kind
+cubeRead interpolation (Points.Is n) = some (Kinds.the-variants.Lut3d n interpolation)
+cubeRead interpolation Points.Other = none
+
+-- the entries on each axis that a `dim` says, whatever the method is
+abbrev pub PointsOf : List ℕ → PointsRead → Type 0
+PointsOf t r = (interpolation : Interpolation) → cubeRead interpolation r ≡ cubeShape interpolation t
 
 -- the byte before a place
 abbrev pub byteBefore : List ℕ → ℕ → ℕ

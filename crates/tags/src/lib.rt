@@ -6,12 +6,14 @@ ghost use lib.ListN.{length, drop};
 ghost use Rattle.xml.specs.Bytes as Bytes;
 ghost use Rattle.xml.specs.Xml as Xml;
 ghost use Rattle.xml.specs.Code.{Reads, part};
+ghost use Rattle.process_list.specs.declared.Interpolation.{Interpolation};
 ghost use Rattle.clf.specs.Nodes as Nodes;
 ghost use Rattle.clf.specs.List as List;
 ghost use Rattle.tags.specs.Rules.{rulesOf};
 ghost use Rattle.tags.specs.Code as Code;
 ghost use Rattle.tags.specs.Ended.{behindTag, EndsAs, TagRead, TagStops};
 use process_list::Depth;
+use process_list::Interpolation;
 use xml::Scan;
 
 // The tags, by what they ask.
@@ -24,8 +26,11 @@ pub enum TagKind {
     Holder,
     MatrixArray,
     Lut1dArray,
+    // the Array of a LUT3D of this method
+    Lut3dArray { interpolation: Interpolation },
     Matrix,
     Lut1d,
+    Lut3d,
     Range,
     Cdl,
     ProcessList,
@@ -87,6 +92,12 @@ pub enum ShapeRead {
     Other,
 }
 
+// The entries of a LUT3D on each axis by its Array's `dim`.
+pub enum PointsRead {
+    Is(usize),
+    Other,
+}
+
 // The depth that a text says.
 pub fn depth_of(text: &[u8]) -> DepthRead
     ensures { λ r. ⌜ Code.depthRead r ≡ Nodes.depthOf (now (text .entry)) ⌝ }
@@ -112,7 +123,7 @@ pub fn depth_of(text: &[u8]) -> DepthRead
     DepthRead::Other
 }
 
-// The columns that stand behind the entries of a `dim`, 0 where none do.
+// The columns that stand behind the entries of a LUT1D's `dim`, 0 where none do.
 fn columns_of(text: &[u8]) -> usize
     ensures { λ r. ⌜ r ≡ Nodes.lutColumns (now (text .entry)) ⌝ }
 {
@@ -175,7 +186,7 @@ fn begins_with_zero(text: &[u8]) -> bool
     text[0] == 48
 }
 
-// The shape that a `dim` says.
+// The shape that a LUT1D's `dim` says.
 pub fn shape_of(text: &[u8]) -> ShapeRead
     ensures { λ r. ⌜ Code.shapeRead r ≡ Nodes.lutShape (now (text .entry)) ⌝ }
 {
@@ -199,6 +210,50 @@ pub fn shape_of(text: &[u8]) -> ShapeRead
         entries: n,
         columns,
     }
+}
+
+// Whether the text is "n n n 3".
+fn is_cube_dim(text: &[u8], n: usize) -> bool
+    requires { ⌜ n ≤ 33 ⌝ }
+    ensures { λ r. ⌜ r ≡ Bytes.same (now (text .entry)) (Nodes.cubeDim n) ⌝ }
+{
+    let last = (48 + n % 10) as u8;
+    if n < 10 {
+        let short = [last, b' ', last, b' ', last, b' ', b'3'];
+        return xml::same(text, &short);
+    }
+    let first = (48 + n / 10) as u8;
+    let long = [
+        first,
+        last,
+        b' ',
+        first,
+        last,
+        b' ',
+        first,
+        last,
+        b' ',
+        b'3',
+    ];
+    xml::same(text, &long)
+}
+
+// The entries on each axis that a LUT3D's `dim` says.
+pub fn points_of(text: &[u8]) -> PointsRead
+    ensures { λ r. ⌜ Code.PointsOf (now (text .entry)) r ⌝ }
+{
+    let d = digits_of(text);
+    let n = d.value;
+    if n < 2 {
+        return PointsRead::Other;
+    }
+    if 33 < n {
+        return PointsRead::Other;
+    }
+    if is_cube_dim(text, n) {
+        return PointsRead::Is(n);
+    }
+    PointsRead::Other
 }
 
 // The fault k unless `ok`.
@@ -246,6 +301,18 @@ fn lut_text_fault(name: &[u8], text: &[u8]) -> u8
 {
     if xml::same(name, b"interpolation") {
         return unless(xml::same(text, b"linear"), refusals::WRONG_ATTRIBUTE);
+    }
+    0
+}
+
+fn cube_text_fault(name: &[u8], text: &[u8]) -> u8
+    ensures { λ r. ⌜ r ≡ Nodes.cubeTexts (now (name .entry)) (now (text .entry)) ⌝ }
+{
+    if xml::same(name, b"interpolation") {
+        return unless(
+            either(text, b"trilinear", b"tetrahedral"),
+            refusals::WRONG_ATTRIBUTE,
+        );
     }
     0
 }
@@ -305,6 +372,25 @@ fn lut_dim_fault(name: &[u8], text: &[u8]) -> u8
     0
 }
 
+fn cube_shape_fault(text: &[u8]) -> u8
+    ensures { λ r. ⌜ ((i : Interpolation) → r ≡ cond (Nodes.isSome (Nodes.cubeShape i (now (text .entry)))) 0 8) ⌝ }
+{
+    let points = points_of(text);
+    match points {
+        PointsRead::Is(n) => 0,
+        PointsRead::Other => refusals::WRONG_ATTRIBUTE,
+    }
+}
+
+fn cube_dim_fault(name: &[u8], text: &[u8]) -> u8
+    ensures { λ r. ⌜ ((i : Interpolation) → r ≡ (Nodes.arrayRules (Nodes.cubeShape i)) .texts (now (name .entry)) (now (text .entry))) ⌝ }
+{
+    if xml::same(name, b"dim") {
+        return cube_shape_fault(text);
+    }
+    0
+}
+
 fn list_text_fault(name: &[u8], text: &[u8]) -> u8
     ensures { λ r. ⌜ r ≡ List.listTexts (now (name .entry)) (now (text .entry)) ⌝ }
 {
@@ -330,8 +416,10 @@ pub fn text_fault(kind: TagKind, name: &[u8], text: &[u8]) -> u8
         TagKind::Holder => 0,
         TagKind::MatrixArray => matrix_dim_fault(name, text),
         TagKind::Lut1dArray => lut_dim_fault(name, text),
+        TagKind::Lut3dArray { interpolation: _ } => cube_dim_fault(name, text),
         TagKind::Matrix => node_text_fault(name, text, 0),
         TagKind::Lut1d => node_text_fault(name, text, lut_text_fault(name, text)),
+        TagKind::Lut3d => node_text_fault(name, text, cube_text_fault(name, text)),
         TagKind::Range => node_text_fault(name, text, range_text_fault(name, text)),
         TagKind::Cdl => node_text_fault(name, text, cdl_text_fault(name, text)),
         TagKind::ProcessList => list_text_fault(name, text),
@@ -357,8 +445,10 @@ pub fn name_rule(kind: TagKind, name: &[u8]) -> u8
         TagKind::Holder => 0,
         TagKind::MatrixArray => 0,
         TagKind::Lut1dArray => 0,
+        TagKind::Lut3dArray { interpolation: _ } => 0,
         TagKind::Matrix => 0,
         TagKind::Lut1d => lut_name_fault(name),
+        TagKind::Lut3d => 0,
         TagKind::Range => 0,
         TagKind::Cdl => 0,
         TagKind::ProcessList => 0,
@@ -617,8 +707,10 @@ fn opened(s: &[u8], kind: TagKind, attributes: Attributes) -> u8
         TagKind::Holder => 0,
         TagKind::MatrixArray => dim_missing(s, attributes, 0),
         TagKind::Lut1dArray => dim_missing(s, attributes, 0),
+        TagKind::Lut3dArray { interpolation: _ } => dim_missing(s, attributes, 0),
         TagKind::Matrix => node_missing(s, attributes),
         TagKind::Lut1d => node_missing(s, attributes),
+        TagKind::Lut3d => node_missing(s, attributes),
         TagKind::Range => node_missing(s, attributes),
         TagKind::Cdl => node_missing(s, attributes),
         TagKind::ProcessList => list_missing(s, attributes),
@@ -635,8 +727,12 @@ fn emptied(s: &[u8], kind: TagKind, attributes: Attributes) -> u8
         TagKind::Holder => refusals::WRONG_ELEMENT,
         TagKind::MatrixArray => dim_missing(s, attributes, refusals::WRONG_COUNT),
         TagKind::Lut1dArray => dim_missing(s, attributes, refusals::WRONG_COUNT),
+        TagKind::Lut3dArray { interpolation: _ } => {
+            dim_missing(s, attributes, refusals::WRONG_COUNT)
+        }
         TagKind::Matrix => refusals::WRONG_ELEMENT,
         TagKind::Lut1d => refusals::WRONG_ELEMENT,
+        TagKind::Lut3d => refusals::WRONG_ELEMENT,
         TagKind::Range => refusals::WRONG_ELEMENT,
         TagKind::Cdl => node_missing(s, attributes),
         TagKind::ProcessList => list_missing(s, attributes),

@@ -12,7 +12,7 @@ use lib.ListN.{length, take, drop, replicate, length-append, length-take, length
 use lib.Seq.{take-at, drop-at, take-add, drop-drop, take-take}
 use Rattle.decimal.specs.declared.Decimal.{Decimal}
 use Rattle.process_list.specs.declared.Kind.{Kind}
-use Rattle.process_list.specs.declared.Kind.the-variants.{Matrix, Lut1d, Range, Cdl}
+use Rattle.process_list.specs.declared.Kind.the-variants.{Matrix, Lut1d, Range, Cdl, Lut3d}
 use Rattle.process_list.specs.declared.Depth.{Depth}
 use Rattle.process_list.specs.declared.Depth.the-variants.{I8}
 use Rattle.process_list.specs.declared.Node.{Node}
@@ -246,6 +246,7 @@ small-is (Matrix false) h = refl
 small-is (Lut1d n c) h = absurd (let z : _≡_ {A = ℕ} 0 1 = cc in omega arith)
 small-is (Range c) h = absurd (let z : _≡_ {A = ℕ} 0 1 = cc in omega arith)
 small-is (Cdl c) h = absurd (let z : _≡_ {A = ℕ} 0 1 = cc in omega arith)
+small-is (Lut3d n c) h = absurd (let z : _≡_ {A = ℕ} 0 1 = cc in omega arith)
 
 node-is : (n : Node) → fileNode n ≡ node (n .kind) (n .input) (n .output) (n .at)
 unfolding node

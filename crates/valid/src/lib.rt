@@ -56,6 +56,10 @@ fn is_small_matrix(kind: Kind) -> bool
         } => false,
         Kind::Range { style: _ } => false,
         Kind::Cdl { style: _ } => false,
+        Kind::Lut3d {
+            points: _,
+            interpolation: _,
+        } => false,
     }
 }
 
@@ -132,7 +136,21 @@ fn shape_right(kind: Kind) -> bool
         Kind::Lut1d { entries, columns } => table_right(entries, columns),
         Kind::Range { style: _ } => true,
         Kind::Cdl { style: _ } => true,
+        Kind::Lut3d {
+            points,
+            interpolation: _,
+        } => cube_right(points),
     }
+}
+
+// Whether a LUT3D has 2 to 33 entries on each axis.
+fn cube_right(points: usize) -> bool
+    ensures { λ r. ⌜ r ≡ Spec.cubeRight points ⌝ }
+{
+    if points < 2 {
+        return false;
+    }
+    points <= 33
 }
 
 // Whether a LUT1D has 2 to 65,536 entries of 1 or 3 columns.
@@ -248,6 +266,10 @@ fn rules_hold(coefficients: &[i64], powers: &[i8], kind: Kind, at: usize) -> boo
         } => true,
         Kind::Range { style: _ } => range_holds(coefficients, powers, at),
         Kind::Cdl { style: _ } => cdl_holds(coefficients, powers, at),
+        Kind::Lut3d {
+            points: _,
+            interpolation: _,
+        } => true,
     }
 }
 

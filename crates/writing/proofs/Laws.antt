@@ -3,11 +3,13 @@ use mathlib.Core.Path.{_≡_, refl, sym, ap, _∙_}
 use mathlib.Core.List.{List, [], _∷_, _++_}
 use Prim.Native.Nat.{ℕ, zero, suc, _+_, _-_, _*_, _≤_, _<_}
 use native.Mathlib.Omega.{arith}
+use native.Mathlib.Nat.{le-mul-of-pos-right}
 use lib.IntN.{ℤ, pos}
 use lib.ListN.{take, drop}
 use lib.Seq.{drop-cons, drop-drop, take-take, take-nil}
 use Rattle.decimal.specs.declared.Decimal.{Decimal}
 use Rattle.decimal_write.specs.Written.{writtenOf}
+use Rattle.process_list.specs.List.{cubeEntries, cubeNumbers}
 use Rattle.room.specs.Room.{Room, roomLength}
 use Rattle.valid.specs.Valid.{pairs, decimalAt, numbersAt}
 use Rattle.text_out.specs.Output.{Goes}
@@ -152,6 +154,15 @@ module _ (m : Room) where
 
 pub rows-all : (from rows columns : ℕ) → from + (rows - 0) * columns ≡ from + rows * columns
 rows-all from rows columns = let e : rows - 0 ≡ rows = omega arith in rw e
+
+-- the entries of a cube are not more than its numbers, and those of a square not more than the cube's
+pub cube-within : (from n most : ℕ) → from + cubeNumbers n ≤ most → (n * n ≤ most) × (cubeEntries n ≤ most)
+cube-within from zero most h = (omega arith, omega arith)
+cube-within from (suc n) most h =
+    let p : 0 < suc n = omega arith in
+    let s : suc n * suc n ≤ cubeEntries (suc n) = le-mul-of-pos-right {m = suc n} (suc n * suc n) p in
+    let k : cubeEntries (suc n) ≤ most = omega arith in
+    (omega arith, k)
 
 -- the numbers that are left when a row has been put
 pub rows-left : (rows columns i : ℕ) → i < rows → (rows - i) * columns ≡ columns + (rows - (i + 1)) * columns

@@ -1,26 +1,25 @@
 -- Laws of nodes: what stands between a node's tags, by its kind; a valid list's nodes, one after the other. Assumes nothing.
 use Rattle.process_list.specs.declared.RangeStyle.{RangeStyle}
 use Rattle.process_list.specs.declared.CdlStyle.{CdlStyle}
+use Rattle.process_list.specs.declared.Interpolation.{Interpolation}
 use mathlib.Core.Path.{_≡_, refl, sym, ap, _∙_}
-use mathlib.Core.Bool.{Bool, true, false, false≢true}
+use mathlib.Core.Bool.{Bool, true, false}
 use mathlib.Core.List.{List, [], _∷_}
 use Prim.Native.Nat.{ℕ, zero, suc, _+_, _*_, _≤_, _<_}
 use native.Mathlib.Omega.{arith}
 use native.Mathlib.Numerals.{add-one}
-use borrow.Author.Tests.{ltb-true, ltb-false}
-use lib.Dec.{ltb}
 use lib.ListN.{length, drop, getD, drop-of-length-le}
 use lib.Seq.{drop-cons}
 use Rattle.process_list.specs.declared.Kind.{Kind}
-use Rattle.process_list.specs.declared.Kind.the-variants.{Matrix, Lut1d, Range, Cdl}
+use Rattle.process_list.specs.declared.Kind.the-variants.{Matrix, Lut1d, Range, Cdl, Lut3d}
 use Rattle.process_list.specs.declared.Node.{Node}
 use Rattle.process_list.specs.declared.ProcessList.{ProcessList}
-use Rattle.process_list.specs.List.{numbersOf, nodesOf, nodeAt, blankNode}
+use Rattle.process_list.specs.List.{cubeNumbers, numbersOf, nodesOf, nodeAt, blankNode}
 use Rattle.room.specs.Room.{Room, roomLength}
-use Rattle.valid.specs.Valid.{every, sound, shapeRight, isValid, numbersAt, elementOf, elementsOf}
+use Rattle.valid.specs.Valid.{every, sound, isValid, numbersAt, elementOf, elementsOf}
 use Rattle.valid.proofs.Laws.{elements-at, elements-length}
-use Rattle.valid.proofs.Elements.{both-true, sound-shape, sound-short}
-use Rattle.written_form.proofs.Tail.{arrayText, rangeText, sopText, satText, contentText, nodeText, nodesText}
+use Rattle.valid.proofs.Elements.{both-true, sound-inside}
+use Rattle.written_form.proofs.Tail.{tableText, cubeText, rangeText, sopText, satText, contentText, nodeText, nodesText}
 use Rattle.written_form.proofs.Short.{valid-sound}
 
 -- ---- a node of each kind, and where its numbers stand
@@ -33,11 +32,11 @@ module _ (kind : Kind) (wide : Bool) (e : kind ≡ Matrix wide) where
   unfolding numbersOf
   narrow-asks from n w h = rw (e, w) at h
 
-  pub wide-text : (m : Room) (from : ℕ) → wide ≡ true → (t : List ℕ) → contentText kind (numbersAt m from (numbersOf kind)) t ≡ arrayText 3 4 (numbersAt m from 12) t
+  pub wide-text : (m : Room) (from : ℕ) → wide ≡ true → (t : List ℕ) → contentText kind (numbersAt m from (numbersOf kind)) t ≡ tableText 3 4 (numbersAt m from 12) t
   unfolding numbersOf contentText
   wide-text m from w t = simp (e, w)
 
-  pub narrow-text : (m : Room) (from : ℕ) → wide ≡ false → (t : List ℕ) → contentText kind (numbersAt m from (numbersOf kind)) t ≡ arrayText 3 3 (numbersAt m from 9) t
+  pub narrow-text : (m : Room) (from : ℕ) → wide ≡ false → (t : List ℕ) → contentText kind (numbersAt m from (numbersOf kind)) t ≡ tableText 3 3 (numbersAt m from 9) t
   unfolding numbersOf contentText
   narrow-text m from w t = simp (e, w)
 
@@ -46,7 +45,7 @@ module _ (kind : Kind) (entries columns : ℕ) (e : kind ≡ Lut1d entries colum
   unfolding numbersOf
   table-asks from n h = rw e at h
 
-  pub table-text : (m : Room) (from : ℕ) (t : List ℕ) → contentText kind (numbersAt m from (numbersOf kind)) t ≡ arrayText entries columns (numbersAt m from (entries * columns)) t
+  pub table-text : (m : Room) (from : ℕ) (t : List ℕ) → contentText kind (numbersAt m from (numbersOf kind)) t ≡ tableText entries columns (numbersAt m from (entries * columns)) t
   unfolding numbersOf contentText
   table-text m from t = rw e
 
@@ -68,6 +67,15 @@ module _ (kind : Kind) (style : CdlStyle) (e : kind ≡ Cdl style) where
   unfolding numbersOf contentText
   cdl-text m from t = rw e
 
+module _ (kind : Kind) (points : ℕ) (interpolation : Interpolation) (e : kind ≡ Lut3d points interpolation) where
+  pub cube-asks : (from n : ℕ) → from + numbersOf kind ≤ n → from + cubeNumbers points ≤ n
+  unfolding numbersOf
+  cube-asks from n h = rw e at h
+
+  pub cube-text : (m : Room) (from : ℕ) (t : List ℕ) → contentText kind (numbersAt m from (numbersOf kind)) t ≡ cubeText points (numbersAt m from (cubeNumbers points)) t
+  unfolding numbersOf contentText
+  cube-text m from t = rw e
+
 -- ---- the nodes of a valid list
 every-at : {A : Type 0} (p : A → Bool) (xs : List A) (k : ℕ) (d : A) → every p xs ≡ true → k < length xs → p (getD xs k d) ≡ true
 unfolding every
@@ -76,24 +84,11 @@ every-at p (x ∷ xs) zero d h j = both-true (p x) (every p xs) h .0
 every-at p (x ∷ xs) (suc k) d h j = every-at p xs k d (both-true (p x) (every p xs) h .1) (omega arith)
 
 module _ (m : Room) where
-  -- a sound element's numbers stand in the room
-  sound-inside : (n : Node) → sound (elementOf m n) ≡ true → n .at + numbersOf (n .kind) ≤ roomLength m
-  sound-inside n h =
-      go (shapeRight (n .kind)) (ltb (roomLength m) (n .at + numbersOf (n .kind))) (sound-shape m n) (sound-short m n) (ltb-true _ _) (ltb-false _ _)
-    where
-      go : (s b : Bool) → (s ≡ false → sound (elementOf m n) ≡ false)
-          → (s ≡ true → roomLength m < n .at + numbersOf (n .kind) → sound (elementOf m n) ≡ false)
-          → (b ≡ true → roomLength m < n .at + numbersOf (n .kind)) → (b ≡ false → n .at + numbersOf (n .kind) ≤ roomLength m)
-          → n .at + numbersOf (n .kind) ≤ roomLength m
-      go false b p q r u = absurd (false≢true (sym (p refl) ∙ h))
-      go true true p q r u = absurd (false≢true (sym (q refl (r refl)) ∙ h))
-      go true false p q r u = u refl
-
   module _ (l : ProcessList) where
     -- and so do those of a valid list's nodes
     node-inside : isValid l m ≡ true → (k : ℕ) → k < length (nodesOf l) → (nodeAt l k) .at + numbersOf ((nodeAt l k) .kind) ≤ roomLength m
     node-inside v k h =
-        sound-inside (nodeAt l k)
+        sound-inside m (nodeAt l k)
         (ap sound (sym (elements-at l m k)) ∙ every-at sound (elementsOf l m) k (elementOf m blankNode) (valid-sound l m v) (omega (arith, elements-length l m)))
 
     pub node-asks : isValid l m ≡ true → (k : ℕ) → k < length (nodesOf l) → (n : Node) → n ≡ nodeAt l k → n .at + numbersOf (n .kind) ≤ roomLength m

@@ -9,7 +9,8 @@ ghost use Rattle.text_out.specs.Output.{Puts};
 ghost use Rattle.written_form.proofs.Tail as Tail;
 use crate::names::put_end;
 use crate::names::put_start;
-use crate::numbers::put_array;
+use crate::numbers::put_cube;
+use crate::numbers::put_table;
 use crate::numbers::put_value;
 use process_list::Kind;
 use process_list::Node;
@@ -61,18 +62,22 @@ fn put_content(
     match kind {
         Kind::Matrix { wide } => {
             if wide {
-                return put_array(out, at, coefficients, powers, from, 3, 4);
+                return put_table(out, at, coefficients, powers, from, 3, 4);
             }
-            put_array(out, at, coefficients, powers, from, 3, 3)
+            put_table(out, at, coefficients, powers, from, 3, 3)
         }
         Kind::Lut1d { entries, columns } => {
-            put_array(out, at, coefficients, powers, from, entries, columns)
+            put_table(out, at, coefficients, powers, from, entries, columns)
         }
         Kind::Range { style: _ } => put_range(out, at, coefficients, powers, from),
         Kind::Cdl { style: _ } => {
             let held = put_sop(out, at, coefficients, powers, from);
             put_sat(out, held, coefficients, powers, from)
         }
+        Kind::Lut3d {
+            points,
+            interpolation: _,
+        } => put_cube(out, at, coefficients, powers, from, points),
     }
 }
 

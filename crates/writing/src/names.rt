@@ -1,4 +1,4 @@
-// Styles, and the start and end tags of nodes.
+// Styles, a LUT3D's method, and the start and end tags of nodes.
 ghost use mathlib.Core.List.{_++_};
 ghost use Rattle.text_out.specs.Output.{Puts};
 ghost use Rattle.written_form.specs.Written as Text;
@@ -7,6 +7,7 @@ use node_names::put_depth;
 use node_names::put_name;
 use process_list::CdlStyle;
 use process_list::Depth;
+use process_list::Interpolation;
 use process_list::Kind;
 use process_list::RangeStyle;
 use text_out::put;
@@ -29,6 +30,16 @@ fn put_cdl_style(out: &mut [u8], at: usize, style: CdlStyle) -> usize
     }
 }
 
+fn put_interpolation(out: &mut [u8], at: usize, interpolation: Interpolation) -> usize
+    ensures { λ r. ⌜ Puts (λ t. Text.interpolationText interpolation ++ t) at (now (out .entry)) (now (out .exit)) r ⌝ }
+{
+    match interpolation {
+        Interpolation::Trilinear => put(out, at, b" interpolation=\"trilinear\""),
+        Interpolation::Tetrahedral => put(out, at, b" interpolation=\"tetrahedral\""),
+    }
+}
+
+// What stands in a node's tag behind the depths: its style, or the method of a LUT3D.
 fn put_style(out: &mut [u8], at: usize, kind: Kind) -> usize
     ensures { λ r. ⌜ Puts (λ t. Text.styleText kind ++ t) at (now (out .entry)) (now (out .exit)) r ⌝ }
 {
@@ -40,6 +51,10 @@ fn put_style(out: &mut [u8], at: usize, kind: Kind) -> usize
         } => at,
         Kind::Range { style } => put_range_style(out, at, style),
         Kind::Cdl { style } => put_cdl_style(out, at, style),
+        Kind::Lut3d {
+            points: _,
+            interpolation,
+        } => put_interpolation(out, at, interpolation),
     }
 }
 

@@ -1,7 +1,8 @@
 // Numbers of the table room, as rows of text.
 ghost use Prim.Native.Nat.{_+_, _*_, _≤_, _<_};
-ghost use mathlib.Core.List.{_++_};
+ghost use mathlib.Core.List.{[], _∷_, _++_};
 ghost use Rattle.decimal_write.specs.Written.{writtenOf};
+ghost use Rattle.process_list.specs.List.{cubeNumbers};
 ghost use Rattle.room.specs.Room.{lent, roomLength};
 ghost use Rattle.valid.specs.Valid.{decimalAt, numbersAt};
 ghost use Rattle.text_out.specs.Output.{Puts};
@@ -18,7 +19,7 @@ fn put_number(out: &mut [u8], at: usize, coefficients: &[i64], powers: &[i8], k:
     text_out::put_number(out, at, Decimal { coefficient, power })
 }
 
-// The numbers from index `from` up to `end`, a space before each.
+// `count` numbers from index `from` on, a space before each.
 fn put_spaced(
     out: &mut [u8],
     at: usize,
@@ -84,8 +85,28 @@ fn put_rows(
     held
 }
 
-// An Array of so many rows and columns.
-pub fn put_array(
+// `dim` of a table.
+fn put_table_dims(out: &mut [u8], at: usize, rows: usize, columns: usize) -> usize
+    ensures { λ r. ⌜ Puts (Tail.dimsText (rows ∷ columns ∷ [])) at (now (out .entry)) (now (out .exit)) r ⌝ }
+{
+    let a = text_out::put_digits(out, at, rows);
+    let b = text_out::put(out, a, b" ");
+    text_out::put_digits(out, b, columns)
+}
+
+// `dim` of a cube.
+fn put_cube_dims(out: &mut [u8], at: usize, points: usize) -> usize
+    ensures { λ r. ⌜ Puts (Tail.dimsText (points ∷ points ∷ points ∷ 3 ∷ [])) at (now (out .entry)) (now (out .exit)) r ⌝ }
+{
+    let a = text_out::put_digits(out, at, points);
+    let b = text_out::put(out, a, b" ");
+    let c = text_out::put_digits(out, b, points);
+    let d = text_out::put(out, c, b" ");
+    put_table_dims(out, d, points, 3)
+}
+
+// An Array behind the text of its `dim`: the end of the tag, the rows, the end tag.
+fn put_lines(
     out: &mut [u8],
     at: usize,
     coefficients: &[i64],
@@ -95,15 +116,48 @@ pub fn put_array(
     columns: usize,
 ) -> usize
     requires { ⌜ from + rows * columns ≤ roomLength (lent (now coefficients) (now powers)) ⌝ }
-    ensures { λ r. ⌜ Puts (Tail.arrayText rows columns (numbersAt (lent (now (coefficients .entry)) (now (powers .entry))) from (rows * columns))) at (now (out .entry)) (now (out .exit)) r ⌝ }
+    ensures { λ r. ⌜ Puts (Tail.linesText rows columns (numbersAt (lent (now (coefficients .entry)) (now (powers .entry))) from (rows * columns))) at (now (out .entry)) (now (out .exit)) r ⌝ }
+{
+    let a = text_out::put(out, at, b"\">\n");
+    let b = put_rows(out, a, coefficients, powers, from, rows, columns);
+    text_out::put(out, b, b"</Array>\n")
+}
+
+// The Array of a Matrix or a LUT1D, of so many rows and columns.
+pub fn put_table(
+    out: &mut [u8],
+    at: usize,
+    coefficients: &[i64],
+    powers: &[i8],
+    from: usize,
+    rows: usize,
+    columns: usize,
+) -> usize
+    requires { ⌜ from + rows * columns ≤ roomLength (lent (now coefficients) (now powers)) ⌝ }
+    ensures { λ r. ⌜ Puts (Tail.tableText rows columns (numbersAt (lent (now (coefficients .entry)) (now (powers .entry))) from (rows * columns))) at (now (out .entry)) (now (out .exit)) r ⌝ }
 {
     let a = text_out::put(out, at, b"<Array dim=\"");
-    let b = text_out::put_digits(out, a, rows);
-    let c = text_out::put(out, b, b" ");
-    let d = text_out::put_digits(out, c, columns);
-    let e = text_out::put(out, d, b"\">\n");
-    let f = put_rows(out, e, coefficients, powers, from, rows, columns);
-    text_out::put(out, f, b"</Array>\n")
+    let b = put_table_dims(out, a, rows, columns);
+    put_lines(out, b, coefficients, powers, from, rows, columns)
+}
+
+// The Array of a LUT3D, of so many entries on each axis.
+pub fn put_cube(
+    out: &mut [u8],
+    at: usize,
+    coefficients: &[i64],
+    powers: &[i8],
+    from: usize,
+    points: usize,
+) -> usize
+    requires { ⌜ from + cubeNumbers points ≤ roomLength (lent (now coefficients) (now powers)) ⌝ }
+    ensures { λ r. ⌜ Puts (Tail.cubeText points (numbersAt (lent (now (coefficients .entry)) (now (powers .entry))) from (cubeNumbers points))) at (now (out .entry)) (now (out .exit)) r ⌝ }
+{
+    let a = text_out::put(out, at, b"<Array dim=\"");
+    let b = put_cube_dims(out, a, points);
+    let square = points * points;
+    let entries = square * points;
+    put_lines(out, b, coefficients, powers, from, entries, 3)
 }
 
 // A value element of this name.

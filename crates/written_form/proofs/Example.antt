@@ -1,18 +1,19 @@
 -- Document 01's whole example, a list with each other form of node, and an output of exactly the text's length, computed. Assumes nothing.
 use Rattle.process_list.specs.declared.RangeStyle.the-variants.{Clamp, NoClamp}
 use Rattle.process_list.specs.declared.CdlStyle.the-variants.{FwdNoClamp}
+use Rattle.process_list.specs.declared.Interpolation.the-variants.{Tetrahedral}
 use mathlib.Core.Path.{_≡_, refl}
 use mathlib.Core.Bool.{true}
 use mathlib.Core.List.{List, [], _∷_, _++_}
 use lib.IntN.{pos, negsuc}
 use Rattle.decimal.specs.declared.Decimal.{Decimal}
 use Rattle.process_list.specs.declared.Depth.the-variants.{I8, I10, I12, I16, F16, F32}
-use Rattle.process_list.specs.declared.Kind.the-variants.{Matrix, Lut1d, Range, Cdl}
+use Rattle.process_list.specs.declared.Kind.the-variants.{Matrix, Lut1d, Range, Cdl, Lut3d}
 use Rattle.process_list.specs.List.{Element}
 use Rattle.xml.specs.Bytes.{bytes}
 use Rattle.decimal_write.specs.Written.{digitsWithin, digits, wholeText, exponent, writtenOf}
-use Rattle.written_form.specs.Written.{joined, opening, closing, attribute, row, valueLine, rowLines, arrayLine, arrayLines, rangeLines, cdlLines, contentLines}
-use Rattle.written_form.specs.Written.{startLine, nodeLines, nodesLines, rootLine, listLines, refused, written, fitting, outputOf}
+use Rattle.written_form.specs.Written.{joined, opening, closing, attribute, row, valueLine, rowLines, dims, arrayLine, arrayLines, tableLines, cubeLines}
+use Rattle.written_form.specs.Written.{rangeLines, cdlLines, contentLines, startLine, nodeLines, nodesLines, rootLine, listLines, refused, written, fitting, outputOf}
 
 abbrev zero : Decimal
 zero = record { coefficient = pos 0; power = pos 0 }
@@ -51,6 +52,12 @@ others =
     ∷ record { kind = Range NoClamp; input = I12; output = I16; numbers = zero ∷ one ∷ zero ∷ one ∷ [] }
     ∷ []
 
+-- 2 x 2 x 2 entries of three numbers
+abbrev cube : List Decimal
+cube =
+    zero ∷ zero ∷ zero ∷ zero ∷ zero ∷ one ∷ zero ∷ one ∷ zero ∷ zero ∷ one ∷ one
+    ∷ one ∷ zero ∷ zero ∷ one ∷ zero ∷ one ∷ one ∷ one ∷ zero ∷ one ∷ one ∷ half ∷ []
+
 pub other-nodes : joined (nodesLines others)
     ≡ bytes "<Matrix inBitDepth=\"10i\" outBitDepth=\"16f\">\n"
     ++ bytes "<Array dim=\"3 4\">\n"
@@ -81,8 +88,19 @@ pub other-nodes : joined (nodesLines others)
     ++ bytes "<minOutValue>0</minOutValue>\n"
     ++ bytes "<maxOutValue>1</maxOutValue>\n"
     ++ bytes "</Range>\n"
-unfolding joined nodesLines nodeLines startLine contentLines arrayLine arrayLines rowLines rangeLines cdlLines valueLine opening closing attribute row writtenOf wholeText exponent digits digitsWithin
+unfolding joined nodesLines nodeLines startLine contentLines tableLines arrayLines arrayLine dims rowLines rangeLines cdlLines valueLine opening closing attribute row
+    writtenOf wholeText exponent digits digitsWithin
 other-nodes = refl
+
+-- W-201: the smallest LUT3D, whose method is tetrahedral; blue runs fastest, an entry a line
+pub cube-lines : joined (nodeLines (record { kind = Lut3d 2 Tetrahedral; input = F32; output = F32; numbers = cube }))
+    ≡ bytes "<LUT3D inBitDepth=\"32f\" outBitDepth=\"32f\" interpolation=\"tetrahedral\">\n"
+    ++ bytes "<Array dim=\"2 2 2 3\">\n"
+    ++ bytes "0 0 0\n0 0 1\n0 1 0\n0 1 1\n1 0 0\n1 0 1\n1 1 0\n1 1 5e-1\n"
+    ++ bytes "</Array>\n"
+    ++ bytes "</LUT3D>\n"
+unfolding joined nodeLines startLine contentLines cubeLines arrayLines arrayLine dims rowLines closing attribute row writtenOf wholeText exponent digits digitsWithin
+cube-lines = refl
 
 -- an output of the text's length is long enough, one of a byte less is 17
 pub exact-fit : fitting 3 (bytes "abc") ≡ written (bytes "abc")

@@ -1,12 +1,13 @@
 -- A valid list's text is shorter than 16 MiB, so that it can be read back. Assumes nothing.
 use Rattle.process_list.specs.declared.RangeStyle.the-variants.{Clamp, NoClamp}
 use Rattle.process_list.specs.declared.CdlStyle.the-variants.{Fwd, FwdNoClamp}
+use Rattle.process_list.specs.declared.Interpolation.the-variants.{Trilinear, Tetrahedral}
 use mathlib.Core.Path.{_≡_, refl}
 use mathlib.Core.Bool.{Bool, true, false, _&&_, _||_, false≢true}
 use mathlib.Core.List.{List, [], _∷_, _++_}
 use Prim.Native.Nat.{ℕ, zero, suc, _+_, _*_, _≤_, _<_, _^_}
 use native.Mathlib.Omega.{arith}
-use borrow.Author.Tests.{leb-true, eqb-true}
+use borrow.Author.Tests.{leb-true, le-leb, eqb-true}
 use lib.Dec.{eqb, leb, lit≤}
 use lib.ListN.{length, take, drop, length-append, length-take, length-drop}
 use Rattle.decimal.specs.declared.Decimal.{Decimal}
@@ -15,18 +16,18 @@ use Rattle.decimal_write.specs.Laws.{digits-short, written-short}
 use Rattle.process_list.specs.declared.Depth.{Depth}
 use Rattle.process_list.specs.declared.Depth.the-variants.{I8, I10, I12, I16, F16, F32}
 use Rattle.process_list.specs.declared.Kind.{Kind}
-use Rattle.process_list.specs.declared.Kind.the-variants.{Matrix, Lut1d, Range, Cdl}
+use Rattle.process_list.specs.declared.Kind.the-variants.{Matrix, Lut1d, Range, Cdl, Lut3d}
 use Rattle.process_list.specs.declared.ProcessList.{ProcessList}
-use Rattle.process_list.specs.List.{Element, numbersOf, allNumbers, total, capped, nodesOf}
-use Rattle.process_list.proofs.Laws.{capped-exact}
+use Rattle.process_list.specs.List.{Element, cubeEntries, numbersOf, allNumbers, total, capped, nodesOf}
+use Rattle.process_list.proofs.Laws.{capped-exact, cube-few}
 use Rattle.room.specs.Room.{Room, roomLength}
-use Rattle.valid.specs.Valid.{every, isValid, sound, shapeRight, tableRight, carried, rulesHold, elementsOf}
+use Rattle.valid.specs.Valid.{every, isValid, sound, shapeRight, tableRight, cubeRight, carried, rulesHold, elementsOf}
 use Rattle.valid.proofs.Laws.{elements-length}
 use Rattle.valid.proofs.Elements.{both-true, Right, right-few, valid-parts}
 use Rattle.valid.proofs.Readings.{used-is}
 use Rattle.xml.specs.Bytes.{bytes}
 use Rattle.written_form.specs.Written.{joined, nameText, depthText, styleText, listLines, isIdByte, idRight}
-use Rattle.written_form.proofs.Tail.{spacedText, rowText, rowsText, arrayText, valueText, rangeText, sopText, satText, contentText}
+use Rattle.written_form.proofs.Tail.{spacedText, rowText, rowsText, dimsText, linesText, arrayText, valueText, rangeText, sopText, satText, contentText}
 use Rattle.written_form.proofs.Tail.{startText, endText, nodeText, nodesText, headText, listText, list-text}
 
 -- ---- numbers: at most 20 bytes each, and one byte to part them
@@ -48,16 +49,26 @@ rows-short (suc n) c ds t =
     let i = rows-short n c (drop c ds) t in
     omega (arith, length-take c ds, length-drop c ds)
 
-array-short : (n c : ℕ) (ds : List Decimal) (t : List ℕ) → n ≤ 65536 → c ≤ 4 → length (arrayText n c ds t) ≤ 21 * length ds + n + 40 + length t
-unfolding arrayText
-array-short n c ds t h k =
+-- dims: at most 5 digits each, and one byte to part them
+abbrev small : ℕ → Bool
+small n = leb n 65536
+
+digits-few : (n : ℕ) → small n ≡ true → length (digits n) ≤ 5
+digits-few n h = digits-short n 4 (omega (arith, leb-true n 65536 h, lit≤ {m = 65537} {n = 10 ^ 5} tt))
+
+dims-short : (ns t : List ℕ) → every small ns ≡ true → length (dimsText ns t) ≤ 6 * length ns + length t
+unfolding dimsText every
+dims-short [] t h = omega arith
+dims-short (n ∷ []) t h = omega (arith, length-append (digits n) t, digits-few n (both-true (small n) true h .0))
+dims-short (n ∷ (k ∷ ns)) t h =
+    let p = both-true (small n) (every small (k ∷ ns)) h in
+    omega (arith, length-append (digits n) (bytes " " ++ dimsText (k ∷ ns) t), digits-few n (p .0), dims-short (k ∷ ns) t (p .1))
+
+array-short : (ns : List ℕ) (n c : ℕ) (ds : List Decimal) (t : List ℕ) → every small ns ≡ true → length (arrayText ns n c ds t) ≤ 21 * length ds + 6 * length ns + n + 24 + length t
+unfolding arrayText linesText
+array-short ns n c ds t h =
     let z : List ℕ = bytes "</Array>\n" ++ t in
-    let y : List ℕ = bytes "\">\n" ++ rowsText n c ds z in
-    let x : List ℕ = bytes " " ++ (digits c ++ y) in
-    let i = rows-short n c ds z in
-    let a = digits-short n 4 (omega (arith, lit≤ {m = 65537} {n = 10 ^ 5} tt)) in
-    let b = digits-short c 0 (omega arith) in
-    omega (arith, length-append (digits n) x, length-append (digits c) y)
+    omega (arith, rows-short n c ds z, dims-short ns (bytes "\">\n" ++ rowsText n c ds z) h)
 
 value-short : (name : List ℕ) (ds : List Decimal) (t : List ℕ) → length (valueText name ds t) ≤ 21 * length ds + 2 * length name + 6 + length t
 unfolding valueText
@@ -106,19 +117,37 @@ table-most n c h = go (eqb c 1) (eqb c 3) (eqb-true c 1) (eqb-true c 3) (both-tr
     go false true p q e = (leb-true n 65536 (both-true (leb 2 n) (leb n 65536) (e .0) .1), omega (arith, q refl))
     go false false p q e = absurd (false≢true (e .1))
 
+cube-most : (n : ℕ) → cubeRight n ≡ true → (n ≤ 33) × (cubeEntries n ≤ 35937)
+unfolding cubeRight
+cube-most n h =
+    let p = both-true (leb 2 n) (leb n 33) h in
+    let k : n ≤ 33 = leb-true n 33 (p .1) in
+    (k, omega (arith, cube-few n (omega (arith, leb-true 2 n (p .0))) k .1))
+
+-- dims within 65,536: two, and three times one
+table-small : (n c : ℕ) → n ≤ 65536 → c ≤ 65536 → every small (n ∷ c ∷ []) ≡ true
+unfolding every
+table-small n c h k = simp (le-leb n 65536 h, le-leb c 65536 k)
+
+cube-small : (n : ℕ) → n ≤ 65536 → every small (n ∷ n ∷ n ∷ 3 ∷ []) ≡ true
+unfolding every
+cube-small n h = simp (le-leb n 65536 h)
+
 content-short : (k : Kind) (ds : List Decimal) (t : List ℕ) → shapeRight k ≡ true → length (contentText k ds t) ≤ 21 * length ds + 65600 + length t
 unfolding contentText shapeRight
-content-short (Matrix true) ds t h = omega (arith, array-short 3 4 ds t (omega arith) (omega arith))
-content-short (Matrix false) ds t h = omega (arith, array-short 3 3 ds t (omega arith) (omega arith))
-content-short (Lut1d n c) ds t h = let m = table-most n c h in omega (arith, array-short n c ds t (m .0) (m .1))
+content-short (Matrix true) ds t h = omega (arith, array-short (3 ∷ 4 ∷ []) 3 4 ds t (table-small 3 4 (omega arith) (omega arith)))
+content-short (Matrix false) ds t h = omega (arith, array-short (3 ∷ 3 ∷ []) 3 3 ds t (table-small 3 3 (omega arith) (omega arith)))
+content-short (Lut1d n c) ds t h = let m = table-most n c h in omega (arith, array-short (n ∷ c ∷ []) n c ds t (table-small n c (m .0) (omega arith)))
 content-short (Range style) ds t h = omega (arith, range-short ds t)
 content-short (Cdl style) ds t h = omega (arith, sop-short ds (satText ds t), sat-short ds t)
+content-short (Lut3d n i) ds t h = let m = cube-most n h in omega (arith, array-short (n ∷ n ∷ n ∷ 3 ∷ []) (cubeEntries n) 3 ds t (cube-small n (omega arith)))
 
 name-short : (k : Kind) → length (nameText k) ≤ 10
 name-short (Matrix wide) = omega arith
 name-short (Lut1d n c) = omega arith
 name-short (Range style) = omega arith
 name-short (Cdl style) = omega arith
+name-short (Lut3d n i) = omega arith
 
 depth-short : (d : Depth) → length (depthText d) ≤ 3
 depth-short I8 = omega arith
@@ -128,13 +157,15 @@ depth-short I16 = omega arith
 depth-short F16 = omega arith
 depth-short F32 = omega arith
 
-style-short : (k : Kind) → length (styleText k) ≤ 20
+style-short : (k : Kind) → length (styleText k) ≤ 30
 style-short (Matrix wide) = omega arith
 style-short (Lut1d n c) = omega arith
 style-short (Range Clamp) = omega arith
 style-short (Range NoClamp) = omega arith
 style-short (Cdl Fwd) = omega arith
 style-short (Cdl FwdNoClamp) = omega arith
+style-short (Lut3d n Trilinear) = omega arith
+style-short (Lut3d n Tetrahedral) = omega arith
 
 start-short : (k : Kind) (i o : Depth) (t : List ℕ) → length (startText k i o t) ≤ 100 + length t
 unfolding startText

@@ -8,10 +8,10 @@ use Rattle.decimal.specs.declared.Decimal.{Decimal}
 use Rattle.decimal_write.specs.Written.{digits, writtenOf}
 use Rattle.process_list.specs.declared.Depth.{Depth}
 use Rattle.process_list.specs.declared.Kind.{Kind}
-use Rattle.process_list.specs.declared.Kind.the-variants.{Matrix, Lut1d, Range, Cdl}
-use Rattle.process_list.specs.List.{Element}
+use Rattle.process_list.specs.declared.Kind.the-variants.{Matrix, Lut1d, Range, Cdl, Lut3d}
+use Rattle.process_list.specs.List.{Element, cubeEntries}
 use Rattle.xml.specs.Bytes.{bytes}
-use Rattle.written_form.specs.Written.{lineFeed, joined, opening, closing, attribute, row, valueLine, rowLines, arrayLine, arrayLines}
+use Rattle.written_form.specs.Written.{lineFeed, joined, opening, closing, attribute, row, valueLine, rowLines, dims, arrayLine, arrayLines, tableLines, cubeLines}
 use Rattle.written_form.specs.Written.{matrixRows, matrixColumns, one, three, rangeLines, cdlLines, contentLines}
 use Rattle.written_form.specs.Written.{nameText, depthText, styleText, startLine, nodeLines, nodesLines, declaration, rootLine, listLines}
 
@@ -31,11 +31,26 @@ unfoldable pub rowsText : ℕ → ℕ → List Decimal → List ℕ → List ℕ
 rowsText zero columns ds t = t
 rowsText (suc rows) columns ds t = rowText (take columns ds) (bytes "\n" ++ rowsText rows columns (drop columns ds) t)
 
-unfoldable pub arrayText : ℕ → ℕ → List Decimal → List ℕ → List ℕ
-arrayText rows columns ds t =
-    bytes "<Array dim=\"" ++ (digits rows ++ (bytes " " ++ (digits columns ++ (bytes "\">\n" ++
-    rowsText rows columns ds
-    (bytes "</Array>\n" ++ t)))))
+-- the text of `dim`
+unfoldable pub dimsText : List ℕ → List ℕ → List ℕ
+dimsText [] t = t
+dimsText (n ∷ []) t = digits n ++ t
+dimsText (n ∷ (k ∷ ns)) t = digits n ++ (bytes " " ++ dimsText (k ∷ ns) t)
+
+-- what stands behind the text of `dim`: the end of the tag, the rows, the end tag
+unfoldable pub linesText : ℕ → ℕ → List Decimal → List ℕ → List ℕ
+linesText rows columns ds t = bytes "\">\n" ++ rowsText rows columns ds (bytes "</Array>\n" ++ t)
+
+unfoldable pub arrayText : List ℕ → ℕ → ℕ → List Decimal → List ℕ → List ℕ
+arrayText ns rows columns ds t = bytes "<Array dim=\"" ++ dimsText ns (linesText rows columns ds t)
+
+-- the Array of a Matrix or a LUT1D
+abbrev pub tableText : ℕ → ℕ → List Decimal → List ℕ → List ℕ
+tableText rows columns ds t = arrayText (rows ∷ columns ∷ []) rows columns ds t
+
+-- the Array of a LUT3D
+abbrev pub cubeText : ℕ → List Decimal → List ℕ → List ℕ
+cubeText n ds t = arrayText (n ∷ n ∷ n ∷ 3 ∷ []) (cubeEntries n) 3 ds t
 
 unfoldable pub valueText : List ℕ → List Decimal → List ℕ → List ℕ
 valueText name ds t = bytes "<" ++ (name ++ (bytes ">" ++ rowText ds (bytes "</" ++ (name ++ (bytes ">\n" ++ t)))))
@@ -61,10 +76,11 @@ unfoldable pub satText : List Decimal → List ℕ → List ℕ
 satText ds t = bytes "<SatNode>\n" ++ valueText (bytes "Saturation") (one 9 ds) (bytes "</SatNode>\n" ++ t)
 
 unfoldable pub contentText : Kind → List Decimal → List ℕ → List ℕ
-contentText (Matrix wide) ds t = arrayText matrixRows (matrixColumns wide) ds t
-contentText (Lut1d entries columns) ds t = arrayText entries columns ds t
+contentText (Matrix wide) ds t = tableText matrixRows (matrixColumns wide) ds t
+contentText (Lut1d entries columns) ds t = tableText entries columns ds t
 contentText (Range style) ds t = rangeText ds t
 contentText (Cdl style) ds t = sopText ds (satText ds t)
+contentText (Lut3d points interpolation) ds t = cubeText points ds t
 
 abbrev pub depthsText : Depth → Depth → List ℕ → List ℕ
 depthsText input output t = bytes " inBitDepth=\"" ++ (depthText input ++ (bytes "\" outBitDepth=\"" ++ (depthText output ++ (bytes "\"" ++ t))))
@@ -139,17 +155,26 @@ unfolding rowsText rowLines joined
 rows-text zero c ds ls = refl
 rows-text (suc n) c ds ls = row-text (take c ds) _ ∙ (rw (rows-text n c (drop c ds) ls))
 
-array-line : (n c : ℕ) (ls : List (List ℕ)) → joined (arrayLine n c ∷ ls) ≡ bytes "<Array dim=\"" ++ (digits n ++ (bytes " " ++ (digits c ++ (bytes "\">\n" ++ joined ls))))
-unfolding arrayLine joined
-array-line n c ls =
-    pieces [] [] [] (bytes "<Array") (attribute (bytes "dim") (digits n ++ bytes " " ++ digits c)) (bytes ">") (lineFeed ∷ joined ls)
-    ∙ (rw (attribute-text, append-assoc, append-assoc))
+-- the text of `dim` in front of what follows it
+pub dims-text : (ns t : List ℕ) → dims ns ++ t ≡ dimsText ns t
+unfolding dimsText dims
+dims-text [] t = refl
+dims-text (n ∷ []) t = refl
+dims-text (n ∷ (k ∷ ns)) t =
+    pieces [] [] [] (digits n) (bytes " ") (dims (k ∷ ns)) t
+    ∙ ap (λ (x : List ℕ). digits n ++ (bytes " " ++ x)) (dims-text (k ∷ ns) t)
 
-array-text : (n c : ℕ) (ds : List Decimal) (ls : List (List ℕ)) → joined (arrayLines n c ds ++ ls) ≡ arrayText n c ds (joined ls)
-unfolding arrayText arrayLines
-array-text n c ds ls =
-    enclosed (arrayLine n c) (rowLines n c ds) (closing (bytes "Array")) ls
-    ∙ array-line n c (rowLines n c ds ++ (closing (bytes "Array") ∷ ls))
+array-line : (ns : List ℕ) (ls : List (List ℕ)) → joined (arrayLine ns ∷ ls) ≡ bytes "<Array dim=\"" ++ dimsText ns (bytes "\">\n" ++ joined ls)
+unfolding arrayLine joined
+array-line ns ls =
+    pieces [] [] [] (bytes "<Array") (attribute (bytes "dim") (dims ns)) (bytes ">") (lineFeed ∷ joined ls)
+    ∙ (rw (attribute-text, dims-text))
+
+array-text : (ns : List ℕ) (n c : ℕ) (ds : List Decimal) (ls : List (List ℕ)) → joined (arrayLines ns n c ds ++ ls) ≡ arrayText ns n c ds (joined ls)
+unfolding arrayText linesText arrayLines
+array-text ns n c ds ls =
+    enclosed (arrayLine ns) (rowLines n c ds) (closing (bytes "Array")) ls
+    ∙ array-line ns (rowLines n c ds ++ (closing (bytes "Array") ∷ ls))
     ∙ (rw (rows-text, closing-line))
 
 range-text : (ds : List Decimal) (ls : List (List ℕ)) → joined (rangeLines ds ++ ls) ≡ rangeText ds (joined ls)
@@ -161,11 +186,12 @@ unfolding sopText satText cdlLines
 cdl-text ds ls = simp (opening-line, closing-line, value-text)
 
 content-text : (k : Kind) (ds : List Decimal) (ls : List (List ℕ)) → joined (contentLines k ds ++ ls) ≡ contentText k ds (joined ls)
-unfolding contentText contentLines
-content-text (Matrix wide) ds ls = array-text matrixRows (matrixColumns wide) ds ls
-content-text (Lut1d entries columns) ds ls = array-text entries columns ds ls
+unfolding contentText contentLines tableLines cubeLines
+content-text (Matrix wide) ds ls = array-text (matrixRows ∷ matrixColumns wide ∷ []) matrixRows (matrixColumns wide) ds ls
+content-text (Lut1d entries columns) ds ls = array-text (entries ∷ columns ∷ []) entries columns ds ls
 content-text (Range style) ds ls = range-text ds ls
 content-text (Cdl style) ds ls = cdl-text ds ls
+content-text (Lut3d points interpolation) ds ls = array-text (points ∷ points ∷ points ∷ 3 ∷ []) (cubeEntries points) 3 ds ls
 
 start-text : (k : Kind) (i o : Depth) (ls : List (List ℕ)) → joined (startLine k i o ∷ ls) ≡ startText k i o (joined ls)
 unfolding startText startLine joined

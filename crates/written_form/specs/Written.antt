@@ -15,10 +15,12 @@ use Rattle.process_list.specs.declared.RangeStyle.{RangeStyle}
 use Rattle.process_list.specs.declared.RangeStyle.the-variants.{Clamp, NoClamp}
 use Rattle.process_list.specs.declared.CdlStyle.{CdlStyle}
 use Rattle.process_list.specs.declared.CdlStyle.the-variants.{Fwd, FwdNoClamp}
+use Rattle.process_list.specs.declared.Interpolation.{Interpolation}
+use Rattle.process_list.specs.declared.Interpolation.the-variants.{Trilinear, Tetrahedral}
 use Rattle.process_list.specs.declared.Kind.{Kind}
-use Rattle.process_list.specs.declared.Kind.the-variants.{Matrix, Lut1d, Range, Cdl}
+use Rattle.process_list.specs.declared.Kind.the-variants.{Matrix, Lut1d, Range, Cdl, Lut3d}
 use Rattle.process_list.specs.declared.ProcessList.{ProcessList}
-use Rattle.process_list.specs.List.{Element}
+use Rattle.process_list.specs.List.{Element, cubeEntries}
 use Rattle.room.specs.Room.{Room}
 use Rattle.valid.specs.Valid.{every, isValid, elementsOf}
 use Rattle.xml.specs.Bytes.{bytes, isLetter, isDigit}
@@ -64,13 +66,27 @@ unfoldable pub rowLines : ℕ → ℕ → List Decimal → List (List ℕ)
 rowLines zero columns ds = []
 rowLines (suc rows) columns ds = row (take columns ds) ∷ rowLines rows columns (drop columns ds)
 
--- '`<Array dim="n c">` (dims as held)'
-unfoldable pub arrayLine : ℕ → ℕ → List ℕ
-arrayLine rows columns = bytes "<Array" ++ attribute (bytes "dim") (digits rows ++ bytes " " ++ digits columns) ++ bytes ">"
+-- 'dims as held': whole numbers, one space between them. The Array of a Matrix or a LUT1D has two, that of a LUT3D four: none is never asked for
+unfoldable pub dims : List ℕ → List ℕ
+dims [] = []
+dims (n ∷ []) = digits n
+dims (n ∷ (k ∷ ns)) = digits n ++ bytes " " ++ dims (k ∷ ns)
 
--- 'Array: `<Array dim="n c">` .., one entry or row a line, .. `</Array>`'
-unfoldable pub arrayLines : ℕ → ℕ → List Decimal → List (List ℕ)
-arrayLines rows columns ds = arrayLine rows columns ∷ rowLines rows columns ds ++ (closing (bytes "Array") ∷ [])
+-- '`<Array dim="n c">` (dims as held)'
+unfoldable pub arrayLine : List ℕ → List ℕ
+arrayLine ns = bytes "<Array" ++ attribute (bytes "dim") (dims ns) ++ bytes ">"
+
+-- 'Array: `<Array dim="n c">` .., one entry or row a line, .. `</Array>`': with these dims, so many rows of so many columns
+unfoldable pub arrayLines : List ℕ → ℕ → ℕ → List Decimal → List (List ℕ)
+arrayLines ns rows columns ds = arrayLine ns ∷ rowLines rows columns ds ++ (closing (bytes "Array") ∷ [])
+
+-- the Array of a Matrix or a LUT1D: `dim` "rows columns"
+unfoldable pub tableLines : ℕ → ℕ → List Decimal → List (List ℕ)
+tableLines rows columns ds = arrayLines (rows ∷ columns ∷ []) rows columns ds
+
+-- the Array of a LUT3D (W-201): `dim` "n n n 3", 'one entry .. a line', which are three numbers
+unfoldable pub cubeLines : ℕ → List Decimal → List (List ℕ)
+cubeLines n ds = arrayLines (n ∷ n ∷ n ∷ 3 ∷ []) (cubeEntries n) 3 ds
 
 -- a Matrix: '`dim` "3 3" or "3 4"'
 abbrev pub matrixRows : ℕ
@@ -108,12 +124,13 @@ cdlLines ds =
     ∷ closing (bytes "SatNode")
     ∷ []
 
--- 'Matrix: one Array, .. row by row', 'LUT1D: one Array, .. entry by entry', and the value elements of a Range or an ASC_CDL
+-- 'Matrix: one Array, .. row by row', 'LUT1D: one Array, .. entry by entry', a LUT3D's too, and the value elements of a Range or an ASC_CDL
 unfoldable pub contentLines : Kind → List Decimal → List (List ℕ)
-contentLines (Matrix wide) ds = arrayLines matrixRows (matrixColumns wide) ds
-contentLines (Lut1d entries columns) ds = arrayLines entries columns ds
+contentLines (Matrix wide) ds = tableLines matrixRows (matrixColumns wide) ds
+contentLines (Lut1d entries columns) ds = tableLines entries columns ds
 contentLines (Range style) ds = rangeLines ds
 contentLines (Cdl style) ds = cdlLines ds
+contentLines (Lut3d points interpolation) ds = cubeLines points ds
 
 -- ---- nodes
 
@@ -123,6 +140,7 @@ nameText (Matrix wide) = bytes "Matrix"
 nameText (Lut1d entries columns) = bytes "LUT1D"
 nameText (Range style) = bytes "Range"
 nameText (Cdl style) = bytes "ASC_CDL"
+nameText (Lut3d points interpolation) = bytes "LUT3D"
 
 -- '`inBitDepth`, `outBitDepth` from 8i, 10i, 12i, 16i, 16f, 32f'
 abbrev pub depthText : Depth → List ℕ
@@ -142,13 +160,20 @@ abbrev pub cdlStyleText : CdlStyle → List ℕ
 cdlStyleText Fwd = bytes " style=\"Fwd\""
 cdlStyleText FwdNoClamp = bytes " style=\"FwdNoClamp\""
 
+-- W-201: '`interpolation` .. always written, as last attribute'
+abbrev pub interpolationText : Interpolation → List ℕ
+interpolationText Trilinear = bytes " interpolation=\"trilinear\""
+interpolationText Tetrahedral = bytes " interpolation=\"tetrahedral\""
+
+-- what stands in a node's tag behind the depths
 abbrev pub styleText : Kind → List ℕ
 styleText (Matrix wide) = []
 styleText (Lut1d entries columns) = []
 styleText (Range style) = rangeStyleText style
 styleText (Cdl style) = cdlStyleText style
+styleText (Lut3d points interpolation) = interpolationText interpolation
 
--- 'attributes in the order in, out, style'
+-- 'attributes in the order in, out, style', and a LUT3D's method last
 unfoldable pub startLine : Kind → Depth → Depth → List ℕ
 startLine kind input output =
     bytes "<" ++ nameText kind

@@ -29,7 +29,7 @@ returns-2 c =
     (c .before .before .before .before .before .before .before .before .before .before .before .before .before .before .before .before .before .pre)
     (c .before .before .before .before .before .before .before .before .before .before .before .before .read .result) _
     (c .before .before .before .before .before .before .before .before .before .before .before .before .read .ensures) (c .before .before .before .run .result) _
-    (c .before .before .before .run .ensures .0) (c .before .before .before .run .ensures .1) (c .before .before .before .before .before .before .before .before .if1 .left)
+    (c .before .before .before .run .ensures .0) (c .before .before .before .run .ensures .1 .0) (c .before .before .before .before .before .before .before .before .if1 .left)
 
 pub read-and-run-spec : {M : Type 1} → statement M
 read-and-run-spec =

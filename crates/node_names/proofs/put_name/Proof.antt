@@ -18,10 +18,16 @@ returns-3 c = puts-by (λ k t. nameText k ++ t) (c .before .before .before .befo
 returns-4 : tie.Need-returns-4
 returns-4 c = puts-by (λ k t. nameText k ++ t) (c .before .before .before .before .before .enum-told4 .given .1) (c .before .before .put4 .ensures)
 
+returns-5 : tie.Need-returns-5
+returns-5 c = puts-by (λ k t. nameText k ++ t) (c .before .before .before .before .before .enum-told5 .given .1) (c .before .before .put5 .ensures)
+
 pub put-name-spec : {M : Type 1} → statement M
 put-name-spec =
     tie.close
     (tie.spec
+    (λ c. search needs)
+    (λ c. search needs)
+    (λ c κs. search needs)
     (λ c. search needs)
     (λ c. search needs)
     (λ c κs. search needs)
@@ -41,4 +47,6 @@ put-name-spec =
     (λ c. search needs)
     returns-3
     (λ c. search needs)
-    returns-4)
+    returns-4
+    (λ c. search needs)
+    returns-5)

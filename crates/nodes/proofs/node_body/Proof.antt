@@ -14,10 +14,15 @@ returns-3 c = rw (c .before .before .before .before .before .enum-told3 .given .
 returns-4 : tie.Need-returns-4
 returns-4 c = rw (c .before .before .before .before .before .enum-told4 .given .1) (c .before .before .read-cdl .ensures)
 
+returns-5 : tie.Need-returns-5
+returns-5 c = rw (c .before .before .before .before .before .enum-told5 .given .1) (c .before .before .table-node3 .ensures)
+
 pub node-body-spec : {M : Type 1} → statement M
 node-body-spec =
     tie.close
     (tie.spec
+    (λ c. search needs)
+    (λ c κs. search needs)
     (λ c. search needs)
     (λ c κs. search needs)
     (λ c. search needs)
@@ -37,4 +42,7 @@ node-body-spec =
     returns-3
     (λ c. search needs)
     (λ c. search needs)
-    returns-4)
+    returns-4
+    (λ c. search needs)
+    (λ c. search needs)
+    returns-5)

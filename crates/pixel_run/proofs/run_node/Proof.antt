@@ -39,10 +39,20 @@ returns-4 c =
     let a = m .before .before .before .args in
     node-ran (a .rows) (a .in-scale) (a .out-scale) (lent (now (a .coefficients)) (now (a .powers))) (now (a .pixels)) _ (a .p) (simp (m .p4 .given .1) (r .run-lut1d .ensures))
 
+returns-5 : tie.Need-returns-5
+unfolding stepPixel
+returns-5 c =
+    let r = c .before .before in
+    let m = r .before .before .before in
+    let a = m .before .before .before .args in
+    node-ran (a .rows) (a .in-scale) (a .out-scale) (lent (now (a .coefficients)) (now (a .powers))) (now (a .pixels)) _ (a .p) (simp (m .p5 .given .1) (r .run-lut3d .ensures))
+
 pub run-node-spec : {M : Type 1} → statement M
 run-node-spec =
     tie.close
     (tie.spec
+    (λ c. search needs)
+    (λ c κs. search needs)
     (λ c. search needs)
     (λ c κs. search needs)
     (λ c. search needs)
@@ -58,4 +68,6 @@ run-node-spec =
     (λ c. search needs)
     returns-3
     (λ c. search needs)
-    returns-4)
+    returns-4
+    (λ c. search needs)
+    returns-5)

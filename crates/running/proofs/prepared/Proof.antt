@@ -20,6 +20,10 @@ returns-4 : tie.Need-returns-4
 unfolding preparedAs
 returns-4 c = simp (c .before .before .before .kind4 .given .1, ← c .before .cdl-clamps .ensures) (c .prepare-cdl .ensures)
 
+returns-5 : tie.Need-returns-5
+unfolding preparedAs
+returns-5 c = simp (c .before .kind5 .given .1)
+
 pub prepared-spec : {M : Type 1} → statement M
 prepared-spec =
     tie.close
@@ -32,7 +36,9 @@ prepared-spec =
     (λ c. search needs)
     (λ c κs. search needs)
     (λ c κs. search needs)
+    (λ c. search needs)
     returns
     returns-2
     returns-3
-    returns-4)
+    returns-4
+    returns-5)

@@ -1,5 +1,5 @@
 -- `put_form` meets its contract. Assumes nothing.
-use Rattle.text_out.proofs.Laws.{puts-by}
+use Rattle.text_out.proofs.Laws.{puts-by, puts-then}
 use Rattle.shell_text.specs.Show.{formText}
 use borrow.Author.Needs.{needs}
 use Rattle.shell_text.proofs.show.put_form.Statement.{statement}
@@ -25,6 +25,13 @@ returns-4 c =
     let called = c .before .before in
     puts-by formText (called .before .before .before .before .before .before .kind4 .given .1) (rw (called .before .before .before .cdl-clamps .ensures) at (called .put-either3 .ensures))
 
+returns-5 : tie.Need-returns-5
+unfolding formText
+returns-5 c =
+    let cube = c .before .before in
+    let method = cube .before .before .before .before in
+    puts-by formText (method .before .before .before .kind5 .given .1) (puts-then (method .put-method .ensures) (cube .put-cube .ensures))
+
 pub put-form-spec : {M : Type 1} → statement M
 put-form-spec =
     tie.close
@@ -46,10 +53,15 @@ put-form-spec =
     (λ c. search needs)
     (λ c κs. search needs)
     (λ c. search needs)
+    (λ c κs. search needs)
+    (λ c κs. search needs)
+    (λ c. search needs)
     returns
     (λ c. search needs)
     returns-2
     (λ c. search needs)
     returns-3
     (λ c. search needs)
-    returns-4)
+    returns-4
+    (λ c. search needs)
+    returns-5)

@@ -1,4 +1,4 @@
--- The style of each kind that has one. Assumes nothing.
+-- The style of each kind that has one, and the method of a LUT3D. Assumes nothing.
 use mathlib.Core.List.{_++_}
 use Rattle.text_out.proofs.Laws.{puts-by, goes-start}
 use Rattle.written_form.specs.Written.{styleText}
@@ -18,6 +18,9 @@ returns-3 c = puts-by (λ k t. styleText k ++ t) (c .before .before .before .bef
 returns-4 : tie.Need-returns-4
 returns-4 c = puts-by (λ k t. styleText k ++ t) (c .before .before .before .before .before .kind2 .given .1) (c .before .before .put-cdl-style .ensures)
 
+returns-5 : tie.Need-returns-5
+returns-5 c = puts-by (λ k t. styleText k ++ t) (c .before .before .before .before .before .kind3 .given .1) (c .before .before .put-interpolation .ensures)
+
 pub put-style-spec : {M : Type 1} → statement M
 put-style-spec =
     tie.close
@@ -28,9 +31,13 @@ put-style-spec =
     (λ c κs. search needs)
     (λ c. search needs)
     (λ c κs. search needs)
+    (λ c. search needs)
+    (λ c κs. search needs)
     returns
     returns-2
     (λ c. search needs)
     returns-3
     (λ c. search needs)
-    returns-4)
+    returns-4
+    (λ c. search needs)
+    returns-5)
