@@ -1,5 +1,6 @@
-// ocio_write KIND N > FILE: a CLF file as OpenColorIO writes it. KIND is lut1d (N entries of three channels), matrix, range, cdl or
-// look (matrix, range, cdl and a LUT1D of N entries in a row).
+// ocio_write KIND N > FILE: a CLF file as OpenColorIO writes it. KIND is lut1d (N entries of three channels), lut3d (N entries along each
+// axis, no interpolation said), trilinear or tetrahedral (the same with that interpolation), matrix, range, cdl, look (matrix, range, cdl and
+// a LUT1D of N entries in a row) or cube_look (matrix, a tetrahedral LUT3D of N entries along each axis, range).
 #include <OpenColorIO/OpenColorIO.h>
 #include <cmath>
 #include <cstdlib>
@@ -16,6 +17,23 @@ static OCIO::TransformRcPtr lut1d(unsigned long n)
         const double x = double(i) / double(n - 1);
         t->setValue(i, float(std::pow(x, 1 / 2.2)), float(std::pow(x, 1 / 2.4)), float(x * x));
     }
+    return t;
+}
+
+// Gamma, and some of each component in the others.
+static OCIO::TransformRcPtr lut3d(unsigned long n, OCIO::Interpolation interpolation)
+{
+    OCIO::Lut3DTransformRcPtr t = OCIO::Lut3DTransform::Create(n);
+    t->setFileOutputBitDepth(OCIO::BIT_DEPTH_F32);
+    t->setInterpolation(interpolation);
+    const auto at = [n](unsigned long i) { return double(i) / double(n - 1); };
+    for (unsigned long r = 0; r < n; ++r)
+        for (unsigned long g = 0; g < n; ++g)
+            for (unsigned long b = 0; b < n; ++b) {
+                const double x = at(r), y = at(g), z = at(b);
+                t->setValue(r, g, b, float(std::pow(0.9 * x + 0.1 * y, 1 / 2.2)), float(std::pow(0.95 * y + 0.05 * z, 1 / 2.4)),
+                            float(0.1 * x + 0.9 * z * z));
+            }
     return t;
 }
 
@@ -57,9 +75,12 @@ int main(int argc, char **argv)
     const std::string kind = argc > 1 ? argv[1] : "";
     const unsigned long n = argc > 2 ? std::strtoul(argv[2], nullptr, 10) : 2;
     OCIO::GroupTransformRcPtr group = OCIO::GroupTransform::Create();
-    const bool look = kind == "look";
-    if (look || kind == "matrix") group->appendTransform(matrix());
-    if (look || kind == "range") group->appendTransform(range());
+    const bool look = kind == "look", cube_look = kind == "cube_look";
+    if (look || cube_look || kind == "matrix") group->appendTransform(matrix());
+    if (kind == "lut3d") group->appendTransform(lut3d(n, OCIO::INTERP_DEFAULT));
+    if (kind == "trilinear") group->appendTransform(lut3d(n, OCIO::INTERP_LINEAR));
+    if (cube_look || kind == "tetrahedral") group->appendTransform(lut3d(n, OCIO::INTERP_TETRAHEDRAL));
+    if (look || cube_look || kind == "range") group->appendTransform(range());
     if (look || kind == "cdl") group->appendTransform(cdl());
     if (look || kind == "lut1d") group->appendTransform(lut1d(n));
     group->write(OCIO::Config::CreateRaw(), "Academy/ASC Common LUT Format", std::cout);

@@ -94,11 +94,22 @@ static Ours ours_from(const char *name)
     return look;
 }
 
-static const char *name_of(OCIO::TransformType type)
+// A cube's method, which OpenColorIO takes from the file: its linear is trilinear.
+static const char *name_of(OCIO::Interpolation interpolation)
 {
-    switch (type) {
+    switch (interpolation) {
+    case OCIO::INTERP_LINEAR: return "LUT3D trilinear";
+    case OCIO::INTERP_TETRAHEDRAL: return "LUT3D tetrahedral";
+    default: return "LUT3D by another method";
+    }
+}
+
+static const char *name_of(const OCIO::ConstTransformRcPtr &step)
+{
+    switch (step->getTransformType()) {
     case OCIO::TRANSFORM_TYPE_CDL: return "CDL";
     case OCIO::TRANSFORM_TYPE_LUT1D: return "LUT1D";
+    case OCIO::TRANSFORM_TYPE_LUT3D: return name_of(OCIO_DYNAMIC_POINTER_CAST<const OCIO::Lut3DTransform>(step)->getInterpolation());
     case OCIO::TRANSFORM_TYPE_MATRIX: return "Matrix";
     case OCIO::TRANSFORM_TYPE_RANGE: return "Range";
     default: return "another";
@@ -120,7 +131,7 @@ static Theirs theirs_from(const char *name)
     look.processor = p->getOptimizedCPUProcessor(OCIO::BIT_DEPTH_F32, OCIO::BIT_DEPTH_F32, OCIO::OPTIMIZATION_DEFAULT);
     const OCIO::GroupTransformRcPtr steps =
         p->getOptimizedProcessor(OCIO::BIT_DEPTH_F32, OCIO::BIT_DEPTH_F32, OCIO::OPTIMIZATION_DEFAULT)->createGroupTransform();
-    for (int i = 0; i < steps->getNumTransforms(); ++i) look.steps += std::string(i > 0 ? ", " : "") + name_of(steps->getTransform(i)->getTransformType());
+    for (int i = 0; i < steps->getNumTransforms(); ++i) look.steps += std::string(i > 0 ? ", " : "") + name_of(steps->getTransform(i));
     if (look.processor->isNoOp() || steps->getNumTransforms() == 0) {
         std::fprintf(stderr, "%s: OpenColorIO has nothing left to do\n", name);
         std::exit(1);
@@ -238,7 +249,7 @@ int main(int argc, char **argv)
         std::vector<Figures> all;
         const double n = double(size.all());
         std::printf("\n%s, million pixels a second (processor time; wall time behind /)\n", size.name);
-        std::printf("%-20s %15s %15s %15s %15s %15s %13s %13s %13s %11s  %s\n", "look", "clf_apply", "pixels alone", "OCIO singly", "OCIO RGB", "OCIO RGBA", "to singly", "to RGB", "to RGBA",
+        std::printf("%-25s %15s %15s %15s %15s %15s %13s %13s %13s %11s  %s\n", "look", "clf_apply", "pixels alone", "OCIO singly", "OCIO RGB", "OCIO RGBA", "to singly", "to RGB", "to RGBA",
                     "difference", "what OCIO runs");
         for (int i = 1; i < argc; ++i) {
             Ours ours = ours_from(argv[i]);
@@ -252,7 +263,7 @@ int main(int argc, char **argv)
                 else
                     std::printf(" %13s", "-");
             };
-            std::printf("%-20s", base_of(argv[i]).c_str());
+            std::printf("%-25s", base_of(argv[i]).c_str());
             rate(f.apply.processor, f.apply.wall);
             if (f.tells_pixels())
                 rate(processor, wall);
@@ -269,11 +280,11 @@ int main(int argc, char **argv)
             all.push_back(f);
         }
         std::printf("\n%s, where clf_apply's processor time goes\n", size.name);
-        std::printf("%-20s %14s %14s %14s %14s\n", "look", "reading us", "validity us", "refusal 15 ns", "accepted ns");
+        std::printf("%-25s %14s %14s %14s %14s\n", "look", "reading us", "validity us", "refusal 15 ns", "accepted ns");
         for (int i = 1; i < argc; ++i) {
             const Figures &f = all[size_t(i - 1)];
             const double calls = double(size.count);
-            std::printf("%-20s %14.2f %14.2f", base_of(argv[i]).c_str(), f.read.processor / calls * 1e6, (f.empty.processor - f.read.processor) / calls * 1e6);
+            std::printf("%-25s %14.2f %14.2f", base_of(argv[i]).c_str(), f.read.processor / calls * 1e6, (f.empty.processor - f.read.processor) / calls * 1e6);
             if (f.tells_pixels())
                 std::printf(" %14.3f %14.3f\n", (f.scanned.processor - f.empty.processor) / n * 1e9, (f.apply.processor - f.empty.processor) / n * 1e9);
             else

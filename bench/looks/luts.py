@@ -1,5 +1,7 @@
 #!/usr/bin/env python3
-"""luts.py FOLDER: writes the looks with large tables: lut1d_1024x3.clf, lut1d_65536x3.clf and six.clf (six nodes, with the table of 1,024 entries)."""
+"""luts.py FOLDER: writes the looks with large tables: lut1d_1024x3.clf, lut1d_65536x3.clf, lut3d_17_trilinear.clf, lut3d_17_tetrahedral.clf,
+lut3d_33_trilinear.clf, lut3d_33_tetrahedral.clf (a cube of 17 or 33 entries along each axis, the same for the two methods) and six.clf (six nodes, with the
+table of 1,024 entries)."""
 import os
 import sys
 
@@ -16,6 +18,15 @@ def lut1d(n):
         x = i / (n - 1)
         lines.append('%.8g %.8g %.8g\n' % (x ** (1 / 2.2), x ** (1 / 2.4), x * x))
     return '<LUT1D %s>\n<Array dim="%d 3">\n%s</Array>\n</LUT1D>\n' % (DEPTHS, n, ''.join(lines))
+
+
+def lut3d(n, interpolation):
+    """Gamma, and some of each component in the others; blue fastest."""
+    lines = []
+    for i in range(n ** 3):
+        r, g, b = (k / (n - 1) for k in (i // n // n, i // n % n, i % n))
+        lines.append('%.8g %.8g %.8g\n' % ((0.9 * r + 0.1 * g) ** (1 / 2.2), (0.95 * g + 0.05 * b) ** (1 / 2.4), 0.1 * r + 0.9 * b * b))
+    return '<LUT3D %s interpolation="%s">\n<Array dim="%d %d %d 3">\n%s</Array>\n</LUT3D>\n' % (DEPTHS, interpolation, n, n, n, ''.join(lines))
 
 
 def values(min_in, max_in, min_out, max_out):
@@ -42,6 +53,10 @@ SIX = [
 ]
 
 os.makedirs(sys.argv[1], exist_ok=True)
-for name, nodes in (('lut1d_1024x3', [lut1d(1024)]), ('lut1d_65536x3', [lut1d(65536)]), ('six', SIX)):
+LOOKS = [('lut1d_1024x3', [lut1d(1024)]), ('lut1d_65536x3', [lut1d(65536)]), ('six', SIX)]
+for n in (17, 33):
+    for interpolation in ('trilinear', 'tetrahedral'):
+        LOOKS.append(('lut3d_%d_%s' % (n, interpolation), [lut3d(n, interpolation)]))
+for name, nodes in LOOKS:
     with open(os.path.join(sys.argv[1], name + '.clf'), 'w', newline='\n') as f:
         f.write(look(name, nodes))

@@ -7,9 +7,18 @@ root=$(cd "$here/../.." && pwd)
 work=$(mktemp -d)
 trap 'rm -rf "$work"' EXIT
 mkdir -p "$work/crates/pixel_export/src"
-for crate in decimal decimal_value room pixel pixel_room pixel_lut pixel_run; do cp -R "$root/crates/$crate" "$work/crates/"; done
+# what pixel_run needs, by crates.txt, each crate behind those that it needs
+needed=
+need() {
+    for crate in $(sed -n "s/^$1://p" "$root/crates.txt"); do need "$crate"; done
+    case " $needed " in *" $1 "*) ;; *) needed="$needed $1" ;; esac
+}
+need pixel_run
+for crate in $needed; do
+    cp -R "$root/crates/$crate" "$work/crates/"
+    grep "^$crate:" "$root/crates.txt" >>"$work/crates.txt"
+done
 [ ! -d "$root/target" ] || cp -R "$root/target" "$work/target"
-grep -E '^(decimal|decimal_value|room|pixel|pixel_room|pixel_lut|pixel_run):' "$root/crates.txt" >"$work/crates.txt"
 echo 'pixel_export: pixel pixel_lut pixel_run' >>"$work/crates.txt"
 sed '1,/^# ---- pixel_export/d' "$here/compare.sh" >"$work/crates/pixel_export/src/lib.rt"
 (cd "$work" && rt staticlib pixel_export >"$work/log" 2>&1) || { tail -n 20 "$work/log"; exit 1; }
