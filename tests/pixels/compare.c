@@ -8,6 +8,7 @@
 #include <stdlib.h>
 #include <string.h>
 #include <time.h>
+#include "random.h"
 
 /* ---- the proved code: a slice is a pointer and a length */
 void rt_range(double *, size_t, double, double, double, double, bool);
@@ -94,15 +95,6 @@ static void c_lut1d(double *p, size_t len, const double *e, size_t n, size_t col
 }
 
 /* ---- random values */
-static uint64_t state = 88172645463325252u;
-static uint64_t rnd(void) {
-    state ^= state << 13;
-    state ^= state >> 7;
-    state ^= state << 17;
-    return state;
-}
-static double unit(void) { return (double)(rnd() >> 11) * 0x1p-53; }
-static double bits(uint64_t b) { double d; memcpy(&d, &b, 8); return d; }
 
 static double value(double scale) {
     switch (rnd() % 16) {

@@ -17,6 +17,7 @@
 #include <stdio.h>
 #include <stdlib.h>
 #include <string.h>
+#include "random.h"
 
 /* ---- the paper again */
 enum { RED, GREEN, BLUE };
@@ -120,19 +121,6 @@ static void c_lut3d(const struct cube *c, double *p, size_t components) {
 }
 
 /* ---- random values */
-static uint64_t state = 88172645463325252u;
-static uint64_t rnd(void) {
-    state ^= state << 13;
-    state ^= state >> 7;
-    state ^= state << 17;
-    return state;
-}
-static double unit(void) { return (double)(rnd() >> 11) * 0x1p-53; }
-static double bits(uint64_t b) {
-    double d;
-    memcpy(&d, &b, 8);
-    return d;
-}
 static double sign(void) { return rnd() % 2 ? 1 : -1; }
 
 static double component(size_t n, double scale) {

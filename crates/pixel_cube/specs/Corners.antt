@@ -37,6 +37,7 @@ unfoldable pub usedFrom : (Axis → Float) → Corner → List (List Axis) → C
 usedFrom f l [] c = c ∷ []
 usedFrom f l (axes ∷ before) c = listedFor (usedFrom f l before) (c ∷ map (λ s. s .to) (stepsAlong f l c axes))
 
+-- those of a method on a pixel, from its low corner on
 unfoldable pub cornersUsed : Interpolation → ℕ → Fractions → List Corner
 cornersUsed interpolation n x = usedFrom (remainderOn n x) (low n x) (passes interpolation) (low n x)
 
@@ -44,6 +45,7 @@ cornersUsed interpolation n x = usedFrom (remainderOn n x) (low n x) (passes int
 abbrev pub counts : Float → ℕ
 counts f = cond (eq f F64.zero) 0 1
 
+-- how many axes count
 abbrev pub axesCounted : (Axis → Float) → ℕ
 axesCounted f = counts (f Red) + (counts (f Green) + counts (f Blue))
 

@@ -46,12 +46,15 @@ raised l c Blue = corner (c .red) (c .green) (l .blue + 1)
 -- ---- 'Trilinear works along blue, then green, then red, each step being LUT1D's step with its hold'
 -- `entry` is one component of the table
 
+-- 'along blue': between the entries at i on red and j on green
 unfoldable pub alongBlue : (Corner → Float) → ℕ → Fractions → ℕ → ℕ → Float
 alongBlue entry n x i j = lookedUp (λ k. entry (corner i j k)) n (x .b) .0
 
+-- 'then green': between what that gave
 unfoldable pub alongGreen : (Corner → Float) → ℕ → Fractions → ℕ → Float
 alongGreen entry n x i = lookedUp (λ j. alongBlue entry n x i j) n (x .g) .0
 
+-- 'then red'
 unfoldable pub trilinear : (Corner → Float) → ℕ → Fractions → CodeValue
 trilinear entry n x = lookedUp (λ i. alongGreen entry n x i) n (x .r)
 
@@ -62,6 +65,7 @@ unfoldable pub insertAxis : (Axis → Float) → Axis → List Axis → List Axi
 insertAxis f a [] = a ∷ []
 insertAxis f a (b ∷ bs) = cond (le (f b) (f a)) (a ∷ b ∷ bs) (b ∷ insertAxis f a bs)
 
+-- 'the axes by falling remainder f': each is put among those behind it
 unfoldable pub falling : (Axis → Float) → List Axis → List Axis
 falling f [] = []
 falling f (a ∷ rest) = insertAxis f a (falling f rest)
@@ -105,9 +109,11 @@ summedAndHeld entry c steps =
 unfoldable pub stepsAlong : (Axis → Float) → Corner → Corner → List Axis → List Step
 stepsAlong f l c axes = stepsFrom f l c (leaving f (falling f axes))
 
+-- the axes as ties ask for them: 'red, green, blue'
 abbrev pub allAxes : List Axis
 allAxes = Red ∷ Green ∷ Blue ∷ []
 
+-- all of it: from the low corner along all axes, summed and held
 unfoldable pub tetrahedral : (Corner → Float) → ℕ → Fractions → CodeValue
 tetrahedral entry n x = record { 0 = summedAndHeld entry (low n x) (stepsAlong (remainderOn n x) (low n x) (low n x) allAxes) }
 

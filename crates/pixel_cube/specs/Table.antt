@@ -25,6 +25,7 @@ entryAt m at n component c = numberAt m (at + (placeOf n c * 3 + component))
 unfoldable pub cubeIn : ℕ → ℕ → ℕ → Bool
 cubeIn room at n = leb 2 n && (leb n mostPoints && leb (at + cubeNumbers n) room)
 
+-- each component by itself, from that component of the entries
 unfoldable pub interpolatedAll : Room → ℕ → ℕ → Interpolation → Fractions → Pixel
 interpolatedAll m at n interpolation x = record {
   r = interpolatedBy interpolation (entryAt m at n 0) n x .0;
