@@ -11,6 +11,8 @@ use Rattle.decimal.specs.declared.Token.{Token}
 use Rattle.decimal.specs.declared.Token.the-variants.{Number, Malformed}
 use Rattle.decimal_read.specs.Number.{tokenOf}
 use Rattle.decimal_value.specs.Value.{notNegative, positive, isOne}
+use Rattle.process_list.specs.declared.RangeEnd.{RangeEnd}
+use Rattle.process_list.specs.declared.RangeEnd.the-variants.{Minimum, Maximum}
 use Rattle.process_list.specs.declared.Kind.{Kind}
 use Rattle.process_list.specs.List.{numbersOf}
 use Rattle.grammar.specs.Parse.{again, last}
@@ -19,7 +21,8 @@ use Rattle.xml.specs.Xml.{Attribute, isNamed, textOf}
 use Rattle.xml.specs.Elements.{held}
 use Rattle.clf.specs.Numbers.{endsToken, token, saidBy, faultOf, numbers, anyNumber, notBelowZero, mustBeOne, valueRules, valueElement}
 use Rattle.clf.specs.Nodes.{isSome, depthOf, nodeTexts, nodeMissing, nodeRules, matrixShape, lutShape, cubeShapeBy, arrayRules, arrayOf, array, noArray, arrayHolder, tableNode}
-use Rattle.clf.specs.Nodes.{matrix, lutNames, lutTexts, lut1d, cubeTexts, lut3d, rangeIndex, noValues, isThere, anyThere, allThere, inOrder, onlyNumber, rangeHolder, rangeTexts, rangeNode, range, notEmptyRules}
+use Rattle.clf.specs.Nodes.{matrix, lutNames, lutTexts, lut1d, cubeTexts, lut3d, rangeIndex, RangeState, noValues, isThere, anyThere, allThere, inOrder, onlyPair, pairEqual, oneEndFault, rangeMissing, onlyNumber}
+use Rattle.clf.specs.Nodes.{rangeHolder, rangeTexts, oneEndAllowedBy, rangeNode, range, notEmptyRules}
 use Rattle.clf.specs.Nodes.{sopName, sopRule, sopHolder, sopNode, satHolder, satNode, CdlState, noCdl, cdlFault, cdlBody, cdlHolder, cdlTexts, cdlNode, cdlRules, ascCdl, NodeName}
 use Rattle.clf.specs.Nodes.{isMatrix, isLut1d, isRange, isCdl, isLut3d, notCarried, noNode, nodeFault, nodeBody}
 use Rattle.claims.proofs.Faults.{fair-zero, fair-by, fair-cond, blames-ret, blames-bad, blames-cond, blames-look, blames-judge, blames-eat, blames-seq, blames-loop}
@@ -130,9 +133,19 @@ lut3d-well =
 
 -- ---- Range
 
-range-content : Well (held rangeHolder noValues)
-range-content =
-    held-well rangeHolder (λ st. fair-cond (allThere st) (fair-cond (inOrder st) fair-zero twentyOne) five)
+one-end-right : (allowed : Bool) (e : RangeEnd) (st : RangeState) → Right (oneEndFault allowed e st)
+unfolding oneEndFault
+one-end-right allowed e st = fair-cond allowed (fair-cond (pairEqual e st) fair-zero twentyOne) seven
+
+range-right : (allowed : Bool) (st : RangeState) → Right (rangeMissing allowed st)
+unfolding rangeMissing
+range-right allowed st =
+    fair-cond (allThere st) (fair-cond (inOrder st) fair-zero twentyOne)
+    (fair-cond (onlyPair Minimum st) (one-end-right allowed Minimum st) (fair-cond (onlyPair Maximum st) (one-end-right allowed Maximum st) five))
+
+range-content : (allowed : Bool) → Well (held (rangeHolder allowed) noValues)
+range-content allowed =
+    held-well (rangeHolder allowed) (range-right allowed)
     (λ st w. fair-cond (same w (bytes "Description")) (fair-cond (anyThere st) five fair-zero) (fair-cond (ltb (rangeIndex w) 4) (fair-cond (isThere (rangeIndex w) st) five fair-zero) five))
     (λ st w. blames-cond (same w (bytes "Description")) (blames-seq (textElement-well w) (λ t. blames-ret st))
     (blames-seq (value-well w 1 anyNumber any-right) (λ l. blames-ret (record { values = set (st .values) (rangeIndex w) (some (onlyNumber l)) }))))
@@ -143,7 +156,7 @@ unfolding range
 range-well =
     blames-seq (startTag-well (nodeRules (λ w. 0) rangeTexts) (node-rules (λ w. 0) rangeTexts (λ w. fair-zero)
     (λ w t. fair-cond (same w (bytes "style")) (fair-cond (same t (bytes "Clamp") || same t (bytes "noClamp")) fair-zero eight) fair-zero)))
-    (λ tag. blames-seq range-content (λ st. blames-ret (rangeNode (tag .attributes) st)))
+    (λ tag. blames-seq (range-content (oneEndAllowedBy (tag .attributes))) (λ st. blames-ret (rangeNode (tag .attributes) st)))
 
 -- ---- ASC_CDL
 

@@ -1,5 +1,6 @@
 -- What each ASC_CDL that is read is. Assumes nothing.
 use Rattle.process_list.specs.declared.CdlStyle.{CdlStyle}
+use Rattle.process_list.specs.declared.Depth.{Depth}
 use mathlib.Core.Path.{_≡_, refl, sym, ap, _∙_, subst}
 use mathlib.Core.Bool.{Bool, true, false, cond, not}
 use mathlib.Core.List.{List, [], _∷_, _++_}
@@ -16,7 +17,7 @@ use Rattle.decimal_write.specs.Written.{isNormal}
 use Rattle.decimal_value.specs.Value.{notNegative, positive, isOne, valueOf, powered, tenTo}
 use Rattle.process_list.specs.declared.Kind.the-variants.{Cdl}
 use Rattle.process_list.specs.List.{numbersOf}
-use Rattle.valid.specs.Valid.{shapeRight, slopesHold, powersHold, cdlHolds, rulesHold, sound}
+use Rattle.valid.specs.Valid.{shapeRight, slopesHold, powersHold, cdlHolds, rulesHold, depthsRight, sound}
 use Rattle.grammar.specs.Laws.{nope}
 use Rattle.xml.specs.Bytes.{bytes, same}
 use Rattle.xml.specs.Xml.{textOf, Tag, startTag}
@@ -250,13 +251,14 @@ nine-length : (l : List Decimal) → Nine l → length l ≡ 9
 nine-length l n =
     ap length (n .is) ∙ length-append (n .a ++ n .b) (n .c) ∙ omega (arith, length-append (n .a) (n .b), n .slopes .count, n .offsets .count, n .powers .count)
 
-cdl-right : (style : CdlStyle) (l m : List Decimal) → Nine l → Counted 1 notBelowZero m → Right (Cdl style) (l ++ m)
-unfolding shapeRight numbersOf rulesHold
-cdl-right style l m n k = record {
+cdl-right : (style : CdlStyle) (input output : Depth) (l m : List Decimal) → Nine l → Counted 1 notBelowZero m → Right (Cdl style) input output (l ++ m)
+unfolding shapeRight numbersOf rulesHold depthsRight
+cdl-right style input output l m n k = record {
   shape = refl;
   count = length-append l m ∙ omega (arith, nine-length l n, k .count);
   each = each-more Carried l m (nine-each l n) (each-map (Kept notBelowZero) Carried m (λ d k. k .carried) (k .kept));
   rules = cdl-rules l m n k;
+  depths = refl;
 }
 
 pub cdl-holds : Holds (λ n. sound n ≡ true) ascCdl
@@ -264,4 +266,4 @@ unfolding ascCdl
 cdl-holds =
     holds-then (startTag cdlRules) (λ tag. holds-seq Begun (content-holds tag)
     (λ st i. holds-ret (sound-by (cdlNode (tag .attributes) st)
-    (cdl-right (cdlStyle (textOf (bytes "style") (tag .attributes))) (sopNumbers st) (satNumbers st) (sop-there (st .sop) (i .sop)) (sat-there (st .sat) (i .sat))))))
+    (cdl-right (cdlStyle (textOf (bytes "style") (tag .attributes))) _ _ (sopNumbers st) (satNumbers st) (sop-there (st .sop) (i .sop)) (sat-there (st .sat) (i .sat))))))

@@ -16,7 +16,7 @@ use Rattle.grammar.specs.Splice.{done-law, bind-inv, strict-inv}
 use Rattle.xml.specs.Bytes.{bytes, same, isSpace, lessThan, slash, exclamation, question, ampersand}
 use Rattle.xml.specs.Xml.{entity, comment, Tag, startTag, openName, endTag}
 use Rattle.xml.specs.Elements.{Part, misc, child, close, markup, between, held, textElement, info}
-use Rattle.clf.specs.Nodes.{nodeRules, arrayHolder, noArray, tableNode, matrixShape, matrix, lutShape, lutNames, lutTexts, lut1d, cubeTexts, cubeShapeBy, lut3d, rangeHolder, noValues, rangeTexts, rangeNode}
+use Rattle.clf.specs.Nodes.{nodeRules, arrayHolder, noArray, tableNode, matrixShape, matrix, lutShape, lutNames, lutTexts, lut1d, cubeTexts, cubeShapeBy, lut3d, rangeHolder, noValues, rangeTexts, oneEndAllowedBy, rangeNode}
 use Rattle.clf.specs.Nodes.{range, CdlState, cdlHolder, noCdl, cdlRules, cdlContent, cdlNode, ascCdl, NodeName, isMatrix, isLut1d, isRange, isCdl, isLut3d, notCarried, noNode}
 use Rattle.clf.specs.Nodes.{nodeName, nodeBody}
 use Rattle.clf.specs.List.{Child, node, description, inputDescriptor, outputDescriptor, infoChild, Flags, childFault, childBody, listItem}
@@ -40,7 +40,7 @@ lut3d-closes =
 
 range-closes : Closes range
 unfolding range
-range-closes = closes-last (startTag (nodeRules (λ w. 0) rangeTexts)) (λ tag. closes-ret (rangeNode (tag .attributes)) (held-closes rangeHolder noValues))
+range-closes = closes-last (startTag (nodeRules (λ w. 0) rangeTexts)) (λ tag. closes-ret (rangeNode (tag .attributes)) (held-closes (rangeHolder (oneEndAllowedBy (tag .attributes))) noValues))
 
 content-stops : (tag : Tag) → Stops (cdlContent tag)
 content-stops tag = record { at = λ s st r e. go s st r (tag .empty) e }

@@ -1,5 +1,6 @@
 -- What each Range that is read is. Assumes nothing.
-use Rattle.process_list.specs.declared.RangeStyle.{RangeStyle}
+use Rattle.process_list.specs.declared.RangeEnd.{RangeEnd}
+use Rattle.process_list.specs.declared.RangeEnd.the-variants.{Minimum, Maximum}
 use mathlib.Core.Path.{_≡_, refl}
 use mathlib.Core.Bool.{Bool, true, false, cond}
 use mathlib.Core.List.{List, [], _∷_}
@@ -10,18 +11,18 @@ use lib.ListN.{getD, set}
 use Rattle.decimal.specs.declared.Decimal.{Decimal}
 use Rattle.decimal.specs.Decimal as Decimals
 use Rattle.decimal_write.specs.Written.{isNormal}
-use Rattle.process_list.specs.declared.Kind.the-variants.{Range}
-use Rattle.process_list.specs.List.{numbersOf}
-use Rattle.valid.specs.Valid.{shapeRight, rangeHolds, rulesHold, sound}
+use Rattle.process_list.specs.List.{numbersOf, sameDepth, rangeClamps}
+use Rattle.valid.specs.Valid.{shapeRight, rangeHolds, oneEndHolds, rulesHold, depthsRight, sound}
 use Rattle.xml.specs.Bytes.{bytes, same}
-use Rattle.xml.specs.Xml.{textOf, startTag}
+use Rattle.xml.specs.Xml.{Attribute, startTag}
 use Rattle.xml.specs.Elements.{textElement}
 use Rattle.clf.specs.Numbers.{anyNumber}
-use Rattle.clf.specs.Nodes.{rangeStyle, orElse, nodeRules, RangeState, rangeIndex, valueAt, allThere, inOrder, onlyNumber, rangeBody, rangeHolder, rangeTexts, rangeNode, range}
+use Rattle.clf.specs.Nodes.{depthAt, orElse, nodeRules, RangeState, rangeIndex, valueAt, allThere, inOrder, inOf, outOf, onlyPair, pairEqual, oneEndFault, rangeMissing, onlyNumber, rangeBody}
+use Rattle.clf.specs.Nodes.{rangeHolder, rangeTexts, styleAt, oneEndAllowed, oneEndAllowedBy, fourNode, oneEndNode, rangeNode, range}
 use Rattle.claims.proofs.Always.{Holds, holds-ret, holds-cond, holds-seq, holds-then}
 use Rattle.claims.proofs.Numbers.{Each, Carried, Kept, Counted, value-holds}
 use Rattle.claims.proofs.Held.{Ended, held-holds}
-use Rattle.claims.proofs.Sound.{Right, sound-by}
+use Rattle.claims.proofs.Sound.{and-true, sound-by}
 use Rattle.claims.proofs.Tables.{OptHolds}
 
 pub zero-carried : Carried Decimals.zero
@@ -63,24 +64,68 @@ body-holds st v w =
     (λ z. holds-seq (Counted 1 anyNumber) (value-holds w 1 anyNumber)
     (λ l c. holds-ret (values-set (st .values) (rangeIndex w) (onlyNumber l) (one-carried l (c .kept)) v)))
 
-in-order : (st : RangeState) → _≡_ {A = ℕ} (cond (allThere st) (cond (inOrder st) 0 21) 5) 0 → inOrder st ≡ true
-in-order st e = go (allThere st) (inOrder st) refl e
-  where
-    go : (a b : Bool) → inOrder st ≡ b → _≡_ {A = ℕ} (cond a (cond b 0 21) 5) 0 → inOrder st ≡ true
-    go true true q z = q
-    go true false q z = absurd (omega arith)
-    go false b q z = absurd (omega arith)
+carried-at : (st : RangeState) → Begun st → (i : ℕ) → Carried (valueAt i st)
+carried-at st v i = value-carried (getD (st .values) i none) (v i)
 
-range-right : (style : RangeStyle) (st : RangeState) → Begun st → inOrder st ≡ true → Right (Range style) (valueAt 0 st ∷ valueAt 1 st ∷ valueAt 2 st ∷ valueAt 3 st ∷ [])
-unfolding shapeRight numbersOf rulesHold rangeHolds
-range-right style st v q =
-    let at : (i : ℕ) → Carried (valueAt i st) = λ i. value-carried (getD (st .values) i none) (v i) in
-    record { shape = refl; count = refl; each = (at 0, (at 1, (at 2, (at 3, tt)))); rules = q }
+-- ---- four values
+
+in-order : (st : RangeState) → _≡_ {A = ℕ} (cond (inOrder st) 0 21) 0 → inOrder st ≡ true
+in-order st e = go (inOrder st) refl e
+  where
+    go : (b : Bool) → inOrder st ≡ b → _≡_ {A = ℕ} (cond b 0 21) 0 → inOrder st ≡ true
+    go true q z = q
+    go false q z = absurd (omega arith)
+
+four-sound : (l : List Attribute) (st : RangeState) → Begun st → inOrder st ≡ true → sound (fourNode l st) ≡ true
+unfolding shapeRight numbersOf rulesHold rangeHolds depthsRight
+four-sound l st v q =
+    let at = carried-at st v in
+    sound-by (fourNode l st) (record { shape = refl; count = refl; each = (at 0, (at 1, (at 2, (at 3, tt)))); rules = q; depths = refl })
+
+-- ---- one pair alone, of either end
+
+module _ (l : List Attribute) (st : RangeState) (v : Begun st) (e : RangeEnd) where
+  -- nothing is wrong with it: the start tag allows it, and its two values are equal
+  allowed : oneEndFault (oneEndAllowedBy l) e st ≡ 0 → (oneEndAllowedBy l ≡ true) × (pairEqual e st ≡ true)
+  unfolding oneEndFault
+  allowed z = go (oneEndAllowedBy l) (pairEqual e st) z
+    where
+      go : (a b : Bool) → _≡_ {A = ℕ} (cond a (cond b 0 21) 7) 0 → (a ≡ true) × (b ≡ true)
+      go true true z = (refl, refl)
+      go true false z = absurd (omega arith)
+      go false b z = absurd (omega arith)
+
+  depths-equal : oneEndAllowedBy l ≡ true → sameDepth (depthAt (bytes "inBitDepth") l) (depthAt (bytes "outBitDepth") l) ≡ true
+  unfolding oneEndAllowedBy oneEndAllowed
+  depths-equal z = and-true (rangeClamps (styleAt l)) (sameDepth (depthAt (bytes "inBitDepth") l) (depthAt (bytes "outBitDepth") l)) z .1
+
+  one-end-sound : oneEndFault (oneEndAllowedBy l) e st ≡ 0 → sound (oneEndNode l e st) ≡ true
+  unfolding shapeRight numbersOf rulesHold oneEndHolds pairEqual depthsRight
+  one-end-sound z =
+      let at = carried-at st v in
+      let a = allowed z in
+      sound-by (oneEndNode l e st) (record { shape = refl; count = refl; each = (at (inOf e), (at (outOf e), tt)); rules = a .1; depths = depths-equal (a .0) })
+
+-- ---- a Range that is read: nothing is missing at its end tag
+
+range-sound : (l : List Attribute) (st : RangeState) → Begun st → rangeMissing (oneEndAllowedBy l) st ≡ 0 → sound (rangeNode l st) ≡ true
+unfolding rangeMissing
+range-sound l st v z = go (allThere st) (onlyPair Minimum st) (onlyPair Maximum st) z
+  where
+    faultOf : RangeEnd → ℕ
+    faultOf e = oneEndFault (oneEndAllowedBy l) e st
+
+    go : (a b c : Bool) → _≡_ {A = ℕ} (cond a (cond (inOrder st) 0 21) (cond b (faultOf Minimum) (cond c (faultOf Maximum) 5))) 0
+        → sound (cond a (fourNode l st) (cond b (oneEndNode l Minimum st) (oneEndNode l Maximum st))) ≡ true
+    go true b c z = four-sound l st v (in-order st z)
+    go false true c z = one-end-sound l st v Minimum z
+    go false false true z = one-end-sound l st v Maximum z
+    go false false false z = absurd (omega arith)
 
 pub range-holds : Holds (λ n. sound n ≡ true) range
 unfolding range
 range-holds =
     holds-then (startTag (nodeRules (λ w. 0) rangeTexts))
-    (λ tag. holds-seq (Ended rangeHolder Begun (λ st v w h q. body-holds st v w)) (held-holds rangeHolder Begun (λ st v w h q. body-holds st v w) none-yet)
-    (λ st e. holds-ret (sound-by (rangeNode (tag .attributes) st)
-    (range-right (rangeStyle (textOf (bytes "style") (tag .attributes))) st (e .state) (in-order st (e .nothing))))))
+    (λ tag. let h = rangeHolder (oneEndAllowedBy (tag .attributes)) in
+    holds-seq (Ended h Begun (λ st v w f q. body-holds st v w)) (held-holds h Begun (λ st v w f q. body-holds st v w) none-yet)
+    (λ st e. holds-ret (range-sound (tag .attributes) st (e .state) (e .nothing))))

@@ -7,11 +7,12 @@ use Prim.Native.Nat.{ℕ}
 use native.Mathlib.Omega.{arith}
 use lib.Dec.{eqb, leb, ltb}
 use Rattle.decimal.specs.declared.Decimal.{Decimal}
+use Rattle.process_list.specs.declared.Depth.{Depth}
 use Rattle.process_list.specs.declared.Interpolation.{Interpolation}
 use Rattle.process_list.specs.declared.Kind.{Kind}
 use Rattle.process_list.specs.declared.Kind.the-variants.{Matrix, Lut1d, Lut3d}
 use Rattle.process_list.specs.List.{numbersOf}
-use Rattle.valid.specs.Valid.{tableRight, cubeRight, shapeRight, rulesHold, sound}
+use Rattle.valid.specs.Valid.{tableRight, cubeRight, shapeRight, rulesHold, depthsRight, sound}
 use Rattle.grammar.specs.Laws.{nope}
 use Rattle.grammar.specs.Grammar.{ret, seq}
 use Rattle.xml.specs.Bytes.{bytes, same}
@@ -30,10 +31,11 @@ abbrev pub OptHolds : {A : Type 0} → (A → Type 0) → Option A → Type 0
 OptHolds P none = Unit {0}
 OptHolds P (some a) = P a
 
--- a shape that is carried, with no rule on its numbers
+-- a shape that is carried, with no rule on its numbers or its depths
 pub record Plain (k : Kind) : Type 0 where
   pub shape : shapeRight k ≡ true
   pub rules : (ns : List Decimal) → rulesHold k ns ≡ true
+  pub depths : (input output : Depth) → depthsRight k input output ≡ true
 
 -- ---- an Array
 
@@ -70,6 +72,7 @@ module _ (shape : List ℕ → Option Kind) where
           count = i .counted .count;
           each = each-map (Kept anyNumber) Carried (t .1) (λ d k. k .carried) (i .counted .kept);
           rules = right (i .dim) (t .0) (i .shaped) .rules (t .1);
+          depths = right (i .dim) (t .0) (i .shaped) .depths _ _;
         })
 
     pub table-holds : (l : List Attribute) → Holds (λ n. sound n ≡ true) (seq (held (arrayHolder w shape) noArray) (λ st. ret (tableNode l st)))
@@ -81,8 +84,8 @@ module _ (shape : List ℕ → Option Kind) where
 -- ---- the three shapes
 
 matrix-plain : (b : Bool) → Plain (Matrix b)
-unfolding shapeRight rulesHold
-matrix-plain b = record { shape = refl; rules = λ ns. refl }
+unfolding shapeRight rulesHold depthsRight
+matrix-plain b = record { shape = refl; rules = λ ns. refl; depths = λ i o. refl }
 
 matrix-right : (dim : List ℕ) (k : Kind) → matrixShape dim ≡ some k → Plain k
 unfolding matrixShape
@@ -104,8 +107,8 @@ columns-right t h = go (same t (bytes " 1")) (same t (bytes " 3")) h
     go false false z = z
 
 lut-plain : (n : ℕ) (t : List ℕ) → leb 2 n ≡ true → leb n 65536 ≡ true → ltb 0 (lutColumns t) ≡ true → Plain (Lut1d n (lutColumns t))
-unfolding shapeRight tableRight rulesHold
-lut-plain n t p q r = record { shape = rw (p, q, columns-right t r); rules = λ ns. refl }
+unfolding shapeRight tableRight rulesHold depthsRight
+lut-plain n t p q r = record { shape = rw (p, q, columns-right t r); rules = λ ns. refl; depths = λ i o. refl }
 
 lut-right : (dim : List ℕ) (k : Kind) → lutShape dim ≡ some k → Plain k
 unfolding lutShape
@@ -125,8 +128,8 @@ lut-right dim k e = go (not (beginsWithZero dim)) (leb 2 n) (leb n 65536) (ltb 0
     go false b d f p q r z = nope cc
 
 cube-plain : (i : Interpolation) (n : ℕ) → leb 2 n ≡ true → leb n 33 ≡ true → Plain (Lut3d n i)
-unfolding shapeRight cubeRight rulesHold
-cube-plain i n p q = record { shape = rw (p, q); rules = λ ns. refl }
+unfolding shapeRight cubeRight rulesHold depthsRight
+cube-plain i n p q = record { shape = rw (p, q); rules = λ ns. refl; depths = λ i o. refl }
 
 cube-right : (i : Interpolation) (dim : List ℕ) (k : Kind) → cubeShape i dim ≡ some k → Plain k
 unfolding cubeShape

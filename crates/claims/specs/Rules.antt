@@ -1,5 +1,5 @@
--- The rules of document 01 that every accepted list keeps. Each element's own rules are `sound` (shape within the limits, as many numbers as its kind has, each in range and
--- normal, Range's and ASC_CDL's rules on their numbers).
+-- The rules of documents 01 and 02 that every accepted list keeps. Each element's own rules are `sound` (shape within the limits, as many numbers as its kind has, each in range and
+-- normal, Range's and ASC_CDL's rules on their numbers, and the rule of a Range with one end on its depths).
 use mathlib.Core.Path.{_≡_}
 use mathlib.Core.Bool.{true}
 use mathlib.Core.List.{List, map}

@@ -9,19 +9,21 @@ use lib.IntN.{pos}
 use lib.ListN.{length, getD, set}
 use Rattle.decimal.specs.declared.Decimal.{Decimal}
 use Rattle.decimal.specs.Decimal as Decimals
-use Rattle.decimal_value.specs.Value.{less, atMost}
+use Rattle.decimal_value.specs.Value.{less, atMost, equal}
 use Rattle.decimal_write.specs.Written.{digits}
 use Rattle.process_list.specs.declared.Depth.{Depth}
 use Rattle.process_list.specs.declared.Depth.the-variants.{I8, I10, I12, I16, F16, F32}
 use Rattle.process_list.specs.declared.RangeStyle.{RangeStyle}
 use Rattle.process_list.specs.declared.RangeStyle.the-variants.{Clamp, NoClamp}
+use Rattle.process_list.specs.declared.RangeEnd.{RangeEnd}
+use Rattle.process_list.specs.declared.RangeEnd.the-variants.{Minimum, Maximum}
 use Rattle.process_list.specs.declared.CdlStyle.{CdlStyle}
 use Rattle.process_list.specs.declared.CdlStyle.the-variants.{Fwd, FwdNoClamp}
 use Rattle.process_list.specs.declared.Interpolation.{Interpolation}
 use Rattle.process_list.specs.declared.Interpolation.the-variants.{Trilinear, Tetrahedral}
 use Rattle.process_list.specs.declared.Kind.{Kind}
-use Rattle.process_list.specs.declared.Kind.the-variants.{Matrix, Lut1d, Range, Cdl, Lut3d}
-use Rattle.process_list.specs.List.{Element, numbersOf, mostEntries, mostPoints}
+use Rattle.process_list.specs.declared.Kind.the-variants.{Matrix, Lut1d, Range, Cdl, Lut3d, OneEnd}
+use Rattle.process_list.specs.List.{Element, numbersOf, mostEntries, mostPoints, sameDepth, rangeClamps}
 use Rattle.grammar.specs.Grammar.{G, ret, bad, seq, _>>=_, _>>_}
 use Rattle.xml.specs.Bytes.{bytes, same, isDigit}
 use Rattle.xml.specs.Xml.{Attribute, isNamed, textOf, Rules, plain, Tag, startTag}
@@ -194,9 +196,9 @@ lut3d = do
   st ← held (arrayHolder (bytes "LUT3D") (cubeShapeBy (tag .attributes))) noArray
   ret (tableNode (tag .attributes) st)
 
--- ---- Range: 'minInValue, maxInValue, minOutValue, maxOutValue, each once, any order'
+-- ---- Range: 'minInValue, maxInValue, minOutValue, maxOutValue, each once, any order', or one pair of them alone (02, W-202)
 
--- the index of a value by its name, in the order in which the list holds them; 4 is none
+-- the index of a value by its name, in the order in which a Range with four values holds them; 4 is none
 unfoldable pub rangeIndex : List ℕ → ℕ
 rangeIndex w =
     cond (same w (bytes "minInValue")) 0
@@ -214,7 +216,7 @@ noValues = record { values = none ∷ none ∷ none ∷ none ∷ [] }
 abbrev pub isThere : ℕ → RangeState → Bool
 isThere i st = isSome (getD (st .values) i none)
 
--- the value of index i. It is asked for at the end tag, once all four are there (`rangeHolder`): the default is never taken
+-- the value of index i. It is asked for at the end tag, of values that are there (`rangeMissing`): the default is never taken
 abbrev pub valueAt : ℕ → RangeState → Decimal
 valueAt i st = orElse Decimals.zero (getD (st .values) i none)
 
@@ -245,14 +247,42 @@ rangeBody st w =
     (textElement w >> ret st)
     (seq (valueElement w 1 anyNumber) (λ l. ret (record { values = set (st .values) (rangeIndex w) (some (onlyNumber l)) })))
 
--- 'A node's rule on two values is judged at its end tag': 21; a value that is missing is 5
-abbrev pub rangeHolder : Holder RangeState
-rangeHolder = record {
-  name = bytes "Range";
-  missing = λ st. cond (allThere st) (cond (inOrder st) 0 Refusal.ruleBroken) Refusal.wrongElement;
-  fault = rangeFault;
-  body = rangeBody;
-}
+-- the pair of an end (W-202): the index of its in value, and of its out value
+abbrev pub inOf : RangeEnd → ℕ
+inOf Minimum = 0
+inOf Maximum = 1
+
+abbrev pub outOf : RangeEnd → ℕ
+outOf Minimum = 2
+outOf Maximum = 3
+
+-- the end that is not this one
+abbrev pub otherEnd : RangeEnd → RangeEnd
+otherEnd Minimum = Maximum
+otherEnd Maximum = Minimum
+
+-- W-202: 'only the minimum or only the maximum pair': both values of this end are there, and none of the other's
+unfoldable pub onlyPair : RangeEnd → RangeState → Bool
+onlyPair e st = (isThere (inOf e) st && isThere (outOf e) st) && not (isThere (inOf (otherEnd e)) st || isThere (outOf (otherEnd e)) st)
+
+-- 'equal .. the in and out value', as f64
+unfoldable pub pairEqual : RangeEnd → RangeState → Bool
+pairEqual e st = equal (valueAt (inOf e) st) (valueAt (outOf e) st)
+
+-- at the end tag of a Range with this pair alone: 'unequal depths or noClamp with one pair is 7, unequal values 21'. `allowed` says of the start tag that its depths are equal and its style is Clamp
+unfoldable pub oneEndFault : Bool → RangeEnd → RangeState → ℕ
+oneEndFault allowed e st = cond allowed (cond (pairEqual e st) 0 Refusal.ruleBroken) Refusal.notCarried
+
+-- judged at the end tag. All four values: 21 if they break 'a node's rule on two values'. One pair alone (W-202): as above. Else, three values included, 'half a pair or no pair is 5'
+unfoldable pub rangeMissing : Bool → RangeState → ℕ
+rangeMissing allowed st =
+    cond (allThere st) (cond (inOrder st) 0 Refusal.ruleBroken)
+    (cond (onlyPair Minimum st) (oneEndFault allowed Minimum st)
+    (cond (onlyPair Maximum st) (oneEndFault allowed Maximum st) Refusal.wrongElement))
+
+-- the content of a Range whose start tag would allow one pair alone, or not
+abbrev pub rangeHolder : Bool → Holder RangeState
+rangeHolder allowed = record { name = bytes "Range"; missing = rangeMissing allowed; fault = rangeFault; body = rangeBody }
 
 -- '`style` "Clamp" (when absent) or "noClamp"'
 abbrev pub rangeTexts : List ℕ → List ℕ → ℕ
@@ -262,14 +292,33 @@ rangeTexts w t = cond (same w (bytes "style")) (cond (same t (bytes "Clamp") || 
 abbrev pub rangeStyle : List ℕ → RangeStyle
 rangeStyle t = cond (same t (bytes "noClamp")) NoClamp Clamp
 
+abbrev pub styleAt : List Attribute → RangeStyle
+styleAt l = rangeStyle (textOf (bytes "style") l)
+
+-- W-202: 'Carry it with style Clamp where the depths are equal': the depths themselves, so that 16f and 32f differ
+unfoldable pub oneEndAllowed : RangeStyle → Depth → Depth → Bool
+oneEndAllowed style input output = rangeClamps style && sameDepth input output
+
+-- the same of a start tag with these attributes
+unfoldable pub oneEndAllowedBy : List Attribute → Bool
+oneEndAllowedBy l = oneEndAllowed (styleAt l) (depthAt (bytes "inBitDepth") l) (depthAt (bytes "outBitDepth") l)
+
+-- a Range with four values, 'in the order above'
+abbrev pub fourNode : List Attribute → RangeState → Element
+fourNode l st = elementWith l (Range (styleAt l)) (valueAt 0 st ∷ valueAt 1 st ∷ valueAt 2 st ∷ valueAt 3 st ∷ [])
+
+-- a Range with one end: 'Such a node holds two numbers', its in value and its out value
+abbrev pub oneEndNode : List Attribute → RangeEnd → RangeState → Element
+oneEndNode l e st = elementWith l (OneEnd e) (valueAt (inOf e) st ∷ valueAt (outOf e) st ∷ [])
+
+-- the node by the values that are there; where they are not all four, they are one pair, or the end tag is at fault (`rangeMissing`)
 abbrev pub rangeNode : List Attribute → RangeState → Element
-rangeNode l st =
-    elementWith l (Range (rangeStyle (textOf (bytes "style") l))) (valueAt 0 st ∷ valueAt 1 st ∷ valueAt 2 st ∷ valueAt 3 st ∷ [])
+rangeNode l st = cond (allThere st) (fourNode l st) (cond (onlyPair Minimum st) (oneEndNode l Minimum st) (oneEndNode l Maximum st))
 
 unfoldable pub range : G Element
 range = do
   tag ← startTag (nodeRules (λ w. 0) rangeTexts)
-  st ← held rangeHolder noValues
+  st ← held (rangeHolder (oneEndAllowedBy (tag .attributes))) noValues
   ret (rangeNode (tag .attributes) st)
 
 -- ---- ASC_CDL: 'optional SOPNode (Slope, Offset, Power in this order, three numbers each), then optional SatNode (Saturation)'

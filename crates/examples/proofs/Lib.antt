@@ -2,3 +2,4 @@ pub mod Runs
 pub mod Readings
 pub mod Table
 pub mod Cubes
+pub mod Ends

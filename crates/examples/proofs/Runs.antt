@@ -6,7 +6,7 @@ use Rattle.decimal_value.specs.Value.{valueOf, powered, tenTo, less, atMost, no
 use Rattle.decimal_write.specs.Written as Written
 use Rattle.process_list.specs.List as List
 use Rattle.room.specs.Room.{roomLength}
-use Rattle.valid.specs.Valid.{every, pairs, numbersAt, elementOf, elementsOf, tableRight, shapeRight, carried, rangeHolds, slopesHold, powersHold, cdlHolds, rulesHold, sound}
+use Rattle.valid.specs.Valid.{every, pairs, numbersAt, elementOf, elementsOf, tableRight, shapeRight, carried, rangeHolds, slopesHold, powersHold, cdlHolds, rulesHold, depthsRight, sound}
 use Rattle.valid.specs.Valid.{gapless, isBlank, listRight, restZero, zeroFrom, isValid}
 use Rattle.pixel.specs.Hold.{hold}
 use Rattle.pixel.specs.Scale.{toFraction, toFractions, toCodeValue, toCodeValues}
@@ -30,7 +30,7 @@ unfolding
     valueOf powered tenTo less atMost notNegative isOne Written.isNormal
     List.sameDepth List.scaleOf List.numbersOf List.unplaced List.withPosition List.nodeOf List.total List.placeFrom List.placed List.allNumbers List.blankNode List.listOf List.nodesOf List.differs
     List.firstDiffers List.judged
-    roomLength every pairs numbersAt elementOf elementsOf tableRight shapeRight carried rangeHolds slopesHold powersHold cdlHolds rulesHold sound gapless isBlank listRight restZero zeroFrom isValid
+    roomLength every pairs numbersAt elementOf elementsOf tableRight shapeRight carried rangeHolds slopesHold powersHold cdlHolds rulesHold depthsRight sound gapless isBlank listRight restZero zeroFrom isValid
     hold toFraction toFractions toCodeValue toCodeValues rangeScale rangeShift rangeLine rangeComponent rangePixel rowOut matrixPixel heldForFwd sop sopPixel satPixel cdlPixel
     numberAt rowAt rowsAt position floorTo index remainder interpolated stepped lookedUp entryAt columnOf tableIn lookedUpAll lut1dPixel
     stepPixel rangeFrom cdlFrom eachPixel firstNotFinite preparedAs preparedOf rowsAs rowsOf runNode runNodes notThrees notFinite ranOf pixelsOf

@@ -34,5 +34,6 @@ pub fn put_name(out: &mut [u8], at: usize, kind: Kind) -> usize
             points: _,
             interpolation: _,
         } => put(out, at, b"LUT3D"),
+        Kind::OneEnd { end: _ } => put(out, at, b"Range"),
     }
 }

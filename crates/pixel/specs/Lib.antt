@@ -8,6 +8,8 @@ pub mod UnitHold
 pub mod Scale
 pub mod Range
 pub mod RangeLaws
+pub mod OneEnd
+pub mod OneEndLaws
 pub mod Matrix
 pub mod Cdl
 pub mod CdlLaws

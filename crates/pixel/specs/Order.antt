@@ -120,14 +120,31 @@ at-most false true a b h = both-zero a b (eqb a b) (eqb a 0) refl refl h
 at-most true false a b h = tt
 at-most true true a b h = from-test b a (ltb b a) (eqb a b) (λ p. omega (arith, ltb-true b a p)) (λ p. omega (arith, eqb-true a b p)) h
 
+not-below : (s t : Bool) (a b : ℕ) → AtMost s a t b → below t b s a ≡ false
+not-below false false a b h = le-ltb b a h
+not-below false true a b h = le-ltb 0 (b + a) (omega (arith, h .0, h .1))
+not-below true false a b h = refl
+not-below true true a b h = le-ltb a b h
+
 from-at-most : (s t : Bool) (a b : ℕ) → AtMost s a t b → T (below s a t b || level s a t b)
 from-at-most s t a b h = below-total s t a b (not-below s t a b h)
-  where
-    not-below : (s t : Bool) (a b : ℕ) → AtMost s a t b → below t b s a ≡ false
-    not-below false false a b h = le-ltb b a h
-    not-below false true a b h = le-ltb 0 (b + a) (omega (arith, h .0, h .1))
-    not-below true false a b h = refl
-    not-below true true a b h = le-ltb a b h
+
+-- what is at most y is not above it
+pub le-not-above : (x y : Float) → T (le x y) → lt y x ≡ false
+unfolding le lt eq
+le-not-above nan y h = absurd h
+le-not-above (inf true) nan h = refl
+le-not-above (inf true) (inf true) h = refl
+le-not-above (inf true) (inf false) h = refl
+le-not-above (inf true) (fin t n d) h = refl
+le-not-above (inf false) nan h = absurd h
+le-not-above (inf false) (inf true) h = absurd h
+le-not-above (inf false) (inf false) h = refl
+le-not-above (inf false) (fin t n d) h = absurd h
+le-not-above (fin s m e) nan h = absurd h
+le-not-above (fin s m e) (inf true) h = absurd h
+le-not-above (fin s m e) (inf false) h = refl
+le-not-above (fin s m e) (fin t n d) h = not-below s t (m * up e * down d) (n * up d * down e) (at-most s t (m * up e * down d) (n * up d * down e) h)
 
 zero-of : (a b : ℕ) → 0 < b → a * b ≤ 0 → a ≡ 0
 zero-of zero b B h = refl

@@ -1,4 +1,4 @@
--- A Range with style Clamp puts every component between minOut and maxOut, whatever comes in, a NaN included. Assumes nothing.
+-- A Range with four values and style Clamp puts every component between minOut and maxOut, whatever comes in, a NaN included. Assumes nothing.
 use mathlib.Core.Path.{_≡_, sym, subst}
 use mathlib.Core.Bool.{Bool, true, false}
 use lib.Dec.{T}

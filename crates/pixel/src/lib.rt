@@ -1,4 +1,4 @@
-// What a pixel goes through in a Range, a Matrix and an ASC_CDL (document 01, 'What a pixel goes through').
+// What a pixel goes through in a Range, a Matrix and an ASC_CDL (document 01, 'What a pixel goes through'), and in a Range with one end (document 02, W-202).
 ghost use mathlib.Core.Path.{_≡_};
 ghost use mathlib.Core.Bool.{true};
 ghost use lib.Dec.{T};
@@ -10,8 +10,11 @@ ghost use Rattle.pixel.specs.OrderedHold as OrderedHold;
 ghost use Rattle.pixel.specs.UnitHold as UnitHold;
 ghost use Rattle.pixel.specs.Scale as Scale;
 ghost use Rattle.pixel.specs.Range as Range;
+ghost use Rattle.pixel.specs.OneEnd as OneEnd;
+ghost use Rattle.pixel.specs.OneEndLaws as OneEndLaws;
 ghost use Rattle.pixel.specs.Matrix as Matrix;
 ghost use Rattle.pixel.specs.Cdl as Cdl;
+use process_list::RangeEnd;
 
 // A pixel travels as one record of three f64: its code values.
 pub struct Pixel {
@@ -164,6 +167,42 @@ pub fn range_pixel(
         r: range_line(s, shift, min_out, max_out, clamp, CodeValue(x.r)).0,
         g: range_line(s, shift, min_out, max_out, clamp, CodeValue(x.g)).0,
         b: range_line(s, shift, min_out, max_out, clamp, CodeValue(x.b)).0,
+    }
+}
+
+// Whether x stays at this limit: it is at least the minimum, or at most the maximum. -0 stays at 0, and a NaN nowhere.
+fn stays(end: RangeEnd, limit: f64, x: f64) -> bool
+    ensures { λ r. ⌜ r ≡ OneEndLaws.stays end limit x ⌝ }
+{
+    match end {
+        RangeEnd::Minimum => x >= limit,
+        RangeEnd::Maximum => x <= limit,
+    }
+}
+
+// A Range with one end: x beyond the limit, or a NaN, becomes the limit; everything else stays as it is. The first test is of the limit alone, so that a loop
+// over pixels can make it once: nothing is beyond a NaN, which does not equal itself.
+fn limited(end: RangeEnd, limit: f64, x: CodeValue) -> CodeValue
+    ensures { λ r. ⌜ r ≡ OneEnd.limited end limit x ⌝ }
+{
+    if limit != limit {
+        return x;
+    }
+    if stays(end, limit, x.0) {
+        return x;
+    }
+    CodeValue(limit)
+}
+
+// The promise: where the limit is no NaN, no component is beyond it or a NaN afterwards; one that was neither keeps its bits.
+pub fn limited_pixel(end: RangeEnd, limit: f64, x: Pixel) -> Pixel
+    ensures { λ r. ⌜ r ≡ OneEnd.limitedPixel end limit x ⌝ }
+    ensures { λ r. ⌜ OneEnd.KeepsEndPixel end limit x r ⌝ }
+{
+    Pixel {
+        r: limited(end, limit, CodeValue(x.r)).0,
+        g: limited(end, limit, CodeValue(x.g)).0,
+        b: limited(end, limit, CodeValue(x.b)).0,
     }
 }
 

@@ -16,7 +16,7 @@ use Rattle.pixel_cube.specs.Table.{placeOf, entryAt, interpolatedAll, lu
 use Rattle.pixel_cube.specs.TableLaws.{held, lut3d-table}
 use Rattle.pixel_cube.specs.Corners.{KeepsCorners, LutKeeps}
 use Rattle.pixel_cube.specs.CornersLaws.{keeps}
-use Rattle.pixel_cube.proofs.Known.{number-known}
+use Rattle.pixel_room.proofs.Known.{number-known}
 
 entry-known : (m : Room) (at n component : ℕ) (c : Corner) → T (not (isNan (entryAt m at n component c)))
 unfolding entryAt

@@ -2,7 +2,9 @@
 use mathlib.Core.List.{List, [], _∷_}
 use lib.Ieee.{Float}
 use Rattle.pixel.specs.declared.Pixel.{Pixel}
+use Rattle.process_list.specs.declared.RangeEnd.{RangeEnd}
 use Rattle.pixel.specs.Bounds.{Within}
+use Rattle.pixel.specs.OneEnd.{InsidePixel}
 
 -- a pixel's three components in front of the rest
 abbrev pub inFront : Pixel → List Float → List Float
@@ -15,9 +17,17 @@ eachPixel f (a ∷ []) = a ∷ []
 eachPixel f (a ∷ b ∷ []) = a ∷ b ∷ []
 eachPixel f (a ∷ b ∷ c ∷ xs) = inFront (f (record { r = a; g = b; b = c })) (eachPixel f xs)
 
+-- a property of every pixel of a slice
+unfoldable pub EachHolds : (Pixel → Type 0) → List Float → Type 0
+EachHolds P [] = Unit
+EachHolds P (a ∷ []) = Unit
+EachHolds P (a ∷ b ∷ []) = Unit
+EachHolds P (a ∷ b ∷ c ∷ xs) = P (record { r = a; g = b; b = c }) × EachHolds P xs
+
 -- 'Clamp's stated bound': every component of every pixel of a slice between lo and hi
-unfoldable pub EachWithin : Float → Float → List Float → Type 0
-EachWithin lo hi [] = Unit
-EachWithin lo hi (a ∷ []) = Unit
-EachWithin lo hi (a ∷ b ∷ []) = Unit
-EachWithin lo hi (a ∷ b ∷ c ∷ xs) = Within lo hi (record { r = a; g = b; b = c }) × EachWithin lo hi xs
+abbrev pub EachWithin : Float → Float → List Float → Type 0
+EachWithin lo hi = EachHolds (Within lo hi)
+
+-- that of a Range with one end: no component of any pixel beyond the limit, and none a NaN
+abbrev pub EachInside : RangeEnd → Float → List Float → Type 0
+EachInside end limit = EachHolds (InsidePixel end limit)

@@ -7,8 +7,7 @@ use lib.ListN.{length, take, drop, getD, set, length-set, length-drop, take-appe
 use lib.Seq.{drop-cons, take-suc-set, drop-set-lt}
 use lib.Ieee.{Float, nan}
 use Rattle.pixel.specs.declared.Pixel.{Pixel}
-use Rattle.pixel.specs.Bounds.{Within}
-use Rattle.pixel_run.specs.Each.{eachPixel, EachWithin}
+use Rattle.pixel_run.specs.Each.{eachPixel, EachHolds}
 
 -- the first i components are mapped already
 abbrev pub Done : (Pixel → Pixel) → List Float → List Float → ℕ → Type 0
@@ -130,10 +129,10 @@ each-same f g h (a ∷ []) = refl
 each-same f g h (a ∷ b ∷ []) = refl
 each-same f g h (a ∷ b ∷ c ∷ l) = rw (h (record { r = a; g = b; b = c }), each-same f g h l)
 
--- a step whose pixels all lie between lo and hi puts every pixel of a slice there
-pub each-within : (f : Pixel → Pixel) (lo hi : Float) → ((x : Pixel) → Within lo hi (f x)) → (xs : List Float) → EachWithin lo hi (eachPixel f xs)
-unfolding eachPixel EachWithin
-each-within f lo hi h [] = tt
-each-within f lo hi h (a ∷ []) = tt
-each-within f lo hi h (a ∷ b ∷ []) = tt
-each-within f lo hi h (a ∷ b ∷ c ∷ l) = (h (record { r = a; g = b; b = c }), each-within f lo hi h l)
+-- what a step promises of every pixel holds of every pixel of a slice
+pub each-holds : (P : Pixel → Type 0) (f : Pixel → Pixel) → ((x : Pixel) → P (f x)) → (xs : List Float) → EachHolds P (eachPixel f xs)
+unfolding eachPixel EachHolds
+each-holds P f h [] = tt
+each-holds P f h (a ∷ []) = tt
+each-holds P f h (a ∷ b ∷ []) = tt
+each-holds P f h (a ∷ b ∷ c ∷ l) = (h (record { r = a; g = b; b = c }), each-holds P f h l)

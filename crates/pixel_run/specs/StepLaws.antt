@@ -1,5 +1,6 @@
--- What a step can put out, whatever comes in: a Range with style Clamp stays between minOut and maxOut, an ASC_CDL of style Fwd with an out scale of 1 between 0 and 1,
--- a LUT1D that the room holds between the bounds of its columns, and a LUT3D that it holds between the corners used. Over a slice: `each-within` of EachLaws. Assumes nothing.
+-- What a step can put out, whatever comes in: a Range with four values and style Clamp stays between minOut and maxOut, an ASC_CDL of style Fwd with an out scale of 1 between 0 and 1,
+-- a LUT1D that the room holds between the bounds of its columns, and a LUT3D that it holds between the corners used; a Range with one end, where its limit is no NaN, puts out nothing
+-- beyond it and no NaN, and what was neither keeps its bits. Of what comes out, over a slice: `each-holds` of EachLaws. Assumes nothing.
 use mathlib.Core.Path.{_≡_, refl}
 use mathlib.Core.Bool.{true}
 use mathlib.Core.List.{List}
@@ -10,14 +11,17 @@ use Rattle.pixel.specs.declared.Pixel.{Pixel}
 use Rattle.pixel.specs.F64 as F64
 use Rattle.pixel.specs.Bounds.{Between, Within}
 use Rattle.pixel.specs.RangeLaws.{range-within}
+use Rattle.pixel.specs.OneEnd.{KeepsEndPixel}
+use Rattle.pixel.specs.OneEndLaws.{limited-pixel-keeps}
 use Rattle.pixel.specs.CdlLaws.{cdl-within}
 use Rattle.room.specs.Room.{Room, roomLength}
 use Rattle.pixel_lut.specs.Table.{tableIn, entryAt, columnOf}
 use Rattle.pixel_lut.specs.TableLaws.{InColumns, lut1d-between}
 use Rattle.process_list.specs.declared.Interpolation.{Interpolation}
+use Rattle.process_list.specs.declared.RangeEnd.{RangeEnd}
 use Rattle.pixel_cube.specs.Corners.{LutKeeps}
 use Rattle.pixel_cube.proofs.Keeps.{kept}
-use Rattle.pixel_run.specs.declared.Prepared.the-variants.{Range, Cdl, Lut1d, Lut3d}
+use Rattle.pixel_run.specs.declared.Prepared.the-variants.{Range, Cdl, Lut1d, Lut3d, OneEnd}
 use Rattle.pixel_run.specs.Step.{stepPixel}
 
 module _ (rows : List (List Float)) (inScale outScale : Float) (m : Room) where
@@ -41,3 +45,7 @@ module _ (rows : List (List Float)) (inScale outScale : Float) (m : Room) where
       → LutKeeps m at n interpolation inScale x (stepPixel (Lut3d at n interpolation) rows inScale outScale m x)
   unfolding stepPixel
   lut3d-keeps at n interpolation x = kept m at n interpolation inScale x _ refl .1
+
+  pub one-end-keeps : (end : RangeEnd) (limit : Float) (x : Pixel) → KeepsEndPixel end limit x (stepPixel (OneEnd end limit) rows inScale outScale m x)
+  unfolding stepPixel
+  one-end-keeps end limit x = limited-pixel-keeps end limit x

@@ -1,11 +1,13 @@
-// One prepared node over the pixels of a lent slice, and refusal 15 (document 01, 'What a pixel goes through').
+// One prepared node over the pixels of a lent slice, and refusal 15 (document 01, 'What a pixel goes through'; a Range with one end: document 02, W-202).
 ghost use mathlib.Core.Path.{_≡_};
+ghost use mathlib.Core.Bool.{false};
 ghost use Prim.Native.Nat.{_+_, _<_};
 ghost use lib.Dec.{T};
 ghost use lib.ListN.{length};
-ghost use lib.Ieee.{le};
+ghost use lib.Ieee.{le, isNan};
 ghost use lib.Ieee.Scale.{finite};
 ghost use Rattle.pixel.specs.Range as Range;
+ghost use Rattle.pixel.specs.OneEnd as OneEnd;
 ghost use Rattle.pixel.specs.Matrix as Matrix;
 ghost use Rattle.pixel.specs.Cdl as Cdl;
 ghost use Rattle.room.specs.Room.{lent};
@@ -19,8 +21,9 @@ ghost use Rattle.pixel_run.specs.Finite as Finite;
 ghost use Rattle.pixel_run.specs.FiniteLaws as FiniteLaws;
 use pixel::Pixel;
 use process_list::Interpolation;
+use process_list::RangeEnd;
 
-// A prepared node: Range with its four numbers, CDL with its ten, Matrix, LUT1D and LUT3D with where theirs stand.
+// A prepared node: Range with its four numbers, CDL with its ten, Matrix, LUT1D and LUT3D with where theirs stand. A Range with one end has its limit alone.
 // clamp: a Range's style is Clamp, an ASC_CDL's is Fwd. wide: a Matrix is 3x4.
 pub enum Prepared {
     Range {
@@ -57,6 +60,10 @@ pub enum Prepared {
         points: usize,
         interpolation: Interpolation,
     },
+    OneEnd {
+        end: RangeEnd,
+        limit: f64,
+    },
 }
 
 // A Range whose four numbers stand in the room from at on.
@@ -69,6 +76,16 @@ pub fn prepare_range(coefficients: &[i64], powers: &[i8], at: usize, clamp: bool
         min_out: pixel_room::number_from(coefficients, powers, at, 2),
         max_out: pixel_room::number_from(coefficients, powers, at, 3),
         clamp,
+    }
+}
+
+// A Range with one end whose two numbers stand in the room from at on. The limit is its in value; in a valid list its out value equals it.
+pub fn prepare_one_end(coefficients: &[i64], powers: &[i8], at: usize, end: RangeEnd) -> Prepared
+    ensures { λ r. ⌜ r ≡ Prepare.oneEndFrom (lent (now (coefficients .entry)) (now (powers .entry))) at end ⌝ }
+{
+    Prepared::OneEnd {
+        end,
+        limit: pixel_room::number_from(coefficients, powers, at, 0),
     }
 }
 
@@ -123,6 +140,20 @@ fn run_range(pixels: &mut [f64], min_in: f64, max_in: f64, min_out: f64, max_out
     while pixels.len() - i >= 3 {
         let x = load(pixels, i);
         let y = pixel::range_pixel(min_in, max_in, min_out, max_out, clamp, x);
+        store(pixels, i, y);
+        i += 3;
+    }
+}
+
+// A limit that is no NaN: whatever stood there, a NaN too, no component is beyond it or a NaN.
+fn run_one_end(pixels: &mut [f64], end: RangeEnd, limit: f64)
+    ensures { λ _. ⌜ now (pixels .exit) ≡ Each.eachPixel (OneEnd.limitedPixel end limit) (now (pixels .entry)) ⌝ }
+    ensures { λ _. ⌜ (isNan limit ≡ false → Each.EachInside end limit (now (pixels .exit))) ⌝ }
+{
+    let mut i = 0usize;
+    while pixels.len() - i >= 3 {
+        let x = load(pixels, i);
+        let y = pixel::limited_pixel(end, limit, x);
         store(pixels, i, y);
         i += 3;
     }
@@ -305,6 +336,7 @@ pub fn run_node(
             interpolation,
             in_scale,
         ),
+        Prepared::OneEnd { end, limit } => run_one_end(pixels, end, limit),
     }
 }
 

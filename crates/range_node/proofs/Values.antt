@@ -1,9 +1,9 @@
--- The four values in a small room. Assumes nothing.
-use mathlib.Core.Path.{_≡_, refl, sym, ap, _∙_}
+-- The values in a small room, all four or one pair. Assumes nothing.
+use mathlib.Core.Path.{_≡_, refl, sym, ap, subst, _∙_}
 use mathlib.Core.Bool.{Bool, true, false, cond}
 use mathlib.Core.List.{List, [], _∷_, map}
 use mathlib.Core.Option.{Option, none}
-use Prim.Native.Nat.{ℕ, zero, suc, _<_}
+use Prim.Native.Nat.{ℕ, zero, suc, _+_, _<_}
 use native.Mathlib.Omega.{arith}
 use lib.Dec.{ltb}
 use lib.IntN.{ℤ}
@@ -14,10 +14,14 @@ use Rattle.decimal.specs.declared.Decimal.{Decimal}
 use Rattle.decimal.specs.Decimal as Decimals
 use Rattle.room.specs.Room.{Room, roomLength, stored, storedIn, laidIn}
 use Rattle.room.proofs.Rooms.{stored-one}
-use Rattle.clf.specs.Nodes.{isSome, orElse, RangeState, isThere, valueAt, allThere, inOrder, rangeFault, rangeIndex}
+use Rattle.values.specs.Code.{Laid}
+use Rattle.values.proofs.Stored.{laid-then}
+use Rattle.clf.specs.Nodes.{isSome, orElse, RangeState, isThere, valueAt, allThere, inOrder, inOf, outOf, otherEnd, onlyPair, pairEqual, oneEndFault, rangeMissing, rangeFault, rangeIndex}
 use Rattle.node_parts.specs.Code.{smallNumberAt, numbersFrom, smallNumbers}
 use Rattle.node_parts.proofs.Smalls.{numbers-length, numbers-at}
-use Rattle.range_node.specs.Code.{rangeFaultOf, orderedIn, missingOf, RangeStands}
+use Rattle.process_list.specs.declared.RangeEnd.{RangeEnd}
+use Rattle.process_list.specs.declared.RangeEnd.the-variants.{Minimum, Maximum}
+use Rattle.range_node.specs.Code.{rangeFaultOf, allOf, onlyOf, pairIn, orderedIn, pairMissing, missingOf, RangeStands}
 use Rattle.range_node.specs.declared.RangeStep.{RangeStep}
 
 -- ---- one value more
@@ -42,6 +46,12 @@ small-stored k d m = go (ltb k (roomLength m)) refl
 pub small-one : (k : ℕ) (d : Decimal) (m : Room) → smallNumbers (laidIn k (d ∷ []) m) ≡ set (smallNumbers m) k d
 small-one k d m = ap smallNumbers (sym (stored-one k d m)) ∙ small-stored k d m
 
+-- two numbers stored, one behind the other
+pub two-laid : (base : ℕ) (d e : Decimal) (m₀ m₁ m₂ : Room) → Laid (base + 0) (d ∷ []) m₀ m₁ → Laid (base + 1) (e ∷ []) m₁ m₂ → Laid base (d ∷ e ∷ []) m₀ m₂
+two-laid base d e m₀ m₁ m₂ h k =
+    let z : base + 0 ≡ base = omega arith in
+    laid-then base (d ∷ []) (e ∷ []) m₀ m₁ m₂ (subst (λ (i : ℕ). Laid i (d ∷ []) m₀ m₁) z h) k
+
 -- ---- what the flags and the room say of the values
 
 module _ (m : Room) (r : RangeStep) (st : RangeState) (v : RangeStands m r st) where
@@ -60,9 +70,32 @@ module _ (m : Room) (r : RangeStep) (st : RangeState) (v : RangeStands m r st) w
       sym (numbers-at m k (omega (arith, room))) ∙ ap (λ (l : List Decimal). getD l k Decimals.zero) (v .numbers)
       ∙ List·getD-map (orElse Decimals.zero) (st .values) k none
 
-  pub lacking : missingOf (r .found) m ≡ cond (allThere st) (cond (inOrder st) 0 21) 5
-  unfolding missingOf orderedIn
-  lacking = rw (there 0, there 1, there 2, there 3, number 0 (omega arith), number 1 (omega arith), number 2 (omega arith), number 3 (omega arith))
+  pub all : allOf (r .found) ≡ allThere st
+  all = rw (there 0, there 1, there 2, there 3)
+
+  pub only : (e : RangeEnd) → onlyOf e (r .found) ≡ onlyPair e st
+  unfolding onlyOf onlyPair
+  only e = rw (there (inOf e), there (outOf e), there (inOf (otherEnd e)), there (outOf (otherEnd e)))
+
+  pub number-in : (e : RangeEnd) → smallNumberAt m (inOf e) ≡ valueAt (inOf e) st
+  number-in Minimum = number 0 (omega arith)
+  number-in Maximum = number 1 (omega arith)
+
+  pub number-out : (e : RangeEnd) → smallNumberAt m (outOf e) ≡ valueAt (outOf e) st
+  number-out Minimum = number 2 (omega arith)
+  number-out Maximum = number 3 (omega arith)
+
+  pair-lacking : (allowed : Bool) (e : RangeEnd) → pairMissing allowed e m ≡ oneEndFault allowed e st
+  unfolding pairMissing oneEndFault pairEqual
+  pair-lacking allowed e = rw (number-in e, number-out e)
+
+  ordered : orderedIn m ≡ inOrder st
+  unfolding orderedIn
+  ordered = rw (number 0 (omega arith), number 1 (omega arith), number 2 (omega arith), number 3 (omega arith))
+
+  pub lacking : (allowed : Bool) → missingOf allowed (r .found) m ≡ rangeMissing allowed st
+  unfolding missingOf rangeMissing
+  lacking allowed = rw (all, ordered, only Minimum, only Maximum, pair-lacking allowed Minimum, pair-lacking allowed Maximum)
 
   four-numbers : (vs : List (Option Decimal)) → length vs ≡ 4
       → map (orElse Decimals.zero) vs ≡ orElse Decimals.zero (getD vs 0 none) ∷ orElse Decimals.zero (getD vs 1 none) ∷ orElse Decimals.zero (getD vs 2 none) ∷ orElse Decimals.zero

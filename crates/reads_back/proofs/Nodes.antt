@@ -1,5 +1,6 @@
 -- A node of ProcessList in front of what follows it. Assumes nothing.
 use Rattle.process_list.specs.declared.RangeStyle.{RangeStyle}
+use Rattle.process_list.specs.declared.RangeEnd.{RangeEnd}
 use Rattle.process_list.specs.declared.CdlStyle.{CdlStyle}
 use Rattle.process_list.specs.declared.Interpolation.{Interpolation}
 use mathlib.Core.Path.{_≡_, refl, sym, ap, _∙_, subst}
@@ -11,9 +12,9 @@ use lib.ListN.{length, length-append}
 use Rattle.decimal.specs.declared.Decimal.{Decimal}
 use Rattle.process_list.specs.declared.Depth.{Depth}
 use Rattle.process_list.specs.declared.Kind.{Kind}
-use Rattle.process_list.specs.declared.Kind.the-variants.{Matrix, Lut1d, Range, Cdl, Lut3d}
+use Rattle.process_list.specs.declared.Kind.the-variants.{Matrix, Lut1d, Range, Cdl, Lut3d, OneEnd}
 use Rattle.process_list.specs.List.{Element, numbersOf}
-use Rattle.valid.specs.Valid.{shapeRight, rulesHold, sound}
+use Rattle.valid.specs.Valid.{shapeRight, depthsRight, rulesHold, sound}
 use Rattle.grammar.specs.Parse.{Out, done, thenOut, retP}
 use Rattle.grammar.specs.Grammar.{G, seq, ret}
 use Rattle.xml.specs.Bytes.{bytes, same}
@@ -26,10 +27,10 @@ use Rattle.written_form.proofs.Tail.{contentText, startText, endText, nodeText}
 use Rattle.reads_back.proofs.Texts.{rest-short, isName}
 use Rattle.reads_back.proofs.Held.{between-child}
 use Rattle.reads_back.proofs.Tables.{space-name, matrix-name, lut-name, cube-name, matrix-reads, lut-reads, cube-reads}
-use Rattle.reads_back.proofs.Ranges.{range-name, range-reads}
+use Rattle.reads_back.proofs.Ranges.{range-name, range-reads, one-end-reads}
 use Rattle.reads_back.proofs.Cdls.{cdl-name, cdl-reads}
 use Rattle.written_form.proofs.Short.{Parts, sound-parts}
-use Rattle.reads_back.proofs.Sound.{any-kept, Four, four, range-order, TenOf, ten-of, ten-kept}
+use Rattle.reads_back.proofs.Sound.{any-kept, Four, four, range-order, Two, two, pair-equal, TenOf, ten-of, ten-kept}
 
 -- ---- a child of each of the five names
 
@@ -39,6 +40,7 @@ name-right (Lut1d entries columns) = lut-name
 name-right (Range style) = range-name
 name-right (Cdl style) = cdl-name
 name-right (Lut3d points interpolation) = cube-name
+name-right (OneEnd end) = range-name
 
 fault-none : (st : Flags) (k : Kind) → childFault st (nameText k) ≡ 0
 unfolding childFault nodeName same
@@ -47,6 +49,7 @@ fault-none st (Lut1d entries columns) = refl
 fault-none st (Range style) = refl
 fault-none st (Cdl style) = refl
 fault-none st (Lut3d points interpolation) = refl
+fault-none st (OneEnd end) = refl
 
 -- the grammar of each
 abbrev bodyOf : Kind → G Element
@@ -55,6 +58,7 @@ bodyOf (Lut1d entries columns) = lut1d
 bodyOf (Range style) = range
 bodyOf (Cdl style) = ascCdl
 bodyOf (Lut3d points interpolation) = lut3d
+bodyOf (OneEnd end) = range
 
 child-is : (k : Kind) → childBody (nameText k) ≡ seq (bodyOf k) (λ n. ret (node n))
 unfolding childBody nodeName same
@@ -63,6 +67,7 @@ child-is (Lut1d entries columns) = refl
 child-is (Range style) = refl
 child-is (Cdl style) = refl
 child-is (Lut3d points interpolation) = refl
+child-is (OneEnd end) = refl
 
 -- ---- what stands behind a node's name, up to the LF behind its end tag
 
@@ -79,55 +84,64 @@ module _ (i o : Depth) (ds : List Decimal) (t : List ℕ) where
   abbrev Back : Kind → Type 0
   Back k = (bodyOf k) .run (32 ∷ behindName (made k) t) ≡ done (made k) (10 ∷ t)
 
-  matrix-body : (wide : Bool) → Parts (Matrix wide) ds → Back (Matrix wide)
+  matrix-body : (wide : Bool) → Parts (Matrix wide) i o ds → Back (Matrix wide)
   unfolding contentText endText numbersOf
   matrix-body true p = matrix-reads i o true ds (10 ∷ t) (any-kept ds (p .each)) (p .count) (sym (p .count))
   matrix-body false p = matrix-reads i o false ds (10 ∷ t) (any-kept ds (p .each)) (p .count) (sym (p .count))
 
-  lut-body : (n c : ℕ) → Parts (Lut1d n c) ds → Back (Lut1d n c)
+  lut-body : (n c : ℕ) → Parts (Lut1d n c) i o ds → Back (Lut1d n c)
   unfolding contentText endText numbersOf shapeRight
   lut-body n c p = lut-reads i o n c ds (10 ∷ t) (p .shape) (any-kept ds (p .each)) (p .count) (sym (p .count))
 
-  cube-body : (n : ℕ) (m : Interpolation) → Parts (Lut3d n m) ds → Back (Lut3d n m)
+  cube-body : (n : ℕ) (m : Interpolation) → Parts (Lut3d n m) i o ds → Back (Lut3d n m)
   unfolding contentText endText numbersOf shapeRight
   cube-body n m p = cube-reads i o n m ds (10 ∷ t) (p .shape) (any-kept ds (p .each)) (p .count) (sym (p .count))
 
 module _ (i o : Depth) (t : List ℕ) where
-  abbrev RangeBack : RangeStyle → List Decimal → Type 0
-  RangeBack style ds = Parts (Range style) ds → Back i o ds t (Range style)
+  -- so it does for a sound node of these numbers
+  abbrev SoundBack : Kind → List Decimal → Type 0
+  SoundBack k ds = Parts k i o ds → Back i o ds t k
 
-  range-four : (style : RangeStyle) (a b c d : Decimal) → RangeBack style (a ∷ b ∷ c ∷ d ∷ [])
+  range-four : (style : RangeStyle) (a b c d : Decimal) → SoundBack (Range style) (a ∷ b ∷ c ∷ d ∷ [])
   unfolding contentText endText rulesHold
   range-four style a b c d p = range-reads i o a b c d style (10 ∷ t) (any-kept (a ∷ b ∷ c ∷ d ∷ []) (p .each)) (range-order a b c d (p .rules))
 
-  range-body : (style : RangeStyle) (ds : List Decimal) → RangeBack style ds
+  range-body : (style : RangeStyle) (ds : List Decimal) → SoundBack (Range style) ds
   unfolding numbersOf
   range-body style ds p =
       let f : Four ds = four ds (p .count) in
-      subst (RangeBack style) (sym (f .is)) (range-four style (f .a) (f .b) (f .c) (f .d)) p
+      subst (SoundBack (Range style)) (sym (f .is)) (range-four style (f .a) (f .b) (f .c) (f .d)) p
 
-  abbrev CdlBack : CdlStyle → List Decimal → Type 0
-  CdlBack style ds = Parts (Cdl style) ds → Back i o ds t (Cdl style)
+  one-end-two : (end : RangeEnd) (a b : Decimal) → SoundBack (OneEnd end) (a ∷ b ∷ [])
+  unfolding contentText endText rulesHold depthsRight
+  one-end-two end a b p = one-end-reads i o end a b (10 ∷ t) (any-kept (a ∷ b ∷ []) (p .each)) (pair-equal a b (p .rules)) (p .depths)
 
-  cdl-ten : (style : CdlStyle) (s1 s2 s3 o1 o2 o3 p1 p2 p3 v : Decimal) → CdlBack style (s1 ∷ s2 ∷ s3 ∷ o1 ∷ o2 ∷ o3 ∷ p1 ∷ p2 ∷ p3 ∷ v ∷ [])
+  one-end-body : (end : RangeEnd) (ds : List Decimal) → SoundBack (OneEnd end) ds
+  unfolding numbersOf
+  one-end-body end ds p =
+      let f : Two ds = two ds (p .count) in
+      subst (SoundBack (OneEnd end)) (sym (f .is)) (one-end-two end (f .a) (f .b)) p
+
+  cdl-ten : (style : CdlStyle) (s1 s2 s3 o1 o2 o3 p1 p2 p3 v : Decimal) → SoundBack (Cdl style) (s1 ∷ s2 ∷ s3 ∷ o1 ∷ o2 ∷ o3 ∷ p1 ∷ p2 ∷ p3 ∷ v ∷ [])
   unfolding contentText endText rulesHold
   cdl-ten style s1 s2 s3 o1 o2 o3 p1 p2 p3 v p =
       cdl-reads s1 s2 s3 o1 o2 o3 p1 p2 p3 v (ten-kept s1 s2 s3 o1 o2 o3 p1 p2 p3 v (p .each) (p .rules)) i o style (10 ∷ t)
 
-  cdl-body : (style : CdlStyle) (ds : List Decimal) → CdlBack style ds
+  cdl-body : (style : CdlStyle) (ds : List Decimal) → SoundBack (Cdl style) ds
   unfolding numbersOf
   cdl-body style ds p =
       let f : TenOf ds = ten-of ds (p .count) in
-      subst (CdlBack style) (sym (f .is)) (cdl-ten style (f .s1) (f .s2) (f .s3) (f .o1) (f .o2) (f .o3) (f .p1) (f .p2) (f .p3) (f .v)) p
+      subst (SoundBack (Cdl style)) (sym (f .is)) (cdl-ten style (f .s1) (f .s2) (f .s3) (f .o1) (f .o2) (f .o3) (f .p1) (f .p2) (f .p3) (f .v)) p
 
-  kind-body : (k : Kind) (ds : List Decimal) → Parts k ds → Back i o ds t k
+  kind-body : (k : Kind) (ds : List Decimal) → SoundBack k ds
   kind-body (Matrix wide) ds p = matrix-body i o ds t wide p
   kind-body (Lut1d n c) ds p = lut-body i o ds t n c p
   kind-body (Range style) ds p = range-body style ds p
   kind-body (Cdl style) ds p = cdl-body style ds p
   kind-body (Lut3d n m) ds p = cube-body i o ds t n m p
+  kind-body (OneEnd end) ds p = one-end-body end ds p
 
-  node-body : (k : Kind) (ds : List Decimal) → Parts k ds → (childBody (nameText k)) .run (32 ∷ behindName (made i o ds t k) t) ≡ done (node (made i o ds t k)) (10 ∷ t)
+  node-body : (k : Kind) (ds : List Decimal) → Parts k i o ds → (childBody (nameText k)) .run (32 ∷ behindName (made i o ds t k) t) ≡ done (node (made i o ds t k)) (10 ∷ t)
   node-body k ds p =
       ap (λ (g : G Child). g .run (32 ∷ behindName (made i o ds t k) t)) (child-is k)
       ∙ ap (λ (x : Out Element). thenOut x (λ n. retP (node n))) (kind-body k ds p)

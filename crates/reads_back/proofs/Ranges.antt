@@ -1,87 +1,152 @@
--- Range in front of what follows it. Assumes nothing.
+-- Range in front of what follows it, with four values or with one end. Assumes nothing.
 use Rattle.process_list.specs.declared.RangeStyle.{RangeStyle}
 use Rattle.process_list.specs.declared.RangeStyle.the-variants.{Clamp, NoClamp}
-use Rattle.process_list.specs.List.{Element}
+use Rattle.process_list.specs.declared.RangeEnd.{RangeEnd}
+use Rattle.process_list.specs.declared.RangeEnd.the-variants.{Minimum, Maximum}
+use Rattle.process_list.specs.List.{Element, sameDepth}
 use mathlib.Core.Path.{_≡_, refl, ap, _∙_}
-use mathlib.Core.Bool.{true, _&&_}
+use mathlib.Core.Bool.{Bool, true, false, _&&_}
 use mathlib.Core.List.{List, [], _∷_, _++_}
-use mathlib.Core.Option.{Option, none, some}
+use mathlib.Core.Option.{some}
 use Prim.Native.Nat.{ℕ}
+use lib.Dec.{ltb}
+use lib.ListN.{set}
 use Rattle.decimal.specs.declared.Decimal.{Decimal}
-use Rattle.decimal_value.specs.Value.{less, atMost}
+use Rattle.decimal_value.specs.Value.{less, atMost, equal}
 use Rattle.process_list.specs.declared.Depth.{Depth}
-use Rattle.process_list.specs.declared.Kind.the-variants.{Range}
+use Rattle.process_list.specs.declared.Kind.the-variants.{Range, OneEnd}
 use Rattle.grammar.specs.Parse.{Out, done, thenOut, retP}
 use Rattle.xml.specs.Bytes.{bytes, same, isLetter, isDigit, isNameByte}
-use Rattle.xml.specs.Xml.{textOf, Tag}
-use Rattle.xml.specs.Elements.{held}
-use Rattle.clf.specs.Numbers.{anyNumber, valueElement}
-use Rattle.clf.specs.Nodes.{rangeStyle, elementWith, nodeRules, RangeState, noValues, rangeIndex, onlyNumber, rangeHolder, rangeTexts, rangeNode, range}
+use Rattle.xml.specs.Xml.{Attribute, textOf, Tag}
+use Rattle.xml.specs.Elements.{Holder, held}
+use Rattle.clf.specs.Numbers.{anyNumber}
+use Rattle.clf.specs.Nodes.{elementWith, nodeRules, RangeState, noValues, isThere, rangeIndex, onlyNumber, inOf, outOf, onlyPair, pairEqual, oneEndFault, rangeMissing, rangeHolder, rangeTexts}
+use Rattle.clf.specs.Nodes.{styleAt, depthAt, oneEndAllowed, oneEndAllowedBy, rangeNode, range}
 use Rattle.claims.proofs.Numbers.{Each, Kept}
 use Rattle.valid.specs.Valid.{every}
 use Rattle.written_form.specs.Written.{rangeStyleText}
-use Rattle.written_form.proofs.Tail.{valueText, rangeText, depthsText}
+use Rattle.written_form.proofs.Tail.{valueText, rangeText, pairText, oneEndText, depthsText}
 use Rattle.reads_back.proofs.Texts.{isName}
 use Rattle.reads_back.proofs.Tags.{quoted}
 use Rattle.reads_back.proofs.Held.{heldFrom, held-from, held-line, held-end}
 use Rattle.reads_back.proofs.Values.{value-child}
-use Rattle.reads_back.proofs.Depths.{withDepths, lastText, node-is, NodeRules, style-last, last-tag}
-
-abbrev values : Option Decimal → Option Decimal → Option Decimal → Option Decimal → RangeState
-values a b c d = record { values = a ∷ b ∷ c ∷ d ∷ [] }
-
--- one value
-one-value : (st st′ : RangeState) (w : List ℕ) (d : Decimal) (t : List ℕ) → isName w ≡ true → Kept anyNumber d → rangeHolder .fault st w ≡ 0
-    → ((s r : List ℕ) → (valueElement w 1 anyNumber) .run s ≡ done (d ∷ []) r → (rangeHolder .body st w) .run s ≡ done st′ r)
-    → heldFrom rangeHolder st (valueText w (d ∷ []) t) ≡ heldFrom rangeHolder st′ t
-one-value st st′ w d t h k f b = value-child rangeHolder st st′ w 1 anyNumber (d ∷ []) t h (k, tt) refl f b
+use Rattle.reads_back.proofs.Depths.{withDepths, depth-said, lastText, node-is, NodeRules, style-last, last-tag}
 
 pub range-name : isName (bytes "Range") ≡ true
 unfolding isName isNameByte isLetter isDigit every
 range-name = refl
 
-module _ (a b c d : Decimal) where
-  first-value : (t : List ℕ) → Kept anyNumber a → heldFrom rangeHolder noValues (valueText (bytes "minInValue") (a ∷ []) t) ≡ heldFrom rangeHolder (values (some a) none none none) t
-  unfolding isName isNameByte isLetter isDigit every same rangeIndex
-  first-value t k = one-value noValues (values (some a) none none none) (bytes "minInValue") a t refl k refl
-      (λ s r e. ap (λ (o : Out (List Decimal)). thenOut o (λ l. retP (values (some (onlyNumber l)) none none none))) e)
+-- ---- one value
 
-  second-value : (t : List ℕ) → Kept anyNumber b
-      → heldFrom rangeHolder (values (some a) none none none) (valueText (bytes "maxInValue") (b ∷ []) t) ≡ heldFrom rangeHolder (values (some a) (some b) none none) t
-  unfolding isName isNameByte isLetter isDigit every same rangeIndex
-  second-value t k = one-value (values (some a) none none none) (values (some a) (some b) none none) (bytes "maxInValue") b t refl k refl
-      (λ s r e. ap (λ (o : Out (List Decimal)). thenOut o (λ l. retP (values (some a) (some (onlyNumber l)) none none))) e)
+-- w is the name of the value of index i
+record ValueName (w : List ℕ) (i : ℕ) : Type 0 where
+  name : isName w ≡ true
+  index : rangeIndex w ≡ i
+  known : ltb i 4 ≡ true
+  other : same w (bytes "Description") ≡ false
 
-  third-value : (t : List ℕ) → Kept anyNumber c
-      → heldFrom rangeHolder (values (some a) (some b) none none) (valueText (bytes "minOutValue") (c ∷ []) t) ≡ heldFrom rangeHolder (values (some a) (some b) (some c) none) t
-  unfolding isName isNameByte isLetter isDigit every same rangeIndex
-  third-value t k = one-value (values (some a) (some b) none none) (values (some a) (some b) (some c) none) (bytes "minOutValue") c t refl k refl
-      (λ s r e. ap (λ (o : Out (List Decimal)). thenOut o (λ l. retP (values (some a) (some b) (some (onlyNumber l)) none))) e)
+-- the names of an end's in value and out value
+abbrev inName : RangeEnd → List ℕ
+inName Minimum = bytes "minInValue"
+inName Maximum = bytes "maxInValue"
 
-  fourth-value : (t : List ℕ) → Kept anyNumber d
-      → heldFrom rangeHolder (values (some a) (some b) (some c) none) (valueText (bytes "maxOutValue") (d ∷ []) t) ≡ heldFrom rangeHolder (values (some a) (some b) (some c) (some d)) t
-  unfolding isName isNameByte isLetter isDigit every same rangeIndex
-  fourth-value t k = one-value (values (some a) (some b) (some c) none) (values (some a) (some b) (some c) (some d)) (bytes "maxOutValue") d t refl k refl
-      (λ s r e. ap (λ (o : Out (List Decimal)). thenOut o (λ l. retP (values (some a) (some b) (some c) (some (onlyNumber l))))) e)
+abbrev outName : RangeEnd → List ℕ
+outName Minimum = bytes "minOutValue"
+outName Maximum = bytes "maxOutValue"
 
-  in-order : (less a b && atMost c d) ≡ true → rangeHolder .missing (values (some a) (some b) (some c) (some d)) ≡ 0
-  in-order e = rw e
+in-name : (e : RangeEnd) → ValueName (inName e) (inOf e)
+unfolding isName isNameByte isLetter isDigit every same rangeIndex
+in-name Minimum = record { name = refl; index = refl; known = refl; other = refl }
+in-name Maximum = record { name = refl; index = refl; known = refl; other = refl }
 
-  content-reads : (t : List ℕ) → Each (Kept anyNumber) (a ∷ b ∷ c ∷ d ∷ []) → (less a b && atMost c d) ≡ true
-      → (held rangeHolder noValues) .run (10 ∷ rangeText (a ∷ b ∷ c ∷ d ∷ []) (bytes "</Range>" ++ t)) ≡ done (values (some a) (some b) (some c) (some d)) t
-  unfolding rangeText
-  content-reads t k e =
-      let z : List ℕ = bytes "</Range>" ++ t in
-      let r4 : List ℕ = valueText (bytes "maxOutValue") (d ∷ []) z in
-      let r3 : List ℕ = valueText (bytes "minOutValue") (c ∷ []) r4 in
-      let r2 : List ℕ = valueText (bytes "maxInValue") (b ∷ []) r3 in
-      held-from rangeHolder noValues (10 ∷ valueText (bytes "minInValue") (a ∷ []) r2)
-      ∙ held-line rangeHolder noValues (valueText (bytes "minInValue") (a ∷ []) r2)
-      ∙ first-value r2 (k .0)
-      ∙ second-value r3 (k .1 .0)
-      ∙ third-value r4 (k .1 .1 .0)
-      ∙ fourth-value z (k .1 .1 .1 .0)
-      ∙ held-end rangeHolder (values (some a) (some b) (some c) (some d)) t range-name (in-order e)
+out-name : (e : RangeEnd) → ValueName (outName e) (outOf e)
+unfolding isName isNameByte isLetter isDigit every same rangeIndex
+out-name Minimum = record { name = refl; index = refl; known = refl; other = refl }
+out-name Maximum = record { name = refl; index = refl; known = refl; other = refl }
+
+-- the values, and the number d as that of index i
+abbrev withValue : RangeState → ℕ → Decimal → RangeState
+withValue st i d = record { values = set (st .values) i (some d) }
+
+-- the values of a Range with four, and of one with one end
+abbrev fourValues : Decimal → Decimal → Decimal → Decimal → RangeState
+fourValues a b c d = withValue (withValue (withValue (withValue noValues 0 a) 1 b) 2 c) 3 d
+
+abbrev pairValues : RangeEnd → Decimal → Decimal → RangeState
+pairValues end a b = withValue (withValue noValues (inOf end) a) (outOf end) b
+
+module _ (allowed : Bool) where
+  abbrev holder : Holder RangeState
+  holder = rangeHolder allowed
+
+  -- a value that has not been there
+  one-value : (st : RangeState) (w : List ℕ) (i : ℕ) (d : Decimal) (t : List ℕ) → ValueName w i → isThere i st ≡ false → Kept anyNumber d
+      → heldFrom holder st (valueText w (d ∷ []) t) ≡ heldFrom holder (withValue st i d) t
+  one-value st w i d t n f k =
+      value-child holder st (withValue st i d) w 1 anyNumber (d ∷ []) t (n .name) (k, tt) refl (rw (n .other, n .index, n .known, f))
+      (λ s r e. rw (n .other, n .index) (ap (λ (o : Out (List Decimal)). thenOut o (λ l. retP (withValue st i (onlyNumber l)))) e))
+
+  -- values behind an LF, and the end tag
+  content-reads : (st : RangeState) (s t : List ℕ) → heldFrom holder noValues s ≡ heldFrom holder st (bytes "</Range>" ++ t) → rangeMissing allowed st ≡ 0
+      → (held holder noValues) .run (10 ∷ s) ≡ done st t
+  content-reads st s t walk e = held-from holder noValues (10 ∷ s) ∙ held-line holder noValues s ∙ walk ∙ held-end holder st t range-name e
+
+  -- ---- four values, whatever the start tag says
+  module _ (a b c d : Decimal) where
+    four-read : (t : List ℕ) → Each (Kept anyNumber) (a ∷ b ∷ c ∷ d ∷ []) → heldFrom holder noValues (rangeText (a ∷ b ∷ c ∷ d ∷ []) t) ≡ heldFrom holder (fourValues a b c d) t
+    unfolding rangeText
+    four-read t k =
+        let r4 : List ℕ = valueText (bytes "maxOutValue") (d ∷ []) t in
+        let r3 : List ℕ = valueText (bytes "minOutValue") (c ∷ []) r4 in
+        let r2 : List ℕ = valueText (bytes "maxInValue") (b ∷ []) r3 in
+        one-value noValues (inName Minimum) 0 a r2 (in-name Minimum) refl (k .0)
+        ∙ one-value (withValue noValues 0 a) (inName Maximum) 1 b r3 (in-name Maximum) refl (k .1 .0)
+        ∙ one-value (withValue (withValue noValues 0 a) 1 b) (outName Minimum) 2 c r4 (out-name Minimum) refl (k .1 .1 .0)
+        ∙ one-value (withValue (withValue (withValue noValues 0 a) 1 b) 2 c) (outName Maximum) 3 d t (out-name Maximum) refl (k .1 .1 .1 .0)
+
+    four-right : (less a b && atMost c d) ≡ true → rangeMissing allowed (fourValues a b c d) ≡ 0
+    unfolding rangeMissing
+    four-right e = rw e
+
+-- ---- one pair
+
+-- neither value has been there
+in-new : (end : RangeEnd) → isThere (inOf end) noValues ≡ false
+in-new Minimum = refl
+in-new Maximum = refl
+
+out-new : (end : RangeEnd) (a : Decimal) → isThere (outOf end) (withValue noValues (inOf end) a) ≡ false
+out-new Minimum a = refl
+out-new Maximum a = refl
+
+-- the text of an end is that of its pair, under its names
+pair-text : (end : RangeEnd) (ds : List Decimal) (t : List ℕ) → oneEndText end ds t ≡ pairText (inName end) (outName end) ds t
+unfolding oneEndText
+pair-text Minimum ds t = refl
+pair-text Maximum ds t = refl
+
+-- under a start tag that allows it, the pair is all that is asked for
+pair-right : (end : RangeEnd) (a b : Decimal) → equal a b ≡ true → rangeMissing true (pairValues end a b) ≡ 0
+unfolding rangeMissing onlyPair oneEndFault pairEqual
+pair-right Minimum a b e = rw e
+pair-right Maximum a b e = rw e
+
+-- and the node is one with this end
+pair-node : (l : List Attribute) (end : RangeEnd) (a b : Decimal) → rangeNode l (pairValues end a b) ≡ elementWith l (OneEnd end) (a ∷ b ∷ [])
+unfolding onlyPair
+pair-node l Minimum a b = refl
+pair-node l Maximum a b = refl
+
+-- its two values, one after the other
+pair-read : (end : RangeEnd) (a b : Decimal) (t : List ℕ) → Each (Kept anyNumber) (a ∷ b ∷ [])
+    → heldFrom (rangeHolder true) noValues (oneEndText end (a ∷ b ∷ []) t) ≡ heldFrom (rangeHolder true) (pairValues end a b) t
+unfolding pairText
+pair-read end a b t k =
+    ap (heldFrom (rangeHolder true) noValues) (pair-text end (a ∷ b ∷ []) t)
+    ∙ one-value true noValues (inName end) (inOf end) a (valueText (outName end) (b ∷ []) t) (in-name end) (in-new end) (k .0)
+    ∙ one-value true (withValue noValues (inOf end) a) (outName end) (outOf end) b t (out-name end) (out-new end a) (k .1 .0)
+
+-- ---- the start tag
 
 abbrev range-rules : NodeRules (nodeRules (λ w. 0) rangeTexts)
 range-rules = record { rest = rangeTexts; texts = refl; opened = refl; in-free = refl; out-free = refl }
@@ -90,6 +155,9 @@ range-rules = record { rest = rangeTexts; texts = refl; opened = refl; in-free =
 abbrev clampText : RangeStyle → List ℕ
 clampText Clamp = bytes "Clamp"
 clampText NoClamp = bytes "noClamp"
+
+abbrev styled : RangeStyle → List Attribute
+styled style = record { name = bytes "style"; text = clampText style } ∷ []
 
 style-text : (style : RangeStyle) (t : List ℕ) → rangeStyleText style ++ t ≡ lastText (bytes "style") (clampText style) t
 style-text Clamp t = refl
@@ -106,22 +174,58 @@ style-right Clamp = refl
 style-right NoClamp = refl
 
 module _ (i o : Depth) where
-  kind-said : (style : RangeStyle) → rangeStyle (textOf (bytes "style") (withDepths i o (record { name = bytes "style"; text = clampText style } ∷ []))) ≡ style
+  -- the attributes of a written Range
+  abbrev written : RangeStyle → List Attribute
+  written style = withDepths i o (styled style)
+
+  kind-said : (style : RangeStyle) → styleAt (written style) ≡ style
   unfolding textOf same
   kind-said Clamp = refl
   kind-said NoClamp = refl
 
-  module _ (a b c d : Decimal) where
-    pub range-reads : (style : RangeStyle) (t : List ℕ) → Each (Kept anyNumber) (a ∷ b ∷ c ∷ d ∷ []) → (less a b && atMost c d) ≡ true
-        → range .run (depthsText i o (rangeStyleText style ++ (bytes ">\n" ++ rangeText (a ∷ b ∷ c ∷ d ∷ []) (bytes "</Range>" ++ t))))
-        ≡ done (record { kind = Range style; input = i; output = o; numbers = a ∷ b ∷ c ∷ d ∷ [] }) t
-    unfolding range
-    range-reads style t k e =
-        let r : List ℕ = 10 ∷ rangeText (a ∷ b ∷ c ∷ d ∷ []) (bytes "</Range>" ++ t) in
-        let l = withDepths i o (record { name = bytes "style"; text = clampText style } ∷ []) in
-        ap (λ (s : List ℕ). range .run (depthsText i o s)) (style-text style (62 ∷ r))
-        ∙ ap (λ (x : Out Tag). thenOut x (λ tag u. thenOut ((held rangeHolder noValues) .run u) (λ st. retP (rangeNode (tag .attributes) st))))
-        (last-tag (nodeRules (λ w. 0) rangeTexts) range-rules i o (bytes "style") (style-last (nodeRules (λ w. 0) rangeTexts) refl) (clampText style) r (style-quoted style) (style-right style))
-        ∙ ap (λ (x : Out RangeState). thenOut x (λ st. retP (rangeNode l st))) (content-reads a b c d t k e)
-        ∙ ap (λ (v : RangeStyle). done (elementWith l (Range v) (a ∷ b ∷ c ∷ d ∷ [])) t) (kind-said style)
-        ∙ ap (λ (x : Element). done x t) (node-is i o (record { name = bytes "style"; text = clampText style } ∷ []) (Range style) (a ∷ b ∷ c ∷ d ∷ []))
+  in-said : (style : RangeStyle) → depthAt (bytes "inBitDepth") (written style) ≡ i
+  unfolding textOf same
+  in-said style = rw (depth-said i)
+
+  out-said : (style : RangeStyle) → depthAt (bytes "outBitDepth") (written style) ≡ o
+  unfolding textOf same
+  out-said style = rw (depth-said o)
+
+  -- W-202: equal depths and style Clamp allow one pair alone
+  clamp-allowed : sameDepth i o ≡ true → oneEndAllowedBy (written Clamp) ≡ true
+  unfolding oneEndAllowedBy oneEndAllowed
+  clamp-allowed h = rw (kind-said Clamp, in-said Clamp, out-said Clamp, h)
+
+  -- the start tag, in front of a content that is read
+  tagged : (style : RangeStyle) (s : List ℕ) (st : RangeState) (t : List ℕ) → (held (rangeHolder (oneEndAllowedBy (written style))) noValues) .run (10 ∷ s) ≡ done st t
+      → range .run (depthsText i o (rangeStyleText style ++ (bytes ">\n" ++ s))) ≡ done (rangeNode (written style) st) t
+  unfolding range
+  tagged style s st t e =
+      ap (λ (u : List ℕ). range .run (depthsText i o u)) (style-text style (62 ∷ 10 ∷ s))
+      ∙ ap (λ (x : Out Tag). thenOut x (λ tag u. thenOut ((held (rangeHolder (oneEndAllowedBy (tag .attributes))) noValues) .run u) (λ st. retP (rangeNode (tag .attributes) st))))
+      (last-tag (nodeRules (λ w. 0) rangeTexts) range-rules i o (bytes "style") (style-last (nodeRules (λ w. 0) rangeTexts) refl) (clampText style) (10 ∷ s) (style-quoted style) (style-right style))
+      ∙ ap (λ (x : Out RangeState). thenOut x (λ st. retP (rangeNode (written style) st))) e
+
+  -- A RANGE WITH FOUR VALUES
+  pub range-reads : (a b c d : Decimal) (style : RangeStyle) (t : List ℕ) → Each (Kept anyNumber) (a ∷ b ∷ c ∷ d ∷ []) → (less a b && atMost c d) ≡ true
+      → range .run (depthsText i o (rangeStyleText style ++ (bytes ">\n" ++ rangeText (a ∷ b ∷ c ∷ d ∷ []) (bytes "</Range>" ++ t))))
+      ≡ done (record { kind = Range style; input = i; output = o; numbers = a ∷ b ∷ c ∷ d ∷ [] }) t
+  range-reads a b c d style t k e =
+      let z : List ℕ = bytes "</Range>" ++ t in
+      let l = written style in
+      let v = oneEndAllowedBy l in
+      tagged style (rangeText (a ∷ b ∷ c ∷ d ∷ []) z) (fourValues a b c d) t (content-reads v (fourValues a b c d) (rangeText (a ∷ b ∷ c ∷ d ∷ []) z) t (four-read v a b c d z k) (four-right v a b c d e))
+      ∙ ap (λ (u : RangeStyle). done (elementWith l (Range u) (a ∷ b ∷ c ∷ d ∷ [])) t) (kind-said style)
+      ∙ ap (λ (x : Element). done x t) (node-is i o (styled style) (Range style) (a ∷ b ∷ c ∷ d ∷ []))
+
+  -- A RANGE WITH ONE END
+  pub one-end-reads : (end : RangeEnd) (a b : Decimal) (t : List ℕ) → Each (Kept anyNumber) (a ∷ b ∷ []) → equal a b ≡ true → sameDepth i o ≡ true
+      → range .run (depthsText i o (rangeStyleText Clamp ++ (bytes ">\n" ++ oneEndText end (a ∷ b ∷ []) (bytes "</Range>" ++ t))))
+      ≡ done (record { kind = OneEnd end; input = i; output = o; numbers = a ∷ b ∷ [] }) t
+  one-end-reads end a b t k e h =
+      let z : List ℕ = bytes "</Range>" ++ t in
+      let s : List ℕ = oneEndText end (a ∷ b ∷ []) z in
+      let l = written Clamp in
+      tagged Clamp s (pairValues end a b) t
+      (ap (λ (v : Bool). (held (rangeHolder v) noValues) .run (10 ∷ s)) (clamp-allowed h) ∙ content-reads true (pairValues end a b) s t (pair-read end a b z k) (pair-right end a b e))
+      ∙ ap (λ (x : Element). done x t) (pair-node l end a b ∙ node-is i o (styled Clamp) (OneEnd end) (a ∷ b ∷ []))

@@ -8,8 +8,8 @@ use lib.ListN.{length}
 use Rattle.decimal.specs.declared.Decimal.{Decimal}
 use Rattle.decimal.specs.Decimal.{inRange}
 use Rattle.decimal_write.specs.Written.{isNormal}
-use Rattle.decimal_value.specs.Value.{less, atMost, notNegative, isOne}
-use Rattle.valid.specs.Valid.{every, carried, rangeHolds, slopesHold, powersHold, cdlHolds, sound}
+use Rattle.decimal_value.specs.Value.{less, atMost, equal, notNegative, isOne}
+use Rattle.valid.specs.Valid.{every, carried, rangeHolds, oneEndHolds, slopesHold, powersHold, cdlHolds, sound}
 use Rattle.valid.proofs.Elements.{both-true}
 use Rattle.valid.proofs.Readings.{every-cons}
 use Rattle.clf.specs.Numbers.{anyNumber, notBelowZero, mustBeOne}
@@ -55,6 +55,23 @@ four (a ∷ b ∷ c ∷ d ∷ e ∷ l) h = absurd (omega arith)
 pub range-order : (a b c d : Decimal) → rangeHolds (a ∷ b ∷ c ∷ d ∷ []) ≡ true → (less a b && atMost c d) ≡ true
 unfolding rangeHolds
 range-order a b c d h = h
+
+-- with one end
+
+pub record Two (ds : List Decimal) : Type 0 where
+  pub a : Decimal
+  pub b : Decimal
+  pub is : ds ≡ a ∷ b ∷ []
+
+pub two : (ds : List Decimal) → length ds ≡ 2 → Two ds
+two [] h = absurd (omega arith)
+two (a ∷ []) h = absurd (omega arith)
+two (a ∷ b ∷ []) h = record { a = a; b = b; is = refl }
+two (a ∷ b ∷ c ∷ l) h = absurd (omega arith)
+
+pub pair-equal : (a b : Decimal) → oneEndHolds (a ∷ b ∷ []) ≡ true → equal a b ≡ true
+unfolding oneEndHolds
+pair-equal a b h = h
 
 -- ---- ASC_CDL
 

@@ -25,7 +25,7 @@ wrongElement = 5
 abbrev pub wrongVersion : ℕ
 wrongVersion = 6
 
--- 'known to CLF, not carried; a Power above 0 that is not 1'
+-- 'known to CLF, not carried; a Power above 0 that is not 1'; 02, W-202: 'unequal depths or noClamp with one pair'
 abbrev pub notCarried : ℕ
 notCarried = 7
 

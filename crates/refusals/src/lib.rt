@@ -18,7 +18,7 @@ pub const WRONG_ELEMENT: u8 = 5;
 // compCLFversion there, but not "3.0"
 pub const WRONG_VERSION: u8 = 6;
 
-// known to CLF, not carried; a Power above 0 that is not 1
+// known to CLF, not carried; a Power above 0 that is not 1; a Range with one end at unequal depths or with noClamp
 pub const NOT_CARRIED: u8 = 7;
 
 // attribute missing or of a wrong text, `dim` included

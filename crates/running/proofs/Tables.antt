@@ -6,7 +6,7 @@ use Prim.Native.Nat.{ℕ, _+_, _*_, _≤_}
 use borrow.Author.Tests.{le-leb}
 use lib.Dec.{eqb, leb}
 use Rattle.process_list.specs.declared.Kind.{Kind}
-use Rattle.process_list.specs.declared.Kind.the-variants.{Matrix, Lut1d, Range, Cdl, Lut3d}
+use Rattle.process_list.specs.declared.Kind.the-variants.{Matrix, Lut1d, Range, Cdl, Lut3d, OneEnd}
 use Rattle.process_list.specs.declared.Node.{Node}
 use Rattle.process_list.specs.declared.ProcessList.{ProcessList}
 use Rattle.process_list.specs.List.{mostEntries, mostPoints, numbersOf, nodesOf}
@@ -30,6 +30,7 @@ stands room at (Lut3d n i) s h =
     rw (q .0, q .1, le-leb (at + n * n * n * 3) room h)
 stands room at (Range style) s h = refl
 stands room at (Cdl style) s h = refl
+stands room at (OneEnd end) s h = refl
 
 all-stand : (m : Room) (ns : List Node) → every sound (map (elementOf m) ns) ≡ true → tablesStand m ns ≡ true
 unfolding tablesStand every

@@ -1,26 +1,28 @@
 -- Running pixels through a list (document 01, 'What a pixel goes through', and 'Running: 16, 14, 15 (lowest index)'). Definitions only.
 use mathlib.Core.Bool.{Bool, true, not, cond}
-use mathlib.Core.List.{List, [], _∷_}
+use mathlib.Core.Path.{_≡_}
+use mathlib.Core.List.{List, [], _∷_, _++_}
 use Prim.Native.Nat.{ℕ, _%_}
 use lib.Dec.{eqb, ltb}
 use lib.ListN.{length}
 use lib.Ieee.{Float}
+use Rattle.process_list.specs.declared.RangeEnd.{RangeEnd}
 use Rattle.process_list.specs.declared.Kind.{Kind}
-use Rattle.process_list.specs.declared.Kind.the-variants.{Matrix, Lut1d, Range, Cdl, Lut3d}
+use Rattle.process_list.specs.declared.Kind.the-variants.{Matrix, Lut1d, Range, Cdl, Lut3d, OneEnd}
 use Rattle.process_list.specs.declared.Node.{Node}
 use Rattle.process_list.specs.declared.ProcessList.{ProcessList}
 use Rattle.process_list.specs.List.{nodesOf, scaleOf, rangeClamps, cdlClamps}
 use Rattle.valid.specs.Valid.{every, isValid}
 use Rattle.pixel.specs.F64 as F64
-use Rattle.pixel_room.specs.Room.{rowsAt}
+use Rattle.pixel_room.specs.Room.{numberAt, rowsAt}
 use Rattle.pixel_lut.specs.Table.{tableIn}
 use Rattle.pixel_cube.specs.Table.{cubeIn}
 use Rattle.pixel_run.specs.declared.Prepared.{Prepared}
 use Rattle.pixel_run.specs.declared.Prepared.the-variants as prepared
-use Rattle.pixel_run.specs.Prepare.{rangeFrom, cdlFrom}
+use Rattle.pixel_run.specs.Prepare.{rangeFrom, cdlFrom, oneEndFrom}
 use Rattle.room.specs.Room.{Room, roomLength}
 use Rattle.pixel_run.specs.Step.{stepPixel}
-use Rattle.pixel_run.specs.Each.{eachPixel}
+use Rattle.pixel_run.specs.Each.{eachPixel, EachInside}
 use Rattle.pixel_run.specs.Finite.{firstNotFinite}
 use Rattle.running.specs.declared.Ran.{Ran}
 use Rattle.refusals.specs.Refusals as Refusal
@@ -28,13 +30,14 @@ use Rattle.refusals.specs.Refusals as Refusal
 -- ---- one node
 
 -- 'A prepared node is one of four kinds: Range with four and CDL with ten numbers, each carrying its own f64 parameters; Matrix and LUT1D with where their numbers stand.'
--- 02: 'a new kind or shape of node may be a prepared kind of its own'; LUT3D is one, with where its numbers stand. The numbers stand in the room from `at` on
+-- 02: 'a new kind or shape of node may be a prepared kind of its own'; LUT3D is one, with where its numbers stand, and a Range with one end, with its limit. The numbers stand in the room from `at` on
 unfoldable pub preparedAs : Room → ℕ → Kind → Prepared
 preparedAs m at (Matrix wide) = prepared.Matrix at wide
 preparedAs m at (Lut1d entries columns) = prepared.Lut1d at entries columns
 preparedAs m at (Lut3d points interpolation) = prepared.Lut3d at points interpolation
 preparedAs m at (Range style) = rangeFrom m at (rangeClamps style)
 preparedAs m at (Cdl style) = cdlFrom m at (cdlClamps style)
+preparedAs m at (OneEnd end) = oneEndFrom m at end
 
 unfoldable pub preparedOf : Room → Node → Prepared
 preparedOf m n = preparedAs m (n .at) (n .kind)
@@ -52,6 +55,7 @@ rowsAs m (prepared.Lut1d at entries columns) = noRows
 rowsAs m (prepared.Lut3d at points interpolation) = noRows
 rowsAs m (prepared.Range minIn maxIn minOut maxOut clamp) = noRows
 rowsAs m (prepared.Cdl slopeR slopeG slopeB offsetR offsetG offsetB powerR powerG powerB sat clamp) = noRows
+rowsAs m (prepared.OneEnd end limit) = noRows
 
 unfoldable pub rowsOf : Room → Node → List (List Float)
 rowsOf m n = rowsAs m (preparedOf m n)
@@ -70,6 +74,7 @@ tableStands room at (Lut1d entries columns) = tableIn room at entries columns
 tableStands room at (Lut3d points interpolation) = cubeIn room at points
 tableStands room at (Range style) = true
 tableStands room at (Cdl style) = true
+tableStands room at (OneEnd end) = true
 
 -- that of every node: then no node leaves a pixel as it is for want of its table
 unfoldable pub tablesStand : Room → List Node → Bool
@@ -79,6 +84,10 @@ tablesStand m ns = every (λ (n : Node). tableStands (roomLength m) (n .at) (n .
 unfoldable pub runNodes : Room → List Node → List Float → List Float
 runNodes m [] xs = xs
 runNodes m (n ∷ ns) xs = runNodes m ns (runNode m n xs)
+
+-- what comes out of a list whose last node is a Range with one end (02, W-202): no component beyond its limit, and none a NaN, whatever went in and whatever overflowed before
+unfoldable pub LastEndHolds : Room → List Node → List Float → Type 0
+LastEndHolds m ns ys = (before : List Node) (n : Node) (end : RangeEnd) → ns ≡ before ++ (n ∷ []) → n .kind ≡ OneEnd end → EachInside end (numberAt m (n .at)) ys
 
 -- ---- the answer of a call
 

@@ -40,6 +40,7 @@ fn prepared(kind: Kind, at: usize, coefficients: &[i64], powers: &[i8]) -> Prepa
             points,
             interpolation,
         },
+        Kind::OneEnd { end } => pixel_run::prepare_one_end(coefficients, powers, at, end),
     }
 }
 
@@ -94,11 +95,12 @@ fn run_all(list: ProcessList, coefficients: &[i64], powers: &[i8], pixels: &mut 
 }
 
 // Runs the pixels of the slice, three components a pixel, through the list; refused, nothing changes. Where it is accepted, the table of every LUT1D and LUT3D
-// stands in the room.
+// stands in the room; and where the last node is a Range with one end, nothing that comes out is beyond its limit, or a NaN.
 pub fn run(list: ProcessList, coefficients: &[i64], powers: &[i8], pixels: &mut [f64]) -> Ran
     ensures { λ r. ⌜ r ≡ Spec.ranOf list (lent (now (coefficients .entry)) (now (powers .entry))) (now (pixels .entry)) ⌝ }
     ensures { λ r. ⌜ now (pixels .exit) ≡ Spec.pixelsOf list (lent (now (coefficients .entry)) (now (powers .entry))) (now (pixels .entry)) ⌝ }
     ensures { λ r. ⌜ (r .number ≡ 0 → Spec.tablesStand (lent (now (coefficients .entry)) (now (powers .entry))) (List.nodesOf list) ≡ true) ⌝ }
+    ensures { λ r. ⌜ (r .number ≡ 0 → Spec.LastEndHolds (lent (now (coefficients .entry)) (now (powers .entry))) (List.nodesOf list) (now (pixels .exit))) ⌝ }
 {
     if !valid::valid(list, coefficients, powers) {
         return Ran {

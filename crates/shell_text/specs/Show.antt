@@ -6,10 +6,12 @@ use Prim.Native.Nat.{ℕ}
 use lib.IntN.{ℤ}
 use Rattle.decimal_write.specs.Written.{digits, wholeText}
 use Rattle.process_list.specs.declared.Depth.{Depth}
+use Rattle.process_list.specs.declared.RangeEnd.{RangeEnd}
+use Rattle.process_list.specs.declared.RangeEnd.the-variants.{Minimum, Maximum}
 use Rattle.process_list.specs.declared.Interpolation.{Interpolation}
 use Rattle.process_list.specs.declared.Interpolation.the-variants.{Trilinear, Tetrahedral}
 use Rattle.process_list.specs.declared.Kind.{Kind}
-use Rattle.process_list.specs.declared.Kind.the-variants.{Matrix, Lut1d, Range, Cdl, Lut3d}
+use Rattle.process_list.specs.declared.Kind.the-variants.{Matrix, Lut1d, Range, Cdl, Lut3d, OneEnd}
 use Rattle.process_list.specs.declared.Node.{Node}
 use Rattle.process_list.specs.List.{rangeClamps, cdlClamps}
 use Rattle.xml.specs.Bytes.{bytes}
@@ -39,13 +41,19 @@ methodText Tetrahedral = bytes "tetrahedral,"
 unfoldable pub cubeText : ℕ → List ℕ → List ℕ
 cubeText n t = digits n ++ (bytes "x" ++ (digits n ++ (bytes "x" ++ (digits n ++ (bytes "x3" ++ t)))))
 
--- `STYLE,SHAPE`: 'shape `3x3`, `3x4`, `65x3`, `17x17x17x3`, and `-` for Range and ASC_CDL'
+-- `STYLE,SHAPE` of a Range with one end
+abbrev pub oneEndText : RangeEnd → List ℕ
+oneEndText Minimum = bytes "Clamp,min"
+oneEndText Maximum = bytes "Clamp,max"
+
+-- `STYLE,SHAPE`: 'shape `3x3`, `3x4`, `65x3`, `17x17x17x3`, `min` or `max` for a Range with one pair, and `-` for one with four values and for ASC_CDL'
 unfoldable pub formText : Kind → List ℕ → List ℕ
 formText (Matrix wide) t = oneOfTwo wide (bytes "-,3x4") (bytes "-,3x3") ++ t
 formText (Lut1d entries columns) t = tableText entries columns t
 formText (Range style) t = oneOfTwo (rangeClamps style) (bytes "Clamp,-") (bytes "noClamp,-") ++ t
 formText (Cdl style) t = oneOfTwo (cdlClamps style) (bytes "Fwd,-") (bytes "FwdNoClamp,-") ++ t
 formText (Lut3d points interpolation) t = methodText interpolation ++ cubeText points t
+formText (OneEnd end) t = oneEndText end ++ t
 
 -- `AT,NEWEST`: 'AT the index of its first number', 'NEWEST the number of the newest numbered replacement accepted there'
 unfoldable pub placeText : ℕ → ℕ → List ℕ → List ℕ

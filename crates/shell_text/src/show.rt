@@ -8,6 +8,7 @@ use process_list::Depth;
 use process_list::Interpolation;
 use process_list::Kind;
 use process_list::Node;
+use process_list::RangeEnd;
 use text_out::put;
 use text_out::put_digits;
 use text_out::put_whole;
@@ -74,6 +75,16 @@ fn put_cube(out: &mut [u8], at: usize, points: usize) -> usize
     put(out, e, b"x3")
 }
 
+// Style and shape of a Range with one end.
+fn put_one_end(out: &mut [u8], at: usize, end: RangeEnd) -> usize
+    ensures { λ r. ⌜ Puts (λ t. Show.oneEndText end ++ t) at (now (out .entry)) (now (out .exit)) r ⌝ }
+{
+    match end {
+        RangeEnd::Minimum => put(out, at, b"Clamp,min"),
+        RangeEnd::Maximum => put(out, at, b"Clamp,max"),
+    }
+}
+
 // Style and shape.
 fn put_form(out: &mut [u8], at: usize, kind: Kind) -> usize
     ensures { λ r. ⌜ Puts (Show.formText kind) at (now (out .entry)) (now (out .exit)) r ⌝ }
@@ -106,6 +117,7 @@ fn put_form(out: &mut [u8], at: usize, kind: Kind) -> usize
             let held = put_method(out, at, interpolation);
             put_cube(out, held, points)
         }
+        Kind::OneEnd { end } => put_one_end(out, at, end),
     }
 }
 

@@ -12,7 +12,7 @@ use lib.ListN.{length, take, drop, replicate, length-append, length-take, length
 use lib.Seq.{take-at, drop-at, take-add, drop-drop, take-take}
 use Rattle.decimal.specs.declared.Decimal.{Decimal}
 use Rattle.process_list.specs.declared.Kind.{Kind}
-use Rattle.process_list.specs.declared.Kind.the-variants.{Matrix, Lut1d, Range, Cdl, Lut3d}
+use Rattle.process_list.specs.declared.Kind.the-variants.{Matrix, Lut1d, Range, Cdl, Lut3d, OneEnd}
 use Rattle.process_list.specs.declared.Depth.{Depth}
 use Rattle.process_list.specs.declared.Depth.the-variants.{I8}
 use Rattle.process_list.specs.declared.Node.{Node}
@@ -27,7 +27,7 @@ use Rattle.process_list.proofs.Lists.{same-depth, list-nodes, list-count, list-
 use Rattle.room.specs.Room.{Room, roomLength, filled, filledWith, coefficientParts, powerParts}
 use Rattle.room.proofs.Contents.{filled-run}
 use Rattle.room.proofs.Rooms.{same-room, length-at-most, filled-room}
-use Rattle.valid.specs.Valid.{every, pairs, numbersAt, elementOf, elementsOf, sound, shapeRight, carried, rulesHold, gapless, isBlank, isBlankList, isSmallMatrix, isZero, listRight}
+use Rattle.valid.specs.Valid.{every, pairs, numbersAt, elementOf, elementsOf, sound, shapeRight, depthsRight, carried, rulesHold, gapless, isBlank, isBlankList, isSmallMatrix, isZero, listRight}
 use Rattle.valid.specs.Valid.{restZero, zeroFrom, isValid}
 use Rattle.valid.proofs.Laws.{numbers-length}
 use Rattle.valid.proofs.Elements.{both-true, Right, right-few, right-holds, Holds, valid-parts, valid-made}
@@ -53,7 +53,9 @@ sound-whole-numbers e h =
     let a = shapeRight (e .kind) in
     let b = eqb (length (e .numbers)) (numbersOf (e .kind)) in
     let c = every carried (e .numbers) in
-    let p = both-true (a && b && c) (rulesHold (e .kind) (e .numbers)) h in
+    let d = rulesHold (e .kind) (e .numbers) in
+    let o = both-true (a && b && c && d) (depthsRight (e .kind) (e .input) (e .output)) h in
+    let p = both-true (a && b && c) d (o .0) in
     let q = both-true (a && b) c (p .0) in
     eqb-true (length (e .numbers)) (numbersOf (e .kind)) (both-true a b (q .0) .1)
 
@@ -247,6 +249,7 @@ small-is (Lut1d n c) h = absurd (let z : _≡_ {A = ℕ} 0 1 = cc in omega arith
 small-is (Range c) h = absurd (let z : _≡_ {A = ℕ} 0 1 = cc in omega arith)
 small-is (Cdl c) h = absurd (let z : _≡_ {A = ℕ} 0 1 = cc in omega arith)
 small-is (Lut3d n c) h = absurd (let z : _≡_ {A = ℕ} 0 1 = cc in omega arith)
+small-is (OneEnd e) h = absurd (let z : _≡_ {A = ℕ} 0 1 = cc in omega arith)
 
 node-is : (n : Node) → fileNode n ≡ node (n .kind) (n .input) (n .output) (n .at)
 unfolding node

@@ -60,6 +60,7 @@ fn is_small_matrix(kind: Kind) -> bool
             points: _,
             interpolation: _,
         } => false,
+        Kind::OneEnd { end: _ } => false,
     }
 }
 
@@ -140,6 +141,27 @@ fn shape_right(kind: Kind) -> bool
             points,
             interpolation: _,
         } => cube_right(points),
+        Kind::OneEnd { end: _ } => true,
+    }
+}
+
+// Whether a node of this kind may have these depths: a Range with one end has equal ones.
+fn depths_right(kind: Kind, input: Depth, output: Depth) -> bool
+    ensures { λ r. ⌜ r ≡ Spec.depthsRight kind input output ⌝ }
+{
+    match kind {
+        Kind::Matrix { wide: _ } => true,
+        Kind::Lut1d {
+            entries: _,
+            columns: _,
+        } => true,
+        Kind::Range { style: _ } => true,
+        Kind::Cdl { style: _ } => true,
+        Kind::Lut3d {
+            points: _,
+            interpolation: _,
+        } => true,
+        Kind::OneEnd { end: _ } => process_list::same_depth(input, output),
     }
 }
 
@@ -205,7 +227,7 @@ fn all_carried(coefficients: &[i64], powers: &[i8], at: usize, count: usize) -> 
     true
 }
 
-// Whether the rules on a Range's numbers hold.
+// Whether the rules on the numbers of a Range with four values hold.
 fn range_holds(coefficients: &[i64], powers: &[i8], at: usize) -> bool
     requires { ⌜ at + 4 ≤ Room.roomLength (Room.lent (now coefficients) (now powers)) ⌝ }
     ensures { λ r. ⌜ r ≡ Spec.rangeHolds (Spec.numbersAt (Room.lent (now (coefficients .entry)) (now (powers .entry))) at 4) ⌝ }
@@ -218,6 +240,16 @@ fn range_holds(coefficients: &[i64], powers: &[i8], at: usize) -> bool
         decimal_value::less(min_in, max_in),
         decimal_value::at_most(min_out, max_out),
     )
+}
+
+// Whether in and out value of a Range with one end are equal.
+fn one_end_holds(coefficients: &[i64], powers: &[i8], at: usize) -> bool
+    requires { ⌜ at + 2 ≤ Room.roomLength (Room.lent (now coefficients) (now powers)) ⌝ }
+    ensures { λ r. ⌜ r ≡ Spec.oneEndHolds (Spec.numbersAt (Room.lent (now (coefficients .entry)) (now (powers .entry))) at 2) ⌝ }
+{
+    let value_in = number_at(coefficients, powers, at);
+    let value_out = number_at(coefficients, powers, at + 1);
+    decimal_value::equal(value_in, value_out)
 }
 
 // Whether the three slopes of an ASC_CDL are 0 or more.
@@ -270,6 +302,7 @@ fn rules_hold(coefficients: &[i64], powers: &[i8], kind: Kind, at: usize) -> boo
             points: _,
             interpolation: _,
         } => true,
+        Kind::OneEnd { end: _ } => one_end_holds(coefficients, powers, at),
     }
 }
 
@@ -293,7 +326,12 @@ pub fn sound(node: Node, coefficients: &[i64], powers: &[i8]) -> bool
     if !all_carried(coefficients, powers, at, count) {
         return false;
     }
-    rules_hold(coefficients, powers, kind, at)
+    if !rules_hold(coefficients, powers, kind, at) {
+        return false;
+    }
+    let input = node.input;
+    let output = node.output;
+    depths_right(kind, input, output)
 }
 
 // Whether the elements of all nodes are without fault.

@@ -15,7 +15,7 @@ use Rattle.valid.specs.Valid.{pairs, decimalAt, numbersAt}
 use Rattle.text_out.specs.Output.{Goes}
 use Rattle.text_out.proofs.Laws.{goes-start}
 use Rattle.xml.specs.Bytes.{bytes}
-use Rattle.written_form.proofs.Tail.{spacedText, rowText, rowsText, valueText, rangeText, sopText, satText}
+use Rattle.written_form.proofs.Tail.{spacedText, rowText, rowsText, valueText, rangeText, pairText, sopText, satText}
 
 -- ---- runs of numbers
 
@@ -138,6 +138,11 @@ module _ (m : Room) where
       (valueText (bytes "minOutValue") (numbersAt m (from + 2) 1) (valueText (bytes "maxOutValue") (numbersAt m (from + 3) 1) t)))
   unfolding rangeText
   range-as from t = rw (first from 4 1 (omega arith), some-at from 4 1 1 (omega arith), some-at from 4 2 1 (omega arith), some-at from 4 3 1 (omega arith))
+
+  pub pair-as : (inName outName : List ℕ) (from : ℕ) (t : List ℕ)
+      → pairText inName outName (numbersAt m from 2) t ≡ valueText inName (numbersAt m from 1) (valueText outName (numbersAt m (from + 1) 1) t)
+  unfolding pairText
+  pair-as inName outName from t = rw (first from 2 1 (omega arith), some-at from 2 1 1 (omega arith))
 
   pub sop-as : (from : ℕ) (t : List ℕ)
       → sopText (numbersAt m from 10) t

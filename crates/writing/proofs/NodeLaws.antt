@@ -1,5 +1,6 @@
 -- Laws of nodes: what stands between a node's tags, by its kind; a valid list's nodes, one after the other. Assumes nothing.
 use Rattle.process_list.specs.declared.RangeStyle.{RangeStyle}
+use Rattle.process_list.specs.declared.RangeEnd.{RangeEnd}
 use Rattle.process_list.specs.declared.CdlStyle.{CdlStyle}
 use Rattle.process_list.specs.declared.Interpolation.{Interpolation}
 use mathlib.Core.Path.{_≡_, refl, sym, ap, _∙_}
@@ -11,7 +12,7 @@ use native.Mathlib.Numerals.{add-one}
 use lib.ListN.{length, drop, getD, drop-of-length-le}
 use lib.Seq.{drop-cons}
 use Rattle.process_list.specs.declared.Kind.{Kind}
-use Rattle.process_list.specs.declared.Kind.the-variants.{Matrix, Lut1d, Range, Cdl, Lut3d}
+use Rattle.process_list.specs.declared.Kind.the-variants.{Matrix, Lut1d, Range, Cdl, Lut3d, OneEnd}
 use Rattle.process_list.specs.declared.Node.{Node}
 use Rattle.process_list.specs.declared.ProcessList.{ProcessList}
 use Rattle.process_list.specs.List.{cubeNumbers, numbersOf, nodesOf, nodeAt, blankNode}
@@ -19,7 +20,7 @@ use Rattle.room.specs.Room.{Room, roomLength}
 use Rattle.valid.specs.Valid.{every, sound, isValid, numbersAt, elementOf, elementsOf}
 use Rattle.valid.proofs.Laws.{elements-at, elements-length}
 use Rattle.valid.proofs.Elements.{both-true, sound-inside}
-use Rattle.written_form.proofs.Tail.{tableText, cubeText, rangeText, sopText, satText, contentText, nodeText, nodesText}
+use Rattle.written_form.proofs.Tail.{tableText, cubeText, rangeText, oneEndText, sopText, satText, contentText, nodeText, nodesText}
 use Rattle.written_form.proofs.Short.{valid-sound}
 
 -- ---- a node of each kind, and where its numbers stand
@@ -75,6 +76,15 @@ module _ (kind : Kind) (points : ℕ) (interpolation : Interpolation) (e : kind 
   pub cube-text : (m : Room) (from : ℕ) (t : List ℕ) → contentText kind (numbersAt m from (numbersOf kind)) t ≡ cubeText points (numbersAt m from (cubeNumbers points)) t
   unfolding numbersOf contentText
   cube-text m from t = rw e
+
+module _ (kind : Kind) (end : RangeEnd) (e : kind ≡ OneEnd end) where
+  pub one-end-asks : (from n : ℕ) → from + numbersOf kind ≤ n → from + 2 ≤ n
+  unfolding numbersOf
+  one-end-asks from n h = rw e at h
+
+  pub one-end-text : (m : Room) (from : ℕ) (t : List ℕ) → contentText kind (numbersAt m from (numbersOf kind)) t ≡ oneEndText end (numbersAt m from 2) t
+  unfolding numbersOf contentText
+  one-end-text m from t = rw e
 
 -- ---- the nodes of a valid list
 every-at : {A : Type 0} (p : A → Bool) (xs : List A) (k : ℕ) (d : A) → every p xs ≡ true → k < length xs → p (getD xs k d) ≡ true

@@ -15,6 +15,7 @@ use crate::numbers::put_value;
 use process_list::Kind;
 use process_list::Node;
 use process_list::ProcessList;
+use process_list::RangeEnd;
 use text_out::put;
 
 fn put_range(out: &mut [u8], at: usize, coefficients: &[i64], powers: &[i8], from: usize) -> usize
@@ -25,6 +26,61 @@ fn put_range(out: &mut [u8], at: usize, coefficients: &[i64], powers: &[i8], fro
     let b = put_value(out, a, b"maxInValue", coefficients, powers, from + 1, 1);
     let c = put_value(out, b, b"minOutValue", coefficients, powers, from + 2, 1);
     put_value(out, c, b"maxOutValue", coefficients, powers, from + 3, 1)
+}
+
+// The in value of one end, which has the name `input`, and its out value, which has the name `output`.
+fn put_pair(
+    out: &mut [u8],
+    at: usize,
+    input: &[u8],
+    output: &[u8],
+    coefficients: &[i64],
+    powers: &[i8],
+    from: usize,
+) -> usize
+    requires { ⌜ from + 2 ≤ roomLength (lent (now coefficients) (now powers)) ⌝ }
+    ensures { λ r. ⌜ Puts (Tail.pairText (now (input .entry)) (now (output .entry)) (numbersAt (lent (now (coefficients .entry)) (now (powers .entry))) from 2)) at (now (out .entry)) (now (out .exit)) r ⌝ }
+{
+    let a = put_value(out, at, input, coefficients, powers, from, 1);
+    put_value(out, a, output, coefficients, powers, from + 1, 1)
+}
+
+// A Range with one end: only its pair is written (document 02, W-202).
+fn put_one_end(
+    out: &mut [u8],
+    at: usize,
+    end: RangeEnd,
+    coefficients: &[i64],
+    powers: &[i8],
+    from: usize,
+) -> usize
+    requires { ⌜ from + 2 ≤ roomLength (lent (now coefficients) (now powers)) ⌝ }
+    ensures { λ r. ⌜ Puts (Tail.oneEndText end (numbersAt (lent (now (coefficients .entry)) (now (powers .entry))) from 2)) at (now (out .entry)) (now (out .exit)) r ⌝ }
+{
+    match end {
+        RangeEnd::Minimum => {
+            put_pair(
+                out,
+                at,
+                b"minInValue",
+                b"minOutValue",
+                coefficients,
+                powers,
+                from,
+            )
+        }
+        RangeEnd::Maximum => {
+            put_pair(
+                out,
+                at,
+                b"maxInValue",
+                b"maxOutValue",
+                coefficients,
+                powers,
+                from,
+            )
+        }
+    }
 }
 
 fn put_sop(out: &mut [u8], at: usize, coefficients: &[i64], powers: &[i8], from: usize) -> usize
@@ -78,6 +134,7 @@ fn put_content(
             points,
             interpolation: _,
         } => put_cube(out, at, coefficients, powers, from, points),
+        Kind::OneEnd { end } => put_one_end(out, at, end, coefficients, powers, from),
     }
 }
 

@@ -39,7 +39,7 @@ fn put_interpolation(out: &mut [u8], at: usize, interpolation: Interpolation) ->
     }
 }
 
-// What stands in a node's tag behind the depths: its style, or the method of a LUT3D.
+// What stands in a node's tag behind the depths: its style, or the method of a LUT3D. A Range with one end has style Clamp.
 fn put_style(out: &mut [u8], at: usize, kind: Kind) -> usize
     ensures { λ r. ⌜ Puts (λ t. Text.styleText kind ++ t) at (now (out .entry)) (now (out .exit)) r ⌝ }
 {
@@ -55,6 +55,7 @@ fn put_style(out: &mut [u8], at: usize, kind: Kind) -> usize
             points: _,
             interpolation,
         } => put_interpolation(out, at, interpolation),
+        Kind::OneEnd { end: _ } => put_range_style(out, at, RangeStyle::Clamp),
     }
 }
 

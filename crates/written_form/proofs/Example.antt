@@ -1,5 +1,6 @@
 -- Document 01's whole example, a list with each other form of node, and an output of exactly the text's length, computed. Assumes nothing.
 use Rattle.process_list.specs.declared.RangeStyle.the-variants.{Clamp, NoClamp}
+use Rattle.process_list.specs.declared.RangeEnd.the-variants.{Minimum, Maximum}
 use Rattle.process_list.specs.declared.CdlStyle.the-variants.{FwdNoClamp}
 use Rattle.process_list.specs.declared.Interpolation.the-variants.{Tetrahedral}
 use mathlib.Core.Path.{_≡_, refl}
@@ -8,12 +9,12 @@ use mathlib.Core.List.{List, [], _∷_, _++_}
 use lib.IntN.{pos, negsuc}
 use Rattle.decimal.specs.declared.Decimal.{Decimal}
 use Rattle.process_list.specs.declared.Depth.the-variants.{I8, I10, I12, I16, F16, F32}
-use Rattle.process_list.specs.declared.Kind.the-variants.{Matrix, Lut1d, Range, Cdl, Lut3d}
+use Rattle.process_list.specs.declared.Kind.the-variants.{Matrix, Lut1d, Range, Cdl, Lut3d, OneEnd}
 use Rattle.process_list.specs.List.{Element}
 use Rattle.xml.specs.Bytes.{bytes}
 use Rattle.decimal_write.specs.Written.{digitsWithin, digits, wholeText, exponent, writtenOf}
 use Rattle.written_form.specs.Written.{joined, opening, closing, attribute, row, valueLine, rowLines, dims, arrayLine, arrayLines, tableLines, cubeLines}
-use Rattle.written_form.specs.Written.{rangeLines, cdlLines, contentLines, startLine, nodeLines, nodesLines, rootLine, listLines, refused, written, fitting, outputOf}
+use Rattle.written_form.specs.Written.{rangeLines, oneEndLines, cdlLines, contentLines, startLine, nodeLines, nodesLines, rootLine, listLines, refused, written, fitting, outputOf}
 
 abbrev zero : Decimal
 zero = record { coefficient = pos 0; power = pos 0 }
@@ -101,6 +102,25 @@ pub cube-lines : joined (nodeLines (record { kind = Lut3d 2 Tetrahedral; input =
     ++ bytes "</LUT3D>\n"
 unfolding joined nodeLines startLine contentLines cubeLines arrayLines arrayLine dims rowLines closing attribute row writtenOf wholeText exponent digits digitsWithin
 cube-lines = refl
+
+-- W-202: a Range with the minimum alone, and one with the maximum alone: each with its pair and with style Clamp
+abbrev oneEnded : List Element
+oneEnded =
+    record { kind = OneEnd Minimum; input = I10; output = I10; numbers = zero ∷ zero ∷ [] }
+    ∷ record { kind = OneEnd Maximum; input = F16; output = F16; numbers = half ∷ half ∷ [] }
+    ∷ []
+
+pub one-end-lines : joined (nodesLines oneEnded)
+    ≡ bytes "<Range inBitDepth=\"10i\" outBitDepth=\"10i\" style=\"Clamp\">\n"
+    ++ bytes "<minInValue>0</minInValue>\n"
+    ++ bytes "<minOutValue>0</minOutValue>\n"
+    ++ bytes "</Range>\n"
+    ++ bytes "<Range inBitDepth=\"16f\" outBitDepth=\"16f\" style=\"Clamp\">\n"
+    ++ bytes "<maxInValue>5e-1</maxInValue>\n"
+    ++ bytes "<maxOutValue>5e-1</maxOutValue>\n"
+    ++ bytes "</Range>\n"
+unfolding joined nodesLines nodeLines startLine contentLines oneEndLines valueLine opening closing attribute row writtenOf wholeText exponent digits digitsWithin
+one-end-lines = refl
 
 -- an output of the text's length is long enough, one of a byte less is 17
 pub exact-fit : fitting 3 (bytes "abc") ≡ written (bytes "abc")

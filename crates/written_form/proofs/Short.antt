@@ -1,5 +1,7 @@
 -- A valid list's text is shorter than 16 MiB, so that it can be read back. Assumes nothing.
 use Rattle.process_list.specs.declared.RangeStyle.the-variants.{Clamp, NoClamp}
+use Rattle.process_list.specs.declared.RangeEnd.{RangeEnd}
+use Rattle.process_list.specs.declared.RangeEnd.the-variants.{Minimum, Maximum}
 use Rattle.process_list.specs.declared.CdlStyle.the-variants.{Fwd, FwdNoClamp}
 use Rattle.process_list.specs.declared.Interpolation.the-variants.{Trilinear, Tetrahedral}
 use mathlib.Core.Path.{_≡_, refl}
@@ -16,18 +18,18 @@ use Rattle.decimal_write.specs.Laws.{digits-short, written-short}
 use Rattle.process_list.specs.declared.Depth.{Depth}
 use Rattle.process_list.specs.declared.Depth.the-variants.{I8, I10, I12, I16, F16, F32}
 use Rattle.process_list.specs.declared.Kind.{Kind}
-use Rattle.process_list.specs.declared.Kind.the-variants.{Matrix, Lut1d, Range, Cdl, Lut3d}
+use Rattle.process_list.specs.declared.Kind.the-variants.{Matrix, Lut1d, Range, Cdl, Lut3d, OneEnd}
 use Rattle.process_list.specs.declared.ProcessList.{ProcessList}
 use Rattle.process_list.specs.List.{Element, cubeEntries, numbersOf, allNumbers, total, capped, nodesOf}
 use Rattle.process_list.proofs.Laws.{capped-exact, cube-few}
 use Rattle.room.specs.Room.{Room, roomLength}
-use Rattle.valid.specs.Valid.{every, isValid, sound, shapeRight, tableRight, cubeRight, carried, rulesHold, elementsOf}
+use Rattle.valid.specs.Valid.{every, isValid, sound, shapeRight, tableRight, cubeRight, depthsRight, carried, rulesHold, elementsOf}
 use Rattle.valid.proofs.Laws.{elements-length}
 use Rattle.valid.proofs.Elements.{both-true, Right, right-few, valid-parts}
 use Rattle.valid.proofs.Readings.{used-is}
 use Rattle.xml.specs.Bytes.{bytes}
 use Rattle.written_form.specs.Written.{joined, nameText, depthText, styleText, listLines, isIdByte, idRight}
-use Rattle.written_form.proofs.Tail.{spacedText, rowText, rowsText, dimsText, linesText, arrayText, valueText, rangeText, sopText, satText, contentText}
+use Rattle.written_form.proofs.Tail.{spacedText, rowText, rowsText, dimsText, linesText, arrayText, valueText, rangeText, pairText, oneEndText, sopText, satText, contentText}
 use Rattle.written_form.proofs.Tail.{startText, endText, nodeText, nodesText, headText, listText, list-text}
 
 -- ---- numbers: at most 20 bytes each, and one byte to part them
@@ -91,6 +93,19 @@ range-short ds t =
     let ia = value-short (bytes "minInValue") (take 1 ds) b in
     omega (arith, length-take 1 (drop 3 ds), length-take 1 (drop 2 ds), length-take 1 (drop 1 ds), length-take 1 ds)
 
+pair-short : (inName outName : List ℕ) (ds : List Decimal) (t : List ℕ) → length (pairText inName outName ds t) ≤ 2 * length inName + 2 * length outName + 54 + length t
+unfolding pairText
+pair-short inName outName ds t =
+    let b = valueText outName (take 1 (drop 1 ds)) t in
+    let ib = value-short outName (take 1 (drop 1 ds)) t in
+    let ia = value-short inName (take 1 ds) b in
+    omega (arith, length-take 1 (drop 1 ds), length-take 1 ds)
+
+one-end-short : (end : RangeEnd) (ds : List Decimal) (t : List ℕ) → length (oneEndText end ds t) ≤ 100 + length t
+unfolding oneEndText
+one-end-short Minimum ds t = omega (arith, pair-short (bytes "minInValue") (bytes "minOutValue") ds t)
+one-end-short Maximum ds t = omega (arith, pair-short (bytes "maxInValue") (bytes "maxOutValue") ds t)
+
 sop-short : (ds : List Decimal) (t : List ℕ) → length (sopText ds t) ≤ 300 + length t
 unfolding sopText
 sop-short ds t =
@@ -141,6 +156,7 @@ content-short (Lut1d n c) ds t h = let m = table-most n c h in omega (arith, arr
 content-short (Range style) ds t h = omega (arith, range-short ds t)
 content-short (Cdl style) ds t h = omega (arith, sop-short ds (satText ds t), sat-short ds t)
 content-short (Lut3d n i) ds t h = let m = cube-most n h in omega (arith, array-short (n ∷ n ∷ n ∷ 3 ∷ []) (cubeEntries n) 3 ds t (cube-small n (omega arith)))
+content-short (OneEnd end) ds t h = omega (arith, one-end-short end ds t)
 
 name-short : (k : Kind) → length (nameText k) ≤ 10
 name-short (Matrix wide) = omega arith
@@ -148,6 +164,7 @@ name-short (Lut1d n c) = omega arith
 name-short (Range style) = omega arith
 name-short (Cdl style) = omega arith
 name-short (Lut3d n i) = omega arith
+name-short (OneEnd end) = omega arith
 
 depth-short : (d : Depth) → length (depthText d) ≤ 3
 depth-short I8 = omega arith
@@ -166,6 +183,7 @@ style-short (Cdl Fwd) = omega arith
 style-short (Cdl FwdNoClamp) = omega arith
 style-short (Lut3d n Trilinear) = omega arith
 style-short (Lut3d n Tetrahedral) = omega arith
+style-short (OneEnd end) = omega arith
 
 start-short : (k : Kind) (i o : Depth) (t : List ℕ) → length (startText k i o t) ≤ 100 + length t
 unfolding startText
@@ -197,23 +215,26 @@ node-short e t h =
     let y = contentText (e .kind) (e .numbers) z in
     omega (arith, start-short (e .kind) (e .input) (e .output) y, content-short (e .kind) (e .numbers) z h, end-short (e .kind) t)
 
--- what soundness says: of the shape, of the count of numbers, of each number, and of the rules on them
-pub record Parts (kind : Kind) (ds : List Decimal) : Type 0 where
+-- what soundness says: of the shape, of the count of numbers, of each number, of the rules on them, and of the depths
+pub record Parts (kind : Kind) (input output : Depth) (ds : List Decimal) : Type 0 where
   pub shape : shapeRight kind ≡ true
   pub count : length ds ≡ numbersOf kind
   pub each : every carried ds ≡ true
   pub rules : rulesHold kind ds ≡ true
+  pub depths : depthsRight kind input output ≡ true
 
-pub sound-parts : (e : Element) → sound e ≡ true → Parts (e .kind) (e .numbers)
+pub sound-parts : (e : Element) → sound e ≡ true → Parts (e .kind) (e .input) (e .output) (e .numbers)
 unfolding sound
 sound-parts e h =
     let a = shapeRight (e .kind) in
     let b = eqb (length (e .numbers)) (numbersOf (e .kind)) in
     let c = every carried (e .numbers) in
-    let p = both-true (a && b && c) (rulesHold (e .kind) (e .numbers)) h in
+    let d = rulesHold (e .kind) (e .numbers) in
+    let o = both-true (a && b && c && d) (depthsRight (e .kind) (e .input) (e .output)) h in
+    let p = both-true (a && b && c) d (o .0) in
     let q = both-true (a && b) c (p .0) in
     let r = both-true a b (q .0) in
-    record { shape = r .0; count = eqb-true (length (e .numbers)) (numbersOf (e .kind)) (r .1); each = q .1; rules = p .1 }
+    record { shape = r .0; count = eqb-true (length (e .numbers)) (numbersOf (e .kind)) (r .1); each = q .1; rules = p .1; depths = o .1 }
 
 nodes-short : (es : List Element) (t : List ℕ) → every sound es ≡ true → length (nodesText es t) ≤ 21 * length (allNumbers es) + 66000 * length es + length t
 unfolding nodesText every allNumbers

@@ -7,12 +7,14 @@ use lib.ListN.{take, drop}
 use Rattle.decimal.specs.declared.Decimal.{Decimal}
 use Rattle.decimal_write.specs.Written.{digits, writtenOf}
 use Rattle.process_list.specs.declared.Depth.{Depth}
+use Rattle.process_list.specs.declared.RangeEnd.{RangeEnd}
+use Rattle.process_list.specs.declared.RangeEnd.the-variants.{Minimum, Maximum}
 use Rattle.process_list.specs.declared.Kind.{Kind}
-use Rattle.process_list.specs.declared.Kind.the-variants.{Matrix, Lut1d, Range, Cdl, Lut3d}
+use Rattle.process_list.specs.declared.Kind.the-variants.{Matrix, Lut1d, Range, Cdl, Lut3d, OneEnd}
 use Rattle.process_list.specs.List.{Element, cubeEntries}
 use Rattle.xml.specs.Bytes.{bytes}
 use Rattle.written_form.specs.Written.{lineFeed, joined, opening, closing, attribute, row, valueLine, rowLines, dims, arrayLine, arrayLines, tableLines, cubeLines}
-use Rattle.written_form.specs.Written.{matrixRows, matrixColumns, one, three, rangeLines, cdlLines, contentLines}
+use Rattle.written_form.specs.Written.{matrixRows, matrixColumns, one, three, rangeLines, oneEndLines, cdlLines, contentLines}
 use Rattle.written_form.specs.Written.{nameText, depthText, styleText, startLine, nodeLines, nodesLines, declaration, rootLine, listLines}
 
 -- ---- numbers
@@ -64,6 +66,15 @@ rangeText ds t =
     (valueText (bytes "minOutValue") (one 2 ds)
     (valueText (bytes "maxOutValue") (one 3 ds) t)))
 
+-- the in value and the out value of one end of a Range, under their names
+unfoldable pub pairText : List ℕ → List ℕ → List Decimal → List ℕ → List ℕ
+pairText inName outName ds t = valueText inName (one 0 ds) (valueText outName (one 1 ds) t)
+
+-- a Range with one end
+unfoldable pub oneEndText : RangeEnd → List Decimal → List ℕ → List ℕ
+oneEndText Minimum ds t = pairText (bytes "minInValue") (bytes "minOutValue") ds t
+oneEndText Maximum ds t = pairText (bytes "maxInValue") (bytes "maxOutValue") ds t
+
 unfoldable pub sopText : List Decimal → List ℕ → List ℕ
 sopText ds t =
     bytes "<SOPNode>\n" ++
@@ -81,6 +92,7 @@ contentText (Lut1d entries columns) ds t = tableText entries columns ds t
 contentText (Range style) ds t = rangeText ds t
 contentText (Cdl style) ds t = sopText ds (satText ds t)
 contentText (Lut3d points interpolation) ds t = cubeText points ds t
+contentText (OneEnd end) ds t = oneEndText end ds t
 
 abbrev pub depthsText : Depth → Depth → List ℕ → List ℕ
 depthsText input output t = bytes " inBitDepth=\"" ++ (depthText input ++ (bytes "\" outBitDepth=\"" ++ (depthText output ++ (bytes "\"" ++ t))))
@@ -181,6 +193,11 @@ range-text : (ds : List Decimal) (ls : List (List ℕ)) → joined (rangeLines d
 unfolding rangeText rangeLines
 range-text ds ls = simp value-text
 
+one-end-text : (end : RangeEnd) (ds : List Decimal) (ls : List (List ℕ)) → joined (oneEndLines end ds ++ ls) ≡ oneEndText end ds (joined ls)
+unfolding oneEndText pairText oneEndLines
+one-end-text Minimum ds ls = simp value-text
+one-end-text Maximum ds ls = simp value-text
+
 cdl-text : (ds : List Decimal) (ls : List (List ℕ)) → joined (cdlLines ds ++ ls) ≡ sopText ds (satText ds (joined ls))
 unfolding sopText satText cdlLines
 cdl-text ds ls = simp (opening-line, closing-line, value-text)
@@ -192,6 +209,7 @@ content-text (Lut1d entries columns) ds ls = array-text (entries ∷ columns ∷
 content-text (Range style) ds ls = range-text ds ls
 content-text (Cdl style) ds ls = cdl-text ds ls
 content-text (Lut3d points interpolation) ds ls = array-text (points ∷ points ∷ points ∷ 3 ∷ []) (cubeEntries points) 3 ds ls
+content-text (OneEnd end) ds ls = one-end-text end ds ls
 
 start-text : (k : Kind) (i o : Depth) (ls : List (List ℕ)) → joined (startLine k i o ∷ ls) ≡ startText k i o (joined ls)
 unfolding startText startLine joined

@@ -13,12 +13,14 @@ use Rattle.process_list.specs.declared.Depth.{Depth}
 use Rattle.process_list.specs.declared.Depth.the-variants.{I8, I10, I12, I16, F16, F32}
 use Rattle.process_list.specs.declared.RangeStyle.{RangeStyle}
 use Rattle.process_list.specs.declared.RangeStyle.the-variants.{Clamp, NoClamp}
+use Rattle.process_list.specs.declared.RangeEnd.{RangeEnd}
+use Rattle.process_list.specs.declared.RangeEnd.the-variants.{Minimum, Maximum}
 use Rattle.process_list.specs.declared.CdlStyle.{CdlStyle}
 use Rattle.process_list.specs.declared.CdlStyle.the-variants.{Fwd, FwdNoClamp}
 use Rattle.process_list.specs.declared.Interpolation.{Interpolation}
 use Rattle.process_list.specs.declared.Interpolation.the-variants.{Trilinear, Tetrahedral}
 use Rattle.process_list.specs.declared.Kind.{Kind}
-use Rattle.process_list.specs.declared.Kind.the-variants.{Matrix, Lut1d, Range, Cdl, Lut3d}
+use Rattle.process_list.specs.declared.Kind.the-variants.{Matrix, Lut1d, Range, Cdl, Lut3d, OneEnd}
 use Rattle.process_list.specs.declared.ProcessList.{ProcessList}
 use Rattle.process_list.specs.List.{Element, cubeEntries}
 use Rattle.room.specs.Room.{Room}
@@ -95,14 +97,14 @@ matrixRows = 3
 abbrev pub matrixColumns : Bool → ℕ
 matrixColumns wide = cond wide 4 3
 
--- one, or three, of a node's numbers, from number k on, counted from 0. A Range of a valid list has 4 and an ASC_CDL 10, so that each of these is there
+-- one, or three, of a node's numbers, from number k on, counted from 0. A Range of a valid list has 4, or 2 if it has one end, and an ASC_CDL 10, so that each of these is there
 abbrev pub one : ℕ → List Decimal → List Decimal
 one k ds = take 1 (drop k ds)
 
 abbrev pub three : ℕ → List Decimal → List Decimal
 three k ds = take 3 (drop k ds)
 
--- Range, whose numbers stand 'in the order above': minInValue, maxInValue, minOutValue, maxOutValue
+-- a Range with four values, whose numbers stand 'in the order above': minInValue, maxInValue, minOutValue, maxOutValue
 unfoldable pub rangeLines : List Decimal → List (List ℕ)
 rangeLines ds =
     valueLine (bytes "minInValue") (one 0 ds)
@@ -110,6 +112,11 @@ rangeLines ds =
     ∷ valueLine (bytes "minOutValue") (one 2 ds)
     ∷ valueLine (bytes "maxOutValue") (one 3 ds)
     ∷ []
+
+-- a Range with one end, whose numbers are its in value and its out value: 'only its pair is written' (02, W-202)
+unfoldable pub oneEndLines : RangeEnd → List Decimal → List (List ℕ)
+oneEndLines Minimum ds = valueLine (bytes "minInValue") (one 0 ds) ∷ valueLine (bytes "minOutValue") (one 1 ds) ∷ []
+oneEndLines Maximum ds = valueLine (bytes "maxInValue") (one 0 ds) ∷ valueLine (bytes "maxOutValue") (one 1 ds) ∷ []
 
 -- 'ASC_CDL writes both parts': 'SOPNode (Slope, Offset, Power in this order, three numbers each), then .. SatNode (Saturation)'
 unfoldable pub cdlLines : List Decimal → List (List ℕ)
@@ -131,6 +138,7 @@ contentLines (Lut1d entries columns) ds = tableLines entries columns ds
 contentLines (Range style) ds = rangeLines ds
 contentLines (Cdl style) ds = cdlLines ds
 contentLines (Lut3d points interpolation) ds = cubeLines points ds
+contentLines (OneEnd end) ds = oneEndLines end ds
 
 -- ---- nodes
 
@@ -141,6 +149,7 @@ nameText (Lut1d entries columns) = bytes "LUT1D"
 nameText (Range style) = bytes "Range"
 nameText (Cdl style) = bytes "ASC_CDL"
 nameText (Lut3d points interpolation) = bytes "LUT3D"
+nameText (OneEnd end) = bytes "Range"
 
 -- '`inBitDepth`, `outBitDepth` from 8i, 10i, 12i, 16i, 16f, 32f'
 abbrev pub depthText : Depth → List ℕ
@@ -165,13 +174,14 @@ abbrev pub interpolationText : Interpolation → List ℕ
 interpolationText Trilinear = bytes " interpolation=\"trilinear\""
 interpolationText Tetrahedral = bytes " interpolation=\"tetrahedral\""
 
--- what stands in a node's tag behind the depths
+-- what stands in a node's tag behind the depths. A Range with one end is carried with style Clamp alone
 abbrev pub styleText : Kind → List ℕ
 styleText (Matrix wide) = []
 styleText (Lut1d entries columns) = []
 styleText (Range style) = rangeStyleText style
 styleText (Cdl style) = cdlStyleText style
 styleText (Lut3d points interpolation) = interpolationText interpolation
+styleText (OneEnd end) = rangeStyleText Clamp
 
 -- 'attributes in the order in, out, style', and a LUT3D's method last
 unfoldable pub startLine : Kind → Depth → Depth → List ℕ

@@ -21,10 +21,16 @@ returns-4 c = puts-by (λ k t. nameText k ++ t) (c .before .before .before .befo
 returns-5 : tie.Need-returns-5
 returns-5 c = puts-by (λ k t. nameText k ++ t) (c .before .before .before .before .before .enum-told5 .given .1) (c .before .before .put5 .ensures)
 
+returns-6 : tie.Need-returns-6
+returns-6 c = puts-by (λ k t. nameText k ++ t) (c .before .before .before .before .before .enum-told6 .given .1) (c .before .before .put6 .ensures)
+
 pub put-name-spec : {M : Type 1} → statement M
 put-name-spec =
     tie.close
     (tie.spec
+    (λ c. search needs)
+    (λ c. search needs)
+    (λ c κs. search needs)
     (λ c. search needs)
     (λ c. search needs)
     (λ c κs. search needs)
@@ -49,4 +55,6 @@ put-name-spec =
     (λ c. search needs)
     returns-4
     (λ c. search needs)
-    returns-5)
+    returns-5
+    (λ c. search needs)
+    returns-6)

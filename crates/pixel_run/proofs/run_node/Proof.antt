@@ -47,10 +47,20 @@ returns-5 c =
     let a = m .before .before .before .args in
     node-ran (a .rows) (a .in-scale) (a .out-scale) (lent (now (a .coefficients)) (now (a .powers))) (now (a .pixels)) _ (a .p) (simp (m .p5 .given .1) (r .run-lut3d .ensures))
 
+returns-6 : tie.Need-returns-6
+unfolding stepPixel
+returns-6 c =
+    let r = c .before .before in
+    let m = r .before .before .before in
+    let a = m .before .before .before .args in
+    node-ran (a .rows) (a .in-scale) (a .out-scale) (lent (now (a .coefficients)) (now (a .powers))) (now (a .pixels)) _ (a .p) (simp (m .p6 .given .1) (r .run-one-end .ensures .0))
+
 pub run-node-spec : {M : Type 1} → statement M
 run-node-spec =
     tie.close
     (tie.spec
+    (λ c. search needs)
+    (λ c κs. search needs)
     (λ c. search needs)
     (λ c κs. search needs)
     (λ c. search needs)
@@ -70,4 +80,6 @@ run-node-spec =
     (λ c. search needs)
     returns-4
     (λ c. search needs)
-    returns-5)
+    returns-5
+    (λ c. search needs)
+    returns-6)

@@ -14,11 +14,11 @@ use Rattle.range_node.proofs.range_content.Statement.{statement}
 use Rattle.range_node.proofs.range_content.Tie as tie
 
 abbrev Inv-loop : tie.InvT-loop
-Inv-loop s at coefficients₀ powers₀ state₀ i₀ t18 coefficients powers state i =
-    (length coefficients ≡ length coefficients₀) × (length powers ≡ length powers₀) × HeldAt rangeHolder noValues s at i (RangeStands (lent coefficients powers) state)
+Inv-loop s at allowed coefficients₀ powers₀ state₀ i₀ t18 coefficients powers state i =
+    (length coefficients ≡ length coefficients₀) × (length powers ≡ length powers₀) × HeldAt (rangeHolder allowed) noValues s at i (RangeStands (lent coefficients powers) state)
 
 abbrev μ-loop : tie.MeasureT-loop
-μ-loop s at coefficients₀ powers₀ state₀ i₀ t18 coefficients powers state i = length s - i
+μ-loop s at allowed coefficients₀ powers₀ state₀ i₀ t18 coefficients powers state i = length s - i
 
 loop-holds : tie.Need-loop-holds Inv-loop μ-loop
 loop-holds c = (refl, refl, held-start _ _ _ _ _ (rw (c .no-values .ensures) (range-start _ _ (c .before .before .pre))))
@@ -30,7 +30,7 @@ returns : tie.Need-returns Inv-loop μ-loop
 returns c =
     let child = c .before .before .before in
     let next = child .before .before .before .before in
-    held-failed _ _ _ _ _ _ (next .before .before .before .loop .inv .2) _ _ (rw (next .l .given .1) at (next .before .before .next-tag .ensures)) _ _ _ (child .range-child .ensures)
+    held-failed _ _ _ _ _ _ (next .before .before .before .loop .inv .2) _ _ (rw (next .l .given .1) at (next .before .before .next-tag .ensures)) _ _ _ (child .range-child .ensures _)
     _ (failed (child .range-child .result .scan) (c .match2 .keys2))
 
 loop-less : tie.Need-loop-less Inv-loop μ-loop
@@ -40,7 +40,7 @@ loop-less c =
     omega (
       arith,
       held-moves _ _ _ _ _ _ (next .before .before .before .loop .inv .2) _ _ (rw (next .l .given .1) at (next .before .before .next-tag .ensures)) _ _ _
-          (child .range-child .ensures) _ (c .before .r .given .1),
+          (child .range-child .ensures _) _ (c .before .r .given .1),
     )
 
 loop-again : tie.Need-loop-again Inv-loop μ-loop
@@ -50,14 +50,14 @@ loop-again c =
       search needs,
       search needs,
       held-child _ _ _ _ _ _ (next .before .before .before .loop .inv .2) _ _ (rw (next .l .given .1) at (next .before .before .next-tag .ensures)) _ _ _
-          (child .range-child .ensures) _ (c .before .r .given .1),
+          (child .range-child .ensures _) _ (c .before .r .given .1),
     )
 
 returns-2 : tie.Need-returns-2 Inv-loop μ-loop
 returns-2 c =
     let missing = c .before .before .before in
     let next = missing .before .before .before .before .before in
-    rw (c .range-with .ensures) (content-end _ _ _ _ _ (next .before .before .before .loop .inv .2) _ (rw (next .l2 .given .1) at (next .before .before .next-tag .ensures)) _ _
+    rw (c .range-with .ensures) (content-end _ _ _ _ _ _ (next .before .before .before .loop .inv .2) _ (rw (next .l2 .given .1) at (next .before .before .next-tag .ensures)) _ _
     (missing .range-missing .ensures) (c .before .end-tag .ensures))
 
 returns-3 : tie.Need-returns-3 Inv-loop μ-loop

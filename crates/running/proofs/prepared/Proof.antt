@@ -24,6 +24,10 @@ returns-5 : tie.Need-returns-5
 unfolding preparedAs
 returns-5 c = simp (c .before .kind5 .given .1)
 
+returns-6 : tie.Need-returns-6
+unfolding preparedAs
+returns-6 c = simp (c .before .before .kind6 .given .1) (c .prepare-one-end .ensures)
+
 pub prepared-spec : {M : Type 1} → statement M
 prepared-spec =
     tie.close
@@ -37,8 +41,11 @@ prepared-spec =
     (λ c κs. search needs)
     (λ c κs. search needs)
     (λ c. search needs)
+    (λ c. search needs)
+    (λ c κs. search needs)
     returns
     returns-2
     returns-3
     returns-4
-    returns-5)
+    returns-5
+    returns-6)

@@ -15,9 +15,10 @@ use Rattle.room.specs.Room.{Room, lent}
 use Rattle.valid.specs.Valid.{isValid}
 use Rattle.pixel_run.specs.Finite.{firstNotFinite}
 use Rattle.running.specs.declared.Ran.{Ran}
-use Rattle.running.specs.Running.{tablesStand, runNodes, notThrees, notFinite, ran, ranOf, pixelsOf}
+use Rattle.running.specs.Running.{tablesStand, LastEndHolds, runNodes, notThrees, notFinite, ran, ranOf, pixelsOf}
 use Rattle.running.specs.RunningLaws.{ran-invalid, ran-not-threes, ran-not-finite, ran-accepted, pixels-accepted, pixels-refused}
 use Rattle.running.proofs.Tables.{valid-stand}
+use Rattle.running.proofs.LastEnd.{last-end}
 use Rattle.running.proofs.run.Statement.{statement}
 use Rattle.running.proofs.run.Tie as tie
 
@@ -39,15 +40,17 @@ unfolding notFinite
 not-found xs k e h = rw (← e) (le-ltb k (length xs) h)
 
 module _ (l : ProcessList) (m : Room) (xs : List Float) where
-  -- the promises: the answer, the slice afterwards, and that every table stands in the room where it is accepted
+  -- the promises: the answer, the slice afterwards; and, where it is accepted, that every table stands in the room, and what comes out of a last Range with one end
   abbrev Answers : Ran → List Float → Type 0
-  Answers r ys = (r ≡ ranOf l m xs) × ((ys ≡ pixelsOf l m xs) × (r .number ≡ 0 → tablesStand m (nodesOf l) ≡ true))
+  Answers r ys =
+      (r ≡ ranOf l m xs)
+      × ((ys ≡ pixelsOf l m xs) × ((r .number ≡ 0 → tablesStand m (nodesOf l) ≡ true) × (r .number ≡ 0 → LastEndHolds m (nodesOf l) ys)))
 
   refused : (number place : ℕ) → (number ≡ 0 → ⊥) → ranOf l m xs ≡ ran number place → Answers (ran number place) xs
-  refused number place k e = (sym e, (sym (pixels-refused l m xs number place k e), λ z. absurd (k z)))
+  refused number place k e = (sym e, (sym (pixels-refused l m xs number place k e), (λ z. absurd (k z), λ z. absurd (k z))))
 
   accepted : isValid l m ≡ true → (ys : List Float) → ranOf l m xs ≡ ran 0 0 → ys ≡ runNodes m (nodesOf l) xs → Answers (ran 0 0) ys
-  accepted v ys e f = (sym e, (f ∙ sym (pixels-accepted l m xs e), λ z. valid-stand l m v))
+  accepted v ys e f = (sym e, (f ∙ sym (pixels-accepted l m xs e), (λ z. valid-stand l m v, λ z. last-end m (nodesOf l) xs ys f)))
 
   not-valid : isValid l m ≡ false → Answers (ran 16 0) xs
   not-valid v = refused 16 0 (λ e. omega arith) (ran-invalid l m xs v)

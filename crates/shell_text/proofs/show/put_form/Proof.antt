@@ -32,6 +32,10 @@ returns-5 c =
     let method = cube .before .before .before .before in
     puts-by formText (method .before .before .before .kind5 .given .1) (puts-then (method .put-method .ensures) (cube .put-cube .ensures))
 
+returns-6 : tie.Need-returns-6
+unfolding formText
+returns-6 c = puts-by formText (c .before .before .before .before .before .kind6 .given .1) (c .before .before .put-one-end .ensures)
+
 pub put-form-spec : {M : Type 1} → statement M
 put-form-spec =
     tie.close
@@ -56,6 +60,8 @@ put-form-spec =
     (λ c κs. search needs)
     (λ c κs. search needs)
     (λ c. search needs)
+    (λ c κs. search needs)
+    (λ c. search needs)
     returns
     (λ c. search needs)
     returns-2
@@ -64,4 +70,6 @@ put-form-spec =
     (λ c. search needs)
     returns-4
     (λ c. search needs)
-    returns-5)
+    returns-5
+    (λ c. search needs)
+    returns-6)

@@ -1,6 +1,6 @@
 -- By the kind of the node. Assumes nothing.
 use Rattle.text_out.proofs.Laws.{puts-as, puts-then}
-use Rattle.writing.proofs.NodeLaws.{wide-asks, wide-text, narrow-asks, narrow-text, table-asks, table-text, range-asks, range-text, cdl-asks, cdl-text, cube-asks, cube-text}
+use Rattle.writing.proofs.NodeLaws.{wide-asks, wide-text, narrow-asks, narrow-text, table-asks, table-text, range-asks, range-text, cdl-asks, cdl-text, cube-asks, cube-text, one-end-asks, one-end-text}
 use borrow.Author.Needs.{needs}
 use Rattle.writing.proofs.elements.put_content.Statement.{statement}
 use Rattle.writing.proofs.elements.put_content.Tie as tie
@@ -50,6 +50,12 @@ put-cube-requires c κs =
     let e = (c .before .before .kind3 .given .1) in
     cube-asks _ _ _ e _ _ h
 
+put-one-end-requires : tie.Need-put-one-end-requires
+put-one-end-requires c κs =
+    let h = c .before .before .before .before .before .pre in
+    let e = (c .before .before .kind4 .given .1) in
+    one-end-asks _ _ e _ _ h
+
 returns-2 : tie.Need-returns-2
 returns-2 c = puts-as (narrow-text _ _ (c .before .before .before .before .before .before .kind .given .1) _ _ (c .before .before .before .before .if1 .left)) (c .before .before .put-table2 .ensures)
 
@@ -66,6 +72,9 @@ returns-5 c =
 
 returns-6 : tie.Need-returns-6
 returns-6 c = puts-as (cube-text _ _ _ (c .before .before .before .before .before .kind3 .given .1) _ _) (c .before .before .put-cube .ensures)
+
+returns-7 : tie.Need-returns-7
+returns-7 c = puts-as (one-end-text _ _ (c .before .before .before .before .before .kind4 .given .1) _ _) (c .before .before .put-one-end .ensures)
 
 pub put-content-spec : {M : Type 1} → statement M
 put-content-spec =
@@ -86,6 +95,8 @@ put-content-spec =
     (λ c. search needs)
     put-cube-requires
     (λ c. search needs)
+    put-one-end-requires
+    (λ c. search needs)
     returns-2
     (λ c. search needs)
     returns-3
@@ -94,4 +105,6 @@ put-content-spec =
     (λ c. search needs)
     returns-5
     (λ c. search needs)
-    returns-6)
+    returns-6
+    (λ c. search needs)
+    returns-7)

@@ -1,4 +1,4 @@
--- The style of each kind that has one, and the method of a LUT3D. Assumes nothing.
+-- The style of each kind that has one (a Range with one end always clamps), and the method of a LUT3D. Assumes nothing.
 use mathlib.Core.List.{_++_}
 use Rattle.text_out.proofs.Laws.{puts-by, goes-start}
 use Rattle.written_form.specs.Written.{styleText}
@@ -21,12 +21,17 @@ returns-4 c = puts-by (λ k t. styleText k ++ t) (c .before .before .before .bef
 returns-5 : tie.Need-returns-5
 returns-5 c = puts-by (λ k t. styleText k ++ t) (c .before .before .before .before .before .kind3 .given .1) (c .before .before .put-interpolation .ensures)
 
+returns-6 : tie.Need-returns-6
+returns-6 c = puts-by (λ k t. styleText k ++ t) (c .before .before .before .before .enum-told3 .given .1) (c .before .before .put-range-style2 .ensures)
+
 pub put-style-spec : {M : Type 1} → statement M
 put-style-spec =
     tie.close
     (tie.spec
     (λ c. search needs)
     (λ c. search needs)
+    (λ c. search needs)
+    (λ c κs. search needs)
     (λ c. search needs)
     (λ c κs. search needs)
     (λ c. search needs)
@@ -40,4 +45,6 @@ put-style-spec =
     (λ c. search needs)
     returns-4
     (λ c. search needs)
-    returns-5)
+    returns-5
+    (λ c. search needs)
+    returns-6)
