@@ -1,6 +1,7 @@
 // ocio_write KIND N > FILE: a CLF file as OpenColorIO writes it. KIND is lut1d (N entries of three channels), lut3d (N entries along each
-// axis, no interpolation said), trilinear or tetrahedral (the same with that interpolation), matrix, range, cdl, look (matrix, range, cdl and
-// a LUT1D of N entries in a row) or cube_look (matrix, a tetrahedral LUT3D of N entries along each axis, range).
+// axis, no interpolation said), trilinear or tetrahedral (the same with that interpolation), matrix, range, minimum or maximum (a range with
+// that pair alone), minimum_10i (at 10 bit), maximum_scaled (from 10 to 12 bit), cdl, look (matrix, range, cdl and a LUT1D of N entries in a
+// row), cube_look (matrix, a tetrahedral LUT3D of N entries along each axis, range) or end_look (matrix, minimum, cdl, maximum).
 #include <OpenColorIO/OpenColorIO.h>
 #include <cmath>
 #include <cstdlib>
@@ -58,6 +59,22 @@ static OCIO::TransformRcPtr range()
     return t;
 }
 
+// A range with one end, at a sixteenth or at all of full scale; the depths make code values of it.
+static OCIO::TransformRcPtr one_end(bool minimum, OCIO::BitDepth in, OCIO::BitDepth out)
+{
+    OCIO::RangeTransformRcPtr t = OCIO::RangeTransform::Create();
+    t->setFileInputBitDepth(in);
+    t->setFileOutputBitDepth(out);
+    if (minimum) {
+        t->setMinInValue(0.0625);
+        t->setMinOutValue(0.0625);
+    } else {
+        t->setMaxInValue(1);
+        t->setMaxOutValue(1);
+    }
+    return t;
+}
+
 static OCIO::TransformRcPtr cdl()
 {
     OCIO::CDLTransformRcPtr t = OCIO::CDLTransform::Create();
@@ -75,13 +92,17 @@ int main(int argc, char **argv)
     const std::string kind = argc > 1 ? argv[1] : "";
     const unsigned long n = argc > 2 ? std::strtoul(argv[2], nullptr, 10) : 2;
     OCIO::GroupTransformRcPtr group = OCIO::GroupTransform::Create();
-    const bool look = kind == "look", cube_look = kind == "cube_look";
-    if (look || cube_look || kind == "matrix") group->appendTransform(matrix());
+    const bool look = kind == "look", cube_look = kind == "cube_look", end_look = kind == "end_look";
+    if (look || cube_look || end_look || kind == "matrix") group->appendTransform(matrix());
     if (kind == "lut3d") group->appendTransform(lut3d(n, OCIO::INTERP_DEFAULT));
     if (kind == "trilinear") group->appendTransform(lut3d(n, OCIO::INTERP_LINEAR));
     if (cube_look || kind == "tetrahedral") group->appendTransform(lut3d(n, OCIO::INTERP_TETRAHEDRAL));
     if (look || cube_look || kind == "range") group->appendTransform(range());
-    if (look || kind == "cdl") group->appendTransform(cdl());
+    if (end_look || kind == "minimum") group->appendTransform(one_end(true, OCIO::BIT_DEPTH_F32, OCIO::BIT_DEPTH_F32));
+    if (kind == "minimum_10i") group->appendTransform(one_end(true, OCIO::BIT_DEPTH_UINT10, OCIO::BIT_DEPTH_UINT10));
+    if (look || end_look || kind == "cdl") group->appendTransform(cdl());
+    if (end_look || kind == "maximum") group->appendTransform(one_end(false, OCIO::BIT_DEPTH_F32, OCIO::BIT_DEPTH_F32));
+    if (kind == "maximum_scaled") group->appendTransform(one_end(false, OCIO::BIT_DEPTH_UINT10, OCIO::BIT_DEPTH_UINT12));
     if (look || kind == "lut1d") group->appendTransform(lut1d(n));
     group->write(OCIO::Config::CreateRaw(), "Academy/ASC Common LUT Format", std::cout);
     return 0;
