@@ -167,15 +167,7 @@ static const struct { const char *name; double scale; } depths[6] = {{"8i", 255}
 
 enum { MOST_N = 33, MOST_NUMBERS = 3 * MOST_N * MOST_N * MOST_N, MOST_TEXT = 40 * MOST_NUMBERS, WILD = 0, KINDS = 5 };
 static double entries[MOST_NUMBERS];
-static char text[MOST_TEXT];
-static size_t length;
-
-static void put(const char *form, ...) {
-    va_list list;
-    va_start(list, form);
-    length += (size_t)vsnprintf(text + length, MOST_TEXT - length, form, list);
-    va_end(list);
-}
+#include "text.h"
 
 /* one number as text, and its f64: the nearest to the decimal, which strtod gives */
 static double number(int kind, size_t i, size_t numbers) {

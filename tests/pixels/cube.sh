@@ -5,19 +5,4 @@
 #                   split at spaces, and no library is needed
 # Everything is written to a temporary folder.
 set -eu
-here=$(cd "$(dirname "$0")" && pwd)
-root=$(cd "$here/../.." && pwd)
-work=$(mktemp -d)
-trap 'rm -rf "$work"' EXIT
-flags="-std=c11 -O2 -ffp-contract=off -Wall -Wextra"
-if [ $# -gt 0 ]; then
-    ${CC:-cc} $flags -DNO_ARCHIVE "$here/cube.c" -lm -o "$work/cube"
-    "$work/cube" lines "$work/lines" "$work/expected"
-    $1 <"$work/lines" | sed -n 'n;p' >"$work/answers" # every second line, those of X
-    cmp "$work/expected" "$work/answers" && echo "all alike"
-    exit
-fi
-archive=${ARCHIVE:-$root/target/staticlib/libclf_c.a}
-[ -n "${ARCHIVE:-}" ] || (cd "$root" && rt staticlib clf_c)
-${CC:-cc} $flags "$here/cube.c" "$archive" -lm -o "$work/cube"
-"$work/cube"
+exec bash "$(dirname "$0")/against.sh" cube "$@"

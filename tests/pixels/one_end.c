@@ -117,15 +117,7 @@ static void picture(const struct look *l, double *p, size_t pixels) {
 /* ---- a look as a file */
 static const char *const depths[6] = {"8i", "10i", "12i", "16i", "16f", "32f"};
 enum { MOST_TEXT = 2000 };
-static char text[MOST_TEXT];
-static size_t length;
-
-static void put(const char *form, ...) {
-    va_list list;
-    va_start(list, form);
-    length += (size_t)vsnprintf(text + length, MOST_TEXT - length, form, list);
-    va_end(list);
-}
+#include "text.h"
 
 static void put_matrix(double *m, bool large, const char *in, const char *out) {
     static const char *const small_entries[] = {"1", "0", "0", "-1", "0.5"}, *const large_entries[] = {"1", "0", "0", "1e22", "-1e22", "999999999999999e22", "-1e21"};

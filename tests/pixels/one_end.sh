@@ -5,19 +5,4 @@
 #                      command, split at spaces, and no library is needed
 # Everything is written to a temporary folder.
 set -eu
-here=$(cd "$(dirname "$0")" && pwd)
-root=$(cd "$here/../.." && pwd)
-work=$(mktemp -d)
-trap 'rm -rf "$work"' EXIT
-flags="-std=c11 -O2 -ffp-contract=off -Wall -Wextra -Wconversion"
-if [ $# -gt 0 ]; then
-    ${CC:-cc} $flags -DNO_ARCHIVE "$here/one_end.c" -lm -o "$work/one_end"
-    "$work/one_end" lines "$work/lines" "$work/expected"
-    $1 <"$work/lines" | sed -n 'n;p' >"$work/answers" # every second line, those of X
-    cmp "$work/expected" "$work/answers" && echo "all alike"
-    exit
-fi
-archive=${ARCHIVE:-$root/target/staticlib/libclf_c.a}
-[ -n "${ARCHIVE:-}" ] || (cd "$root" && rt staticlib clf_c)
-${CC:-cc} $flags "$here/one_end.c" "$archive" -lm -o "$work/one_end"
-"$work/one_end"
+exec bash "$(dirname "$0")/against.sh" one_end "$@"
