@@ -1,10 +1,10 @@
--- What each accepted list is: every node is without fault, and the list passes 12, 11, 10 and 13. Assumes nothing.
+-- What each accepted list is: every node is without fault, and the list passes 12, 11, 10, 23 and 13. Assumes nothing.
 use mathlib.Core.Path.{_≡_, refl, subst}
 use mathlib.Core.Bool.{true}
 use mathlib.Core.List.{List, [], _∷_}
 use Prim.Native.Nat.{ℕ}
 use Rattle.process_list.specs.declared.Verdict.{Verdict}
-use Rattle.process_list.specs.declared.Verdict.the-variants.{Accepted, NoNode, TooManyNodes, DepthDiffers, TooManyNumbers}
+use Rattle.process_list.specs.declared.Verdict.the-variants.{Accepted, NoNode, TooManyNodes, DepthDiffers, IdSeen, TooManyNumbers}
 use Rattle.process_list.specs.List.{Element, verdict}
 use Rattle.valid.specs.Valid.{sound}
 use Rattle.grammar.specs.Parse.{Out, done, fault, cut, Turn, again, last}
@@ -112,6 +112,7 @@ judged-same room m l e = go (verdict room m) refl e
     go NoNode q z = nope cc
     go TooManyNodes q z = nope cc
     go (DepthDiffers k) q z = nope cc
+    go (IdSeen k) q z = nope cc
     go TooManyNumbers q z = nope cc
 
 pub record Whole (room : ℕ) (l : List Element) : Type 0 where

@@ -19,6 +19,7 @@ use Rattle.grammar.specs.Parse.{again, last}
 use Rattle.xml.specs.Bytes.{bytes, same, isSpace, lessThan}
 use Rattle.xml.specs.Xml.{Attribute, isNamed, textOf}
 use Rattle.xml.specs.Elements.{held}
+use Rattle.ids.specs.Ids.{idRight, mostNodeIdBytes}
 use Rattle.clf.specs.Numbers.{endsToken, token, saidBy, faultOf, numbers, anyNumber, notBelowZero, mustBeOne, valueRules, valueElement}
 use Rattle.clf.specs.Nodes.{isSome, depthOf, nodeTexts, nodeMissing, nodeRules, matrixShape, lutShape, cubeShapeBy, arrayRules, arrayOf, array, noArray, arrayHolder, tableNode}
 use Rattle.clf.specs.Nodes.{matrix, lutNames, lutTexts, lut1d, cubeTexts, lut3d, rangeIndex, RangeState, noValues, isThere, anyThere, allThere, inOrder, onlyPair, pairEqual, oneEndFault, rangeMissing, onlyNumber}
@@ -42,6 +43,9 @@ twentyOne = fair-by 21 refl
 
 twentyTwo : Right 22
 twentyTwo = fair-by 22 refl
+
+twentyFour : Right 24
+twentyFour = fair-by 24 refl
 
 -- ---- numbers
 
@@ -75,7 +79,9 @@ one-right d = fair-cond (positive d) (fair-cond (isOne d) fair-zero seven) twent
 -- ---- start tags of nodes
 
 node-texts : (rest : List ℕ → List ℕ → ℕ) → ((w t : List ℕ) → Right (rest w t)) → (w t : List ℕ) → Right (nodeTexts rest w t)
-node-texts rest h w t = fair-cond (same w (bytes "inBitDepth") || same w (bytes "outBitDepth")) (fair-cond (isSome (depthOf t)) fair-zero eight) (h w t)
+node-texts rest h w t =
+    fair-cond (same w (bytes "inBitDepth") || same w (bytes "outBitDepth")) (fair-cond (isSome (depthOf t)) fair-zero eight)
+    (fair-cond (same w (bytes "id")) (fair-cond (idRight mostNodeIdBytes t) fair-zero twentyFour) (h w t))
 
 node-missing : (l : List Attribute) → Right (nodeMissing l)
 node-missing l = fair-cond (isNamed (bytes "inBitDepth") l && isNamed (bytes "outBitDepth") l) fair-zero eight

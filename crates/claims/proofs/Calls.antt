@@ -7,7 +7,7 @@ use Prim.Native.Nat.{ℕ, zero, suc, _-_}
 use lib.Dec.{eqb, ltb}
 use lib.ListN.{length, set}
 use Rattle.process_list.specs.declared.Verdict.{Verdict}
-use Rattle.process_list.specs.declared.Verdict.the-variants.{Accepted, NoNode, TooManyNodes, DepthDiffers, TooManyNumbers}
+use Rattle.process_list.specs.declared.Verdict.the-variants.{Accepted, NoNode, TooManyNodes, DepthDiffers, IdSeen, TooManyNumbers}
 use Rattle.process_list.specs.List.{Element, verdict}
 use Rattle.valid.specs.Valid.{every, sound}
 use Rattle.valid.proofs.Readings.{every-cons, every-made}
@@ -38,6 +38,7 @@ verdict-put es Accepted new e = (cc, refl)
 verdict-put es NoNode new e = nope cc
 verdict-put es TooManyNodes new e = nope cc
 verdict-put es (DepthDiffers k) new e = nope cc
+verdict-put es (IdSeen k) new e = nope cc
 verdict-put es TooManyNumbers new e = nope cc
 
 module _ (room : ℕ) (kept : List ℕ) (es : List Element) (c : Call) where
@@ -120,6 +121,7 @@ verdict-number es Accepted n p e = nope cc
 verdict-number es NoNode n p e = let q : 12 ≡ n = cc in rw (← q) refl
 verdict-number es TooManyNodes n p e = let q : 11 ≡ n = cc in rw (← q) refl
 verdict-number es (DepthDiffers k) n p e = let q : 10 ≡ n = cc in rw (← q) refl
+verdict-number es (IdSeen k) n p e = let q : 23 ≡ n = cc in rw (← q) refl
 verdict-number es TooManyNumbers n p e = let q : 13 ≡ n = cc in rw (← q) refl
 
 module _ (room : ℕ) (es : List Element) (k : ℕ) (e : List ℕ) (n p : ℕ) where

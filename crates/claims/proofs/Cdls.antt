@@ -24,11 +24,12 @@ use Rattle.xml.specs.Xml.{textOf, Tag, startTag}
 use Rattle.xml.specs.Elements.{textElement}
 use Rattle.clf.specs.Numbers.{anyNumber, notBelowZero, mustBeOne}
 use Rattle.clf.specs.Nodes.{cdlStyle, orElse, notEmptyRules, sopName, sopRule, sopHolder, sopNode, satHolder, satNode, CdlState, cdlBody, cdlHolder, oneNumber, threeTimes}
-use Rattle.clf.specs.Nodes.{sopNumbers, satNumbers, cdlNode, cdlRules, cdlContent, ascCdl}
+use Rattle.clf.specs.Nodes.{sopNumbers, satNumbers, cdlTexts, cdlNode, cdlRules, cdlContent, ascCdl}
 use Rattle.claims.proofs.Always.{Holds, holds-ret, holds-cond, holds-seq, holds-then}
 use Rattle.claims.proofs.Numbers.{Each, each-more, each-map, Carried, Kept, Counted, value-holds}
 use Rattle.claims.proofs.Held.{Ended, held-holds}
 use Rattle.claims.proofs.Sound.{Right, sound-by}
+use Rattle.claims.proofs.Attributes.{node-by}
 use Rattle.claims.proofs.Tables.{OptHolds}
 use Rattle.claims.proofs.Ranges.{zero-carried}
 
@@ -264,6 +265,6 @@ cdl-right style input output l m n k = record {
 pub cdl-holds : Holds (λ n. sound n ≡ true) ascCdl
 unfolding ascCdl
 cdl-holds =
-    holds-then (startTag cdlRules) (λ tag. holds-seq Begun (content-holds tag)
-    (λ st i. holds-ret (sound-by (cdlNode (tag .attributes) st)
+    node-by cdlTexts cdlRules refl (λ tag d. holds-seq Begun (content-holds tag)
+    (λ st i. holds-ret (sound-by (cdlNode (tag .attributes) st) d
     (cdl-right (cdlStyle (textOf (bytes "style") (tag .attributes))) _ _ (sopNumbers st) (satNumbers st) (sop-there (st .sop) (i .sop)) (sat-there (st .sat) (i .sat))))))

@@ -8,7 +8,7 @@ use lib.Dec.{eqb, leb, ltb}
 use lib.ListN.{length, set}
 use borrow.Author.Tests.{eqb-true, eqb-false, ltb-true, leb-true, le-ltb}
 use Rattle.process_list.specs.declared.Verdict.{Verdict}
-use Rattle.process_list.specs.declared.Verdict.the-variants.{Accepted, NoNode, TooManyNodes, DepthDiffers, TooManyNumbers}
+use Rattle.process_list.specs.declared.Verdict.the-variants.{Accepted, NoNode, TooManyNodes, DepthDiffers, IdSeen, TooManyNumbers}
 use Rattle.process_list.specs.List.{Element, verdict}
 use Rattle.grammar.specs.Parse.{Out, done, fault, cut}
 use Rattle.clf.specs.Places.{nodeSpan}
@@ -41,6 +41,7 @@ module _ (room : ℕ) (s : List ℕ) (l : List Element) (old : readText room s �
   by-verdict at t m NoNode q = stays (refused 12 0) 12 0 refl
   by-verdict at t m TooManyNodes q = stays (refused 11 33) 11 33 refl
   by-verdict at t m (DepthDiffers k) q = stays (refused 10 k) 10 k refl
+  by-verdict at t m (IdSeen k) q = stays (refused 23 k) 23 k refl
   by-verdict at t m TooManyNumbers q = stays (refused 13 0) 13 0 refl
 
   by-list : (at : ℕ) (t : List ℕ) (m : List Element) → readText room t ≡ listReading room m
@@ -117,6 +118,7 @@ module _ (room : ℕ) (s : List ℕ) (l : List Element) (old : readText room s �
       go NoNode = tt
       go TooManyNodes = tt
       go (DepthDiffers k) = tt
+      go (IdSeen k) = tt
       go TooManyNumbers = tt
 
   module _ (k : ℕ) (e : List ℕ) (there : k - 1 < length l) where

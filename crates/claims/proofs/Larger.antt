@@ -6,7 +6,7 @@ use Prim.Native.Nat.{ℕ, _-_, min}
 use lib.Dec.{ltb}
 use lib.ListN.{length, set}
 use Rattle.process_list.specs.declared.Verdict.{Verdict}
-use Rattle.process_list.specs.declared.Verdict.the-variants.{Accepted, NoNode, TooManyNodes, DepthDiffers, TooManyNumbers}
+use Rattle.process_list.specs.declared.Verdict.the-variants.{Accepted, NoNode, TooManyNodes, DepthDiffers, IdSeen, TooManyNumbers}
 use Rattle.process_list.specs.List.{Element, mostNumbers, nodeOf, total, judged, verdict}
 use Rattle.process_list.proofs.RoomLast.{inRoom, room-last}
 use Rattle.grammar.specs.Parse.{Out, done, fault, cut}
@@ -37,6 +37,7 @@ listed-last room es = ap (Replacing.replacingBy es) (room-last room (map nodeOf 
     go NoNode = refl
     go TooManyNodes = refl
     go (DepthDiffers k) = refl
+    go (IdSeen k) = refl
     go TooManyNumbers = refl
 
 -- 13 COMES LAST, of replacing

@@ -4,12 +4,14 @@ pub mod Blamed
 pub mod BlamedNodes
 pub mod Always
 pub mod Numbers
+pub mod Attributes
 pub mod Held
 pub mod Sound
 pub mod Tables
 pub mod Ranges
 pub mod Cdls
 pub mod Accepted
+pub mod Unique
 pub mod Rules
 pub mod Element
 pub mod Starts

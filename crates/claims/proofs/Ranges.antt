@@ -14,7 +14,7 @@ use Rattle.decimal_write.specs.Written.{isNormal}
 use Rattle.process_list.specs.List.{numbersOf, sameDepth, rangeClamps}
 use Rattle.valid.specs.Valid.{shapeRight, rangeHolds, oneEndHolds, rulesHold, depthsRight, sound}
 use Rattle.xml.specs.Bytes.{bytes, same}
-use Rattle.xml.specs.Xml.{Attribute, startTag}
+use Rattle.xml.specs.Xml.{Attribute}
 use Rattle.xml.specs.Elements.{textElement}
 use Rattle.clf.specs.Numbers.{anyNumber}
 use Rattle.clf.specs.Nodes.{depthAt, orElse, nodeRules, RangeState, rangeIndex, valueAt, allThere, inOrder, inOf, outOf, onlyPair, pairEqual, oneEndFault, rangeMissing, onlyNumber, rangeBody}
@@ -23,6 +23,7 @@ use Rattle.claims.proofs.Always.{Holds, holds-ret, holds-cond, holds-se
 use Rattle.claims.proofs.Numbers.{Each, Carried, Kept, Counted, value-holds}
 use Rattle.claims.proofs.Held.{Ended, held-holds}
 use Rattle.claims.proofs.Sound.{and-true, sound-by}
+use Rattle.claims.proofs.Attributes.{IdAllowed, node-by}
 use Rattle.claims.proofs.Tables.{OptHolds}
 
 pub zero-carried : Carried Decimals.zero
@@ -76,15 +77,15 @@ in-order st e = go (inOrder st) refl e
     go true q z = q
     go false q z = absurd (omega arith)
 
-four-sound : (l : List Attribute) (st : RangeState) → Begun st → inOrder st ≡ true → sound (fourNode l st) ≡ true
+four-sound : (l : List Attribute) → IdAllowed l → (st : RangeState) → Begun st → inOrder st ≡ true → sound (fourNode l st) ≡ true
 unfolding shapeRight numbersOf rulesHold rangeHolds depthsRight
-four-sound l st v q =
+four-sound l d st v q =
     let at = carried-at st v in
-    sound-by (fourNode l st) (record { shape = refl; count = refl; each = (at 0, (at 1, (at 2, (at 3, tt)))); rules = q; depths = refl })
+    sound-by (fourNode l st) d (record { shape = refl; count = refl; each = (at 0, (at 1, (at 2, (at 3, tt)))); rules = q; depths = refl })
 
 -- ---- one pair alone, of either end
 
-module _ (l : List Attribute) (st : RangeState) (v : Begun st) (e : RangeEnd) where
+module _ (l : List Attribute) (d : IdAllowed l) (st : RangeState) (v : Begun st) (e : RangeEnd) where
   -- nothing is wrong with it: the start tag allows it, and its two values are equal
   allowed : oneEndFault (oneEndAllowedBy l) e st ≡ 0 → (oneEndAllowedBy l ≡ true) × (pairEqual e st ≡ true)
   unfolding oneEndFault
@@ -104,28 +105,28 @@ module _ (l : List Attribute) (st : RangeState) (v : Begun st) (e : RangeEnd) wh
   one-end-sound z =
       let at = carried-at st v in
       let a = allowed z in
-      sound-by (oneEndNode l e st) (record { shape = refl; count = refl; each = (at (inOf e), (at (outOf e), tt)); rules = a .1; depths = depths-equal (a .0) })
+      sound-by (oneEndNode l e st) d (record { shape = refl; count = refl; each = (at (inOf e), (at (outOf e), tt)); rules = a .1; depths = depths-equal (a .0) })
 
 -- ---- a Range that is read: nothing is missing at its end tag
 
-range-sound : (l : List Attribute) (st : RangeState) → Begun st → rangeMissing (oneEndAllowedBy l) st ≡ 0 → sound (rangeNode l st) ≡ true
+range-sound : (l : List Attribute) → IdAllowed l → (st : RangeState) → Begun st → rangeMissing (oneEndAllowedBy l) st ≡ 0 → sound (rangeNode l st) ≡ true
 unfolding rangeMissing
-range-sound l st v z = go (allThere st) (onlyPair Minimum st) (onlyPair Maximum st) z
+range-sound l d st v z = go (allThere st) (onlyPair Minimum st) (onlyPair Maximum st) z
   where
     faultOf : RangeEnd → ℕ
     faultOf e = oneEndFault (oneEndAllowedBy l) e st
 
     go : (a b c : Bool) → _≡_ {A = ℕ} (cond a (cond (inOrder st) 0 21) (cond b (faultOf Minimum) (cond c (faultOf Maximum) 5))) 0
         → sound (cond a (fourNode l st) (cond b (oneEndNode l Minimum st) (oneEndNode l Maximum st))) ≡ true
-    go true b c z = four-sound l st v (in-order st z)
-    go false true c z = one-end-sound l st v Minimum z
-    go false false true z = one-end-sound l st v Maximum z
+    go true b c z = four-sound l d st v (in-order st z)
+    go false true c z = one-end-sound l d st v Minimum z
+    go false false true z = one-end-sound l d st v Maximum z
     go false false false z = absurd (omega arith)
 
 pub range-holds : Holds (λ n. sound n ≡ true) range
 unfolding range
 range-holds =
-    holds-then (startTag (nodeRules (λ w. 0) rangeTexts))
-    (λ tag. let h = rangeHolder (oneEndAllowedBy (tag .attributes)) in
+    node-by rangeTexts (nodeRules (λ w. 0) rangeTexts) refl
+    (λ tag d. let h = rangeHolder (oneEndAllowedBy (tag .attributes)) in
     holds-seq (Ended h Begun (λ st v w f q. body-holds st v w)) (held-holds h Begun (λ st v w f q. body-holds st v w) none-yet)
-    (λ st e. holds-ret (range-sound (tag .attributes) st (e .state) (e .nothing))))
+    (λ st e. holds-ret (range-sound (tag .attributes) d st (e .state) (e .nothing))))

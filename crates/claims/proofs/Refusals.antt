@@ -9,7 +9,7 @@ use lib.Dec.{eqb, ltb}
 use lib.ListN.{length}
 use borrow.Author.Tests.{ltb-true}
 use Rattle.process_list.specs.declared.Verdict.{Verdict}
-use Rattle.process_list.specs.declared.Verdict.the-variants.{Accepted, NoNode, TooManyNodes, DepthDiffers, TooManyNumbers}
+use Rattle.process_list.specs.declared.Verdict.the-variants.{Accepted, NoNode, TooManyNodes, DepthDiffers, IdSeen, TooManyNumbers}
 use Rattle.process_list.specs.List.{Element, verdict}
 use Rattle.grammar.specs.Parse.{Out, done, fault, cut, thenOut, judgedTo as judgement, judgeOut, turnOut, loopP}
 use Rattle.grammar.specs.Laws.{nope, loop-step}
@@ -116,6 +116,7 @@ by-verdict n l Accepted = whole l
 by-verdict n l NoNode = list 12 0 refl
 by-verdict n l TooManyNodes = list 11 33 refl
 by-verdict n l (DepthDiffers k) = list 10 k refl
+by-verdict n l (IdSeen k) = list 23 k refl
 by-verdict n l TooManyNumbers = list 13 0 refl
 
 by-list : (n room : ℕ) (l : List Element) → Answered n (listReading room l)
@@ -132,7 +133,7 @@ by-document room s (done d r) q = by-tail room s d r (tail r) refl
 by-document room s (fault k r) q = text k (placeIn s r) (document-well .number s k r q) (omega arith)
 by-document room s cut q = short
 
--- THE NUMBERS OF A READING: 1 is given at the length and nowhere else, and no other number than those of document 01 is given
+-- THE NUMBERS OF A READING: 1 is given at the length and nowhere else, and no other number than those of documents 01 and 02 is given
 pub answered : AnswersNumbered
 unfolding readText
 answered room s = by-document room s (document .run s) refl

@@ -1,4 +1,4 @@
--- Every accepted list keeps all rules of document 01; with its room it is what refusal 16 asks for. Assumes nothing.
+-- Every accepted list keeps all rules of documents 01 and 02; with its room it is what refusal 16 asks for. Assumes nothing.
 use mathlib.Core.Path.{_≡_, refl}
 use mathlib.Core.Bool.{Bool, true, false, cond}
 use mathlib.Core.List.{List, map}
@@ -18,6 +18,7 @@ use Rattle.clf.specs.Reading.{accepted, faulty, mostBytes, readText, read}
 use Rattle.claims.specs.Rules.{Allowed}
 use Rattle.claims.proofs.Sound.{every-true}
 use Rattle.claims.proofs.Accepted.{Whole, text-whole}
+use Rattle.claims.proofs.Unique.{unique-from}
 use Rattle.claims.specs.Theorems.{AcceptedKeepsRules, AcceptedIsValid}
 
 -- what is accepted is at most 16 MiB, and accepted without that limit
@@ -52,6 +53,7 @@ whole-rules room l w =
       some = omega (arith, f .some);
       few = omega (arith, f .few);
       chained = f .chained;
+      unique = unique-from l (w .sounds) (f .apart);
       holds = omega (arith, f .holds, all-length l (w .sounds));
       nodes = w .sounds;
     }

@@ -8,6 +8,7 @@ use Rattle.decimal.specs.declared.Decimal.{Decimal}
 use Rattle.process_list.specs.declared.Depth.{Depth}
 use Rattle.process_list.specs.declared.Kind.{Kind}
 use Rattle.process_list.specs.List.{Element, numbersOf}
+use Rattle.ids.specs.Ids.{idAllowed}
 use Rattle.valid.specs.Valid.{every, carried, shapeRight, rulesHold, depthsRight, sound}
 use Rattle.grammar.specs.Laws.{nope}
 use Rattle.claims.proofs.Numbers.{Each, Carried}
@@ -30,6 +31,7 @@ unfolding every
 every-carried [] h = refl
 every-carried (x ∷ l) h = rw (carried-true x (h .0), every-carried l (h .1))
 
+-- all but its id
 pub record Right (kind : Kind) (input output : Depth) (ns : List Decimal) : Type 0 where
   pub shape : shapeRight kind ≡ true
   pub count : length ns ≡ numbersOf kind
@@ -37,6 +39,6 @@ pub record Right (kind : Kind) (input output : Depth) (ns : List Decimal) : Type
   pub rules : rulesHold kind ns ≡ true
   pub depths : depthsRight kind input output ≡ true
 
-pub sound-by : (e : Element) → Right (e .kind) (e .input) (e .output) (e .numbers) → sound e ≡ true
+pub sound-by : (e : Element) → idAllowed (e .id) ≡ true → Right (e .kind) (e .input) (e .output) (e .numbers) → sound e ≡ true
 unfolding sound
-sound-by e r = rw (r .shape, eq-eqb (length (e .numbers)) (numbersOf (e .kind)) (r .count), every-carried (e .numbers) (r .each), r .rules, r .depths)
+sound-by e i r = rw (r .shape, eq-eqb (length (e .numbers)) (numbersOf (e .kind)) (r .count), every-carried (e .numbers) (r .each), r .rules, r .depths, i)

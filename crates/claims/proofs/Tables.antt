@@ -25,6 +25,7 @@ use Rattle.claims.proofs.Always.{Holds, holds-ret, holds-bad, holds-con
 use Rattle.claims.proofs.Numbers.{each-map, Carried, Kept, Counted, numbers-hold}
 use Rattle.claims.proofs.Held.{Ended, held-holds}
 use Rattle.claims.proofs.Sound.{sound-by}
+use Rattle.claims.proofs.Attributes.{IdAllowed, node-by}
 
 -- an option's value has a fact
 abbrev pub OptHolds : {A : Type 0} → (A → Type 0) → Option A → Type 0
@@ -62,11 +63,11 @@ module _ (shape : List ℕ → Option Kind) where
       holds-cond (same w (bytes "Array")) (λ z. holds-seq (Tabled shape) (array-holds) (λ t k. holds-ret k)) (λ z. holds-then (textElement w) (λ t. holds-ret i))
 
   module _ (w : List ℕ) (right : (dim : List ℕ) (k : Kind) → shape dim ≡ some k → Plain k) where
-    table-right : (l : List Attribute) (o : Option Table) → OptHolds (Tabled shape) o → _≡_ {A = ℕ} (cond (isSome o) 0 5) 0
+    table-right : (l : List Attribute) → IdAllowed l → (o : Option Table) → OptHolds (Tabled shape) o → _≡_ {A = ℕ} (cond (isSome o) 0 5) 0
         → sound (tableNode l (record { table = o })) ≡ true
-    table-right l none i z = absurd (omega arith)
-    table-right l (some t) i z =
-        sound-by (tableNode l (record { table = some t }))
+    table-right l d none i z = absurd (omega arith)
+    table-right l d (some t) i z =
+        sound-by (tableNode l (record { table = some t })) d
         (record {
           shape = right (i .dim) (t .0) (i .shaped) .shape;
           count = i .counted .count;
@@ -75,11 +76,11 @@ module _ (shape : List ℕ → Option Kind) where
           depths = right (i .dim) (t .0) (i .shaped) .depths _ _;
         })
 
-    pub table-holds : (l : List Attribute) → Holds (λ n. sound n ≡ true) (seq (held (arrayHolder w shape) noArray) (λ st. ret (tableNode l st)))
-    table-holds l =
+    pub table-holds : (l : List Attribute) → IdAllowed l → Holds (λ n. sound n ≡ true) (seq (held (arrayHolder w shape) noArray) (λ st. ret (tableNode l st)))
+    table-holds l d =
         holds-seq (Ended (arrayHolder w shape) Begun (λ st i v h q. body-holds st i v))
         (held-holds (arrayHolder w shape) Begun (λ st i v h q. body-holds st i v) tt)
-        (λ st e. holds-ret (table-right l (st .table) (e .state) (e .nothing)))
+        (λ st e. holds-ret (table-right l d (st .table) (e .state) (e .nothing)))
 
 -- ---- the three shapes
 
@@ -146,15 +147,15 @@ cube-right i dim k e = go (leb 2 n) (leb n 33) (same dim (cubeDim n)) refl refl 
 
 pub matrix-holds : Holds (λ n. sound n ≡ true) matrix
 unfolding matrix
-matrix-holds = holds-then (startTag (nodeRules (λ w. 0) (λ w t. 0))) (λ tag. table-holds matrixShape (bytes "Matrix") matrix-right (tag .attributes))
+matrix-holds = node-by (λ w t. 0) (nodeRules (λ w. 0) (λ w t. 0)) refl (λ tag. table-holds matrixShape (bytes "Matrix") matrix-right (tag .attributes))
 
 pub lut1d-holds : Holds (λ n. sound n ≡ true) lut1d
 unfolding lut1d
-lut1d-holds = holds-then (startTag (nodeRules lutNames lutTexts)) (λ tag. table-holds lutShape (bytes "LUT1D") lut-right (tag .attributes))
+lut1d-holds = node-by lutTexts (nodeRules lutNames lutTexts) refl (λ tag. table-holds lutShape (bytes "LUT1D") lut-right (tag .attributes))
 
 pub lut3d-holds : Holds (λ n. sound n ≡ true) lut3d
 unfolding lut3d
 lut3d-holds =
-    holds-then (startTag (nodeRules (λ w. 0) cubeTexts)) (λ tag.
+    node-by cubeTexts (nodeRules (λ w. 0) cubeTexts) refl (λ tag.
     let i = interpolationOf (textOf (bytes "interpolation") (tag .attributes)) in
     table-holds (cubeShape i) (bytes "LUT3D") (cube-right i) (tag .attributes))

@@ -1,4 +1,4 @@
--- Demand 3 (document 01, Demand 3's file; document 02, W-208): a replacing call by the file, runs of calls of both kinds, and that they are those by the list alone.
+-- Demand 3 (document 01, Demand 3's file; document 02, W-203 and W-208): a replacing call by the file, runs of calls of both kinds, and that they are those by the list alone.
 use mathlib.Core.Path.{_≡_}
 use mathlib.Core.Bool.{cond}
 use mathlib.Core.List.{List, [], _∷_, _++_}
@@ -56,7 +56,7 @@ unfoldable pub attempt : List ℕ → List ℕ → Call → Attempt
 attempt s kept c = attemptIn s kept c (document .run s)
 
 -- 'else it answers as reading the tried file into room of the same length does: 0, and the tried file takes over; 10 or 13, with reading's place;
--- another number, with reading's place less the start of node k. Refused, the old file stays'
+-- another number, with reading's place less the start of node k. Refused, the old file stays'. 23 has reading's place too, 'being treated as the depth refusal is' (02, W-203)
 abbrev pub answeredBy : ℕ → List ℕ → List ℕ → Reading → Replacing × List ℕ
 answeredBy at s t (accepted l) = (replaced l, t)
 answeredBy at s t (faulty n p) = (refused n (p - at), s)

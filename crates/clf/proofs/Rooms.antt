@@ -1,4 +1,4 @@
--- Refusal 13 comes last (document 01, Refusal numbers: '12, 11, 10, 13'), so a reading into another room is the same but for 13. Assumes nothing.
+-- Refusal 13 comes last (document 01, Refusal numbers: '12, 11, 10, 13', and 23 'before 13', document 02, W-203), so a reading into another room is the same but for 13. Assumes nothing.
 use mathlib.Core.Path.{_≡_, refl, sym, ap, _∙_}
 use mathlib.Core.Bool.{Bool, true, false, cond}
 use mathlib.Core.List.{List, map}
@@ -8,7 +8,7 @@ use lib.Dec.{ltb}
 use lib.ListN.{length}
 use borrow.Author.Tests.{lt-ltb, le-ltb, ltb-false}
 use Rattle.process_list.specs.declared.Verdict.{Verdict}
-use Rattle.process_list.specs.declared.Verdict.the-variants.{Accepted, NoNode, TooManyNodes, DepthDiffers, TooManyNumbers}
+use Rattle.process_list.specs.declared.Verdict.the-variants.{Accepted, NoNode, TooManyNodes, DepthDiffers, IdSeen, TooManyNumbers}
 use Rattle.process_list.specs.List.{Element, nodeOf, total, judged, verdict, mostNumbers}
 use Rattle.process_list.proofs.RoomLast.{inRoom, room-last}
 use Rattle.grammar.specs.Parse.{Out, done, fault, cut}
@@ -35,6 +35,7 @@ by-verdict room l Accepted = by (ltb (min room mostNumbers) (numberCount l))
 by-verdict room l NoNode = refl
 by-verdict room l TooManyNodes = refl
 by-verdict room l (DepthDiffers k) = refl
+by-verdict room l (IdSeen k) = refl
 by-verdict room l TooManyNumbers = refl
 
 list-in : (room : ℕ) (l : List Element) → listReading room l ≡ readIn room (listReading mostNumbers l)

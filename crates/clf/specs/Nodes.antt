@@ -29,6 +29,7 @@ use Rattle.xml.specs.Bytes.{bytes, same, isDigit}
 use Rattle.xml.specs.Xml.{Attribute, isNamed, textOf, Rules, plain, Tag, startTag}
 use Rattle.xml.specs.Elements.{Holder, held, textElement}
 use Rattle.clf.specs.Numbers.{numbers, anyNumber, notBelowZero, mustBeOne, valueElement}
+use Rattle.ids.specs.Ids.{idRight, mostNodeIdBytes}
 use Rattle.refusals.specs.Refusals as Refusal
 
 abbrev pub isSome : {A : Type 0} → Option A → Bool
@@ -50,9 +51,11 @@ depthOf t =
     (cond (same t (bytes "16f")) (some F16)
     (cond (same t (bytes "32f")) (some F32) none)))))
 
--- a text that is no depth is 8, on these two attributes; others are judged by `rest`
+-- a text that is no depth is 8, on these two attributes; '24 for an id that is not 1 to 32 bytes of letters, digits, `-`, `_`, `.`, at the value' (02, W-203); others are judged by `rest`
 abbrev pub nodeTexts : (List ℕ → List ℕ → ℕ) → List ℕ → List ℕ → ℕ
-nodeTexts rest w t = cond (same w (bytes "inBitDepth") || same w (bytes "outBitDepth")) (cond (isSome (depthOf t)) 0 Refusal.wrongAttribute) (rest w t)
+nodeTexts rest w t =
+    cond (same w (bytes "inBitDepth") || same w (bytes "outBitDepth")) (cond (isSome (depthOf t)) 0 Refusal.wrongAttribute)
+    (cond (same w (bytes "id")) (cond (idRight mostNodeIdBytes t) 0 Refusal.wrongNodeId) (rest w t))
 
 -- one of the two that is missing is 8
 abbrev pub nodeMissing : List Attribute → ℕ
@@ -62,9 +65,15 @@ nodeMissing l = cond (isNamed (bytes "inBitDepth") l && isNamed (bytes "outBitDe
 abbrev pub depthAt : List ℕ → List Attribute → Depth
 depthAt w l = orElse I8 (depthOf (textOf w l))
 
--- the node of these attributes and this content: what the list holds of it. Its Descriptions are passed over
+-- the node of these attributes and this content: what the list holds of it. Its id is the text of its `id`, no bytes where it has none (02, W-203). Its Descriptions are passed over
 abbrev pub elementWith : List Attribute → Kind → List Decimal → Element
-elementWith l kind ns = record { kind = kind; input = depthAt (bytes "inBitDepth") l; output = depthAt (bytes "outBitDepth") l; numbers = ns }
+elementWith l kind ns = record {
+  kind = kind;
+  input = depthAt (bytes "inBitDepth") l;
+  output = depthAt (bytes "outBitDepth") l;
+  id = textOf (bytes "id") l;
+  numbers = ns;
+}
 
 -- the rules of a node's start tag; one that may not be empty lacks an element: 5 at the `/>`, the lowest there
 abbrev pub nodeRules : (List ℕ → ℕ) → (List ℕ → List ℕ → ℕ) → Rules

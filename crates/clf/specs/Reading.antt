@@ -1,4 +1,4 @@
--- Reading a file (document 01, Refusal numbers): 4 first; then the fault with the smallest place; then, only over text without fault, 12, 11, 10, 13.
+-- Reading a file (document 01, Refusal numbers): 4 first; then the fault with the smallest place; then, only over text without fault, 12, 11, 10, 23 (document 02, W-203), 13.
 use mathlib.Core.Bool.{Bool, true, false, cond, _&&_}
 use mathlib.Core.List.{List, [], _∷_, _++_, map}
 use Prim.Native.Nat.{ℕ, _-_}

@@ -6,7 +6,7 @@ use process_list::Node;
 use process_list::ProcessList;
 
 fn put_node(buffer: &mut [u8], at: usize, node: Node) -> usize {
-    let mut piece = [0u8; 96];
+    let mut piece = [0u8; 192];
     let n = shell_text::show::put_node(&mut piece, 0, node);
     put_piece(buffer, at, &piece, n)
 }

@@ -3,3 +3,4 @@ pub mod Readings
 pub mod Table
 pub mod Cubes
 pub mod Ends
+pub mod Names

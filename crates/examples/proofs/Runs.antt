@@ -5,6 +5,8 @@ use Rattle.decimal_read.specs.Number.{formOf, append, withSign, digitsNumber, s
 use Rattle.decimal_value.specs.Value.{valueOf, powered, tenTo, less, atMost, notNegative, isOne}
 use Rattle.decimal_write.specs.Written as Written
 use Rattle.process_list.specs.List as List
+use Rattle.xml.specs.Bytes as Bytes
+use Rattle.ids.specs.Ids.{idAllowed, heldId, noId, idText, isHeld, isGiven, isAmong, repeats}
 use Rattle.room.specs.Room.{roomLength}
 use Rattle.valid.specs.Valid.{every, pairs, numbersAt, elementOf, elementsOf, tableRight, shapeRight, carried, rangeHolds, slopesHold, powersHold, cdlHolds, rulesHold, depthsRight, sound}
 use Rattle.valid.specs.Valid.{gapless, isBlank, listRight, restZero, zeroFrom, isValid}
@@ -29,7 +31,8 @@ unfolding
     tokenOf
     valueOf powered tenTo less atMost notNegative isOne Written.isNormal
     List.sameDepth List.scaleOf List.numbersOf List.unplaced List.withPosition List.nodeOf List.total List.placeFrom List.placed List.allNumbers List.blankNode List.listOf List.nodesOf List.differs
-    List.firstDiffers List.judged
+    List.firstDiffers List.idsOf List.firstRepeat List.judged
+    Bytes.same idAllowed heldId noId idText isHeld isGiven isAmong repeats
     roomLength every pairs numbersAt elementOf elementsOf tableRight shapeRight carried rangeHolds slopesHold powersHold cdlHolds rulesHold depthsRight sound gapless isBlank listRight restZero zeroFrom isValid
     hold toFraction toFractions toCodeValue toCodeValues rangeScale rangeShift rangeLine rangeComponent rangePixel rowOut matrixPixel heldForFwd sop sopPixel satPixel cdlPixel
     numberAt rowAt rowsAt position floorTo index remainder interpolated stepped lookedUp entryAt columnOf tableIn lookedUpAll lut1dPixel

@@ -27,7 +27,7 @@ fileWith attributes content =
     ++ bytes attributes ++ bytes content ++ bytes "</ProcessList>"
 
 abbrev pub nodeAt : Depth → Depth → Kind → List String → Element
-nodeAt input output kind numbers = record { kind = kind; input = input; output = output; numbers = map decimal numbers }
+nodeAt input output kind numbers = record { kind = kind; input = input; output = output; id = []; numbers = map decimal numbers }
 
 -- what is asked of a file: what reading it into a room for 262,144 numbers answers
 abbrev pub fileOutcome : List ℕ → Reading

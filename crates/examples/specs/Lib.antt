@@ -1,3 +1,4 @@
 pub mod Starred
 pub mod Cubes
 pub mod Ends
+pub mod Names

@@ -74,7 +74,7 @@ f64 t = valueOf (decimal t)
 
 -- a node 'at 32f'
 abbrev pub at32f : Kind → List String → Element
-at32f kind numbers = record { kind = kind; input = F32; output = F32; numbers = map decimal numbers }
+at32f kind numbers = record { kind = kind; input = F32; output = F32; id = []; numbers = map decimal numbers }
 
 -- 'LUT1D 0, 0.25, 1 at 32f'
 abbrev pub lut1d : Element

@@ -1,5 +1,6 @@
 -- A child of ProcessList, by what its parts answered. Assumes nothing.
 use Rattle.process_list.specs.List.{Element, allNumbers}
+use Rattle.process_list.specs.List as Lists
 use mathlib.Core.Path.{_≡_, refl, sym, ap, _∙_, subst}
 use mathlib.Core.Bool.{Bool, true, false, cond}
 use mathlib.Core.List.{List, []}
@@ -29,9 +30,11 @@ use Rattle.clf.specs.Nodes.{nodeName, nodeBody, nodeFault}
 use Rattle.clf.specs.Nodes as Names
 use Rattle.clf.specs.List.{Child, node, description, inputDescriptor, outputDescriptor, infoChild, Flags, childFault, childBody}
 use Rattle.clf.specs.Reading.{withChild}
-use Rattle.file_text.specs.declared.ListState.{ListState}
-use Rattle.file_text.specs.declared.ListStep.{ListStep}
-use Rattle.file_text.specs.Code.{flagsOf, Counted, ChildLeaves, ChildReads, refused, read, step, inputStep, outputStep, infoStep, nodeState, childState, CarriedReads, NodeChild, carried, other}
+use Rattle.file_text.specs.declared.Progress.{Progress}
+use Rattle.file_text.specs.declared.FoundChild.{FoundChild}
+use Rattle.file_text.specs.declared.FoundChild.the-variants as Found
+use Rattle.file_text.specs.declared.ChildStep.{ChildStep}
+use Rattle.file_text.specs.Code.{flagsOf, Counted, ChildLeaves, ChildReads, refused, read, foundChild, nodeFound, onceChild, CarriedReads, NodeChild, carried, other}
 use Rattle.file_text.proofs.Nodes.{numbers-one, counted-one, counted-none}
 
 -- ---- children that are not nodes
@@ -41,14 +44,15 @@ nothing-laid : (u : ℕ) (m : Room) → m ≡ laidIn u (allNumbers []) m
 unfolding allNumbers
 nothing-laid u m = sym (laid-nothing u m)
 
-leaves-room : (wanted at : ℕ) (st : ListState) (c : Child) (r : Scan) (m : Room) → withChild c [] ≡ [] → ChildLeaves wanted at st c r (childState wanted at st c) m m
-leaves-room wanted at st c (Scans.At e) m q = (
+leaves-room : (used : ℕ) (c : Child) (r : Scan) (m : Room) → withChild c [] ≡ [] → Lists.blankNode ≡ nodeFound c → ChildLeaves used c r (foundChild c) Lists.blankNode m m
+leaves-room used c (Scans.At e) m q u = (
   refl,
+  u,
   subst (λ (l : List Element). Counted l) (sym q) counted-none,
-  subst (λ (l : List Element). m ≡ laidIn (st .used) (allNumbers l) m) (sym q) (nothing-laid (st .used) m),
+  subst (λ (l : List Element). m ≡ laidIn used (allNumbers l) m) (sym q) (nothing-laid used m),
 )
-leaves-room wanted at st c (Scans.Fault k p) m q = from-refl (st .used) m
-leaves-room wanted at st c Scans.Cut m q = from-refl (st .used) m
+leaves-room used c (Scans.Fault k p) m q u = from-refl used m
+leaves-room used c Scans.Cut m q u = from-refl used m
 
 -- ---- a child by the tests of its name
 
@@ -88,36 +92,36 @@ module _ (w : List ℕ) (d i o f : Bool) (qd : isD w ≡ d) (qi : isI w ≡ i) (
       ap (λ (x : Bool). (pickBody x (isI w) (isO w) (isF w) w (nodeName w)) .run u) qd ∙ ap (λ (x : Bool). (pickBody d x (isO w) (isF w) w (nodeName w)) .run u) qi
       ∙ ap (λ (x : Bool). (pickBody d i x (isF w) w (nodeName w)) .run u) qo ∙ ap (λ (x : Bool). (pickBody d i o x w (nodeName w)) .run u) qf
 
-module _ (wanted : ℕ) (s w : List ℕ) (at e : ℕ) (st : ListState) (m : Room) (r : Scan) where
-  then-child : (p : Parser (Unit {0})) (c : Child) → Reads 1 p noValue s e r → scanOut (λ q. c) s r ≡ bindP p (λ a. retP c) (drop e s)
-  then-child p c h = (reads-ret p noValue c s e 1 r h) .out
+module _ (s w : List ℕ) (at e : ℕ) (p : Progress) (m : Room) (r : Scan) where
+  then-child : (b : Parser (Unit {0})) (c : Child) → Reads 1 b noValue s e r → scanOut (λ q. c) s r ≡ bindP b (λ a. retP c) (drop e s)
+  then-child b c h = (reads-ret b noValue c s e 1 r h) .out
 
-  pub child-description : isD w ≡ true → Reads 1 ((textElement w) .run) noValue s e r → ChildReads wanted s w at e st (step r st) m m
+  pub child-description : isD w ≡ true → Reads 1 ((textElement w) .run) noValue s e r → ChildReads s w at e p (onceChild at false r Found.Other) m m
   child-description t h =
-      read description (fault-by w true (isI w) (isO w) (isF w) t refl refl refl (flagsOf st))
+      read description (fault-by w true (isI w) (isO w) (isF w) t refl refl refl (flagsOf p))
       (then-child ((textElement w) .run) description h ∙ sym (body-by w true (isI w) (isO w) (isF w) t refl refl refl (drop e s)))
-      (h .inside) (leaves-room wanted at st description r m refl)
+      (h .inside) (leaves-room (p .used) description r m refl refl)
 
   -- one of those that may not repeat: the first, or another
-  once : (k : Child) (b : Bool) → childFault (flagsOf st) w ≡ cond b 5 0 → scanOut (λ q. k) s r ≡ (childBody w) .run (drop e s) → Inside 1 s e r
-      → withChild k [] ≡ [] → ChildReads wanted s w at e st (cond b (step (Scans.Fault 5 at) st) (step r (childState wanted at st k))) m m
-  once k true q z n y = refused 5 q (λ g. omega arith) refl refl
-  once k false q z n y = read k q z n (leaves-room wanted at st k r m y)
+  once : (k : Child) (b : Bool) → childFault (flagsOf p) w ≡ cond b 5 0 → scanOut (λ q. k) s r ≡ (childBody w) .run (drop e s) → Inside 1 s e r
+      → withChild k [] ≡ [] → Lists.blankNode ≡ nodeFound k → ChildReads s w at e p (onceChild at b r (foundChild k)) m m
+  once k true q z n y u = refused 5 q (λ g. omega arith) refl refl
+  once k false q z n y u = read k q z n (leaves-room (p .used) k r m y u)
 
-  pub child-input : isD w ≡ false → isI w ≡ true → Reads 1 ((textElement w) .run) noValue s e r → ChildReads wanted s w at e st (inputStep at st r) m m
+  pub child-input : isD w ≡ false → isI w ≡ true → Reads 1 ((textElement w) .run) noValue s e r → ChildReads s w at e p (onceChild at (p .input) r Found.InputDescriptor) m m
   child-input d t h =
-      once inputDescriptor (st .input) (fault-by w false true (isO w) (isF w) d t refl refl (flagsOf st))
-      (then-child ((textElement w) .run) inputDescriptor h ∙ sym (body-by w false true (isO w) (isF w) d t refl refl (drop e s))) (h .inside) refl
+      once inputDescriptor (p .input) (fault-by w false true (isO w) (isF w) d t refl refl (flagsOf p))
+      (then-child ((textElement w) .run) inputDescriptor h ∙ sym (body-by w false true (isO w) (isF w) d t refl refl (drop e s))) (h .inside) refl refl
 
-  pub child-output : isD w ≡ false → isI w ≡ false → isO w ≡ true → Reads 1 ((textElement w) .run) noValue s e r → ChildReads wanted s w at e st (outputStep at st r) m m
+  pub child-output : isD w ≡ false → isI w ≡ false → isO w ≡ true → Reads 1 ((textElement w) .run) noValue s e r → ChildReads s w at e p (onceChild at (p .output) r Found.OutputDescriptor) m m
   child-output d i t h =
-      once outputDescriptor (st .output) (fault-by w false false true (isF w) d i t refl (flagsOf st))
-      (then-child ((textElement w) .run) outputDescriptor h ∙ sym (body-by w false false true (isF w) d i t refl (drop e s))) (h .inside) refl
+      once outputDescriptor (p .output) (fault-by w false false true (isF w) d i t refl (flagsOf p))
+      (then-child ((textElement w) .run) outputDescriptor h ∙ sym (body-by w false false true (isF w) d i t refl (drop e s))) (h .inside) refl refl
 
-  pub child-info : isD w ≡ false → isI w ≡ false → isO w ≡ false → isF w ≡ true → Reads 1 (info .run) noValue s e r → ChildReads wanted s w at e st (infoStep at st r) m m
+  pub child-info : isD w ≡ false → isI w ≡ false → isO w ≡ false → isF w ≡ true → Reads 1 (info .run) noValue s e r → ChildReads s w at e p (onceChild at (p .info) r Found.Info) m m
   child-info d i o t h =
-      once infoChild (st .info) (fault-by w false false false true d i o t (flagsOf st))
-      (then-child (info .run) infoChild h ∙ sym (body-by w false false false true d i o t (drop e s))) (h .inside) refl
+      once infoChild (p .info) (fault-by w false false false true d i o t (flagsOf p))
+      (then-child (info .run) infoChild h ∙ sym (body-by w false false false true d i o t (drop e s))) (h .inside) refl refl
 
 -- ---- nodes
 
@@ -127,30 +131,31 @@ node-value q v s e (Scans.Fault k i) z = ap (λ (o : Out Element). thenOut o (λ
 node-value q v s e Scans.Cut z = ap (λ (o : Out Element). thenOut o (λ m. retP (node m))) z
 
 -- what a node leaves, by its answer
-node-leaves : (wanted at : ℕ) (st : ListState) (n : Node) (v : Element) (r : Scan) (m₁ m₂ : Room) → n ≡ nodeAfter r v → AllNumbers r v → m₂ ≡ roomAfter (st .used) r (v .numbers) m₁
-    → ChildLeaves wanted at st (node v) r (nodeState st n wanted at) m₁ m₂
-node-leaves wanted at st n v (Scans.At e) m₁ m₂ q k z = (
-  ap (λ (x : Node). nodeState st x wanted at) q,
+node-leaves : (used : ℕ) (n : Node) (v : Element) (r : Scan) (m₁ m₂ : Room) → n ≡ nodeAfter r v → AllNumbers r v → m₂ ≡ roomAfter used r (v .numbers) m₁
+    → ChildLeaves used (node v) r Found.Node n m₁ m₂
+node-leaves used n v (Scans.At e) m₁ m₂ q k z = (
+  refl,
+  q,
   counted-one v k,
-  z ∙ ap (λ (xs : List Decimal). laidIn (st .used) xs m₁) (sym (numbers-one v)),
+  z ∙ ap (λ (xs : List Decimal). laidIn used xs m₁) (sym (numbers-one v)),
 )
-node-leaves wanted at st n v (Scans.Fault j p) m₁ m₂ q k z = subst (λ (m : Room). RoomFrom (st .used) m₁ m) (sym z) (from-cleared (st .used) (st .used) m₁ (omega arith))
-node-leaves wanted at st n v Scans.Cut m₁ m₂ q k z = subst (λ (m : Room). RoomFrom (st .used) m₁ m) (sym z) (from-cleared (st .used) (st .used) m₁ (omega arith))
+node-leaves used n v (Scans.Fault j p) m₁ m₂ q k z = subst (λ (m : Room). RoomFrom used m₁ m) (sym z) (from-cleared used used m₁ (omega arith))
+node-leaves used n v Scans.Cut m₁ m₂ q k z = subst (λ (m : Room). RoomFrom used m₁ m) (sym z) (from-cleared used used m₁ (omega arith))
 
-module _ (wanted : ℕ) (s w : List ℕ) (at e : ℕ) (st : ListState) (r : ListStep) (name : NodeName) (m₁ m₂ : Room)
+module _ (s w : List ℕ) (at e : ℕ) (p : Progress) (r : ChildStep) (name : NodeName) (m₁ m₂ : Room)
     (d : isD w ≡ false) (i : isI w ≡ false) (o : isO w ≡ false) (f : isF w ≡ false) (nm : nameOf name ≡ nodeName w) where
-  read-node : (n : CarriedNode) → nodeName w ≡ carriedOf n → CarriedReads wanted s at e n st r m₁ m₂ → ChildReads wanted s w at e st r m₁ m₂
+  read-node : (n : CarriedNode) → nodeName w ≡ carriedOf n → CarriedReads s e n (p .used) r m₁ m₂ → ChildReads s w at e p r m₁ m₂
   read-node n q h =
-      let v : NodeReads ((nodeBody (carriedOf n)) .run) s e (st .used) (h .node) m₁ m₂ = h .reads in
-      subst (λ (x : ListStep). ChildReads wanted s w at e st x m₁ m₂) (sym (h .is))
-      (read (node (v .value)) (fault-by w false false false false d i o f (flagsOf st) ∙ ap nodeFault q ∙ carried-well n)
+      let v : NodeReads ((nodeBody (carriedOf n)) .run) s e (p .used) (h .node) m₁ m₂ = h .reads in
+      subst (λ (x : ChildStep). ChildReads s w at e p x m₁ m₂) (sym (h .is))
+      (read (node (v .value)) (fault-by w false false false false d i o f (flagsOf p) ∙ ap nodeFault q ∙ carried-well n)
       (node-value ((nodeBody (carriedOf n)) .run) (v .value) s e (h .node .scan) (v .out)
       ∙ sym (body-by w false false false false d i o f (drop e s) ∙ ap (λ (x : Names.NodeName). bindP ((nodeBody x) .run) (λ m. retP (node m)) (drop e s)) q))
-      (v .inside) (node-leaves wanted at st (h .node .node) (v .value) (h .node .scan) m₁ m₂ (v .node) (v .all) (v .room)))
+      (v .inside) (node-leaves (p .used) (h .node .node) (v .value) (h .node .scan) m₁ m₂ (v .node) (v .all) (v .room)))
 
-  pub child-node : NodeChild wanted s at e name st r m₁ m₂ → ChildReads wanted s w at e st r m₁ m₂
+  pub child-node : NodeChild s at e name (p .used) r m₁ m₂ → ChildReads s w at e p r m₁ m₂
   child-node (carried n q h) = read-node n (sym nm ∙ q) h
-  child-node (other k q z x y) = refused k (fault-by w false false false false d i o f (flagsOf st) ∙ ap nodeFault (sym nm) ∙ q) z x y
+  child-node (other k q z x y) = refused k (fault-by w false false false false d i o f (flagsOf p) ∙ ap nodeFault (sym nm) ∙ q) z x y
 
 -- ---- the slices keep their lengths
 
@@ -162,21 +167,21 @@ roomed base Scans.Cut xs m₁ m₂ z = subst (λ (m : Room). RoomFrom base m₁ 
 pub node-room : {p : Parser Element} {s : List ℕ} {e base : ℕ} {n : NodeStep} {m₁ m₂ : Room} → NodeReads p s e base n m₁ m₂ → RoomFrom base m₁ m₂
 node-room {base = base} {n = n} {m₁ = m₁} {m₂ = m₂} h = roomed base (n .scan) (h .value .numbers) m₁ m₂ (h .room)
 
-pub carried-room : {wanted : ℕ} {s : List ℕ} {at e : ℕ} {n : CarriedNode} {st : ListState} {r : ListStep} {m₁ m₂ : Room} → CarriedReads wanted s at e n st r m₁ m₂ → RoomFrom (st .used) m₁ m₂
+pub carried-room : {s : List ℕ} {e : ℕ} {n : CarriedNode} {used : ℕ} {r : ChildStep} {m₁ m₂ : Room} → CarriedReads s e n used r m₁ m₂ → RoomFrom used m₁ m₂
 carried-room h = node-room (h .reads)
 
 same-from : (base : ℕ) (m₁ m₂ : Room) → m₂ ≡ m₁ → RoomFrom base m₁ m₂
 same-from base m₁ m₂ e = subst (λ (m : Room). RoomFrom base m₁ m) (sym e) (from-refl base m₁)
 
-pub child-by-node : {wanted : ℕ} {s : List ℕ} {at e : ℕ} {name : NodeName} {st : ListState} {r : ListStep} {m₁ m₂ : Room} → NodeChild wanted s at e name st r m₁ m₂ → RoomFrom (st .used) m₁ m₂
+pub child-by-node : {s : List ℕ} {at e : ℕ} {name : NodeName} {used : ℕ} {r : ChildStep} {m₁ m₂ : Room} → NodeChild s at e name used r m₁ m₂ → RoomFrom used m₁ m₂
 child-by-node (carried n q h) = carried-room h
-child-by-node {st = st} {m₁ = m₁} {m₂ = m₂} (other k q z x y) = same-from (st .used) m₁ m₂ y
+child-by-node {used = used} {m₁ = m₁} {m₂ = m₂} (other k q z x y) = same-from used m₁ m₂ y
 
-leaves-from : (wanted at : ℕ) (st : ListState) (c : Child) (r : Scan) (next : ListState) (m₁ m₂ : Room) → ChildLeaves wanted at st c r next m₁ m₂ → RoomFrom (st .used) m₁ m₂
-leaves-from wanted at st c (Scans.At e) next m₁ m₂ h = subst (λ (m : Room). RoomFrom (st .used) m₁ m) (sym (h .2)) (from-laid (st .used) (st .used) (allNumbers (withChild c [])) m₁ (omega arith))
-leaves-from wanted at st c (Scans.Fault k p) next m₁ m₂ h = h
-leaves-from wanted at st c Scans.Cut next m₁ m₂ h = h
+leaves-from : (used : ℕ) (c : Child) (r : Scan) (found : FoundChild) (n : Node) (m₁ m₂ : Room) → ChildLeaves used c r found n m₁ m₂ → RoomFrom used m₁ m₂
+leaves-from used c (Scans.At e) found n m₁ m₂ h = subst (λ (m : Room). RoomFrom used m₁ m) (sym (h .3)) (from-laid used used (allNumbers (withChild c [])) m₁ (omega arith))
+leaves-from used c (Scans.Fault k p) found n m₁ m₂ h = h
+leaves-from used c Scans.Cut found n m₁ m₂ h = h
 
-pub child-room : (wanted : ℕ) (s w : List ℕ) (at e : ℕ) (st : ListState) (r : ListStep) (m₁ m₂ : Room) → ChildReads wanted s w at e st r m₁ m₂ → RoomFrom (st .used) m₁ m₂
-child-room wanted s w at e st r m₁ m₂ (refused k f z y o) = same-from (st .used) m₁ m₂ o
-child-room wanted s w at e st r m₁ m₂ (read c f z b y) = leaves-from wanted at st c (r .scan) (r .state) m₁ m₂ y
+pub child-room : (s w : List ℕ) (at e : ℕ) (p : Progress) (r : ChildStep) (m₁ m₂ : Room) → ChildReads s w at e p r m₁ m₂ → RoomFrom (p .used) m₁ m₂
+child-room s w at e p r m₁ m₂ (refused k f z y o) = same-from (p .used) m₁ m₂ o
+child-room s w at e p r m₁ m₂ (read c f z b y) = leaves-from (p .used) c (r .scan) (r .child) (r .node) m₁ m₂ y

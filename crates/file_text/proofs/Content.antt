@@ -6,7 +6,7 @@ use Prim.Native.Nat.{ℕ, _+_, _≤_, _<_}
 use native.Mathlib.Omega.{arith}
 use lib.ListN.{length, drop}
 use Rattle.grammar.specs.Parse.{done, fault, cut, again}
-use Rattle.grammar.specs.Grammar.{items, wholeItems}
+use Rattle.grammar.specs.Grammar.{wholeItems}
 use Rattle.grammar.specs.Splice.{flat}
 use Rattle.xml.specs.Bytes.{bytes}
 use Rattle.xml.specs.Xml.{endTag}
@@ -15,6 +15,7 @@ use Rattle.xml.specs.declared.Scan.{Scan}
 use Rattle.xml.specs.declared.Scan.the-variants as Scans
 use Rattle.xml.specs.Code.{scanOut, Inside, Reads, noValue, part, Failed}
 use Rattle.process_list.specs.List as Lists
+use Rattle.process_list.specs.declared.Node.{Node}
 use Rattle.room.specs.Room.{Room, laidIn}
 use Rattle.room.proofs.Rooms.{RoomFrom, from-refl, from-trans}
 use Rattle.markup.specs.Items.{ItemReads}
@@ -28,9 +29,12 @@ use Rattle.tags.proofs.Words.{part-in}
 use Rattle.clf.specs.List.{Child, Flags, noFlags, childFault, childBody, listItem, nextFlags}
 use Rattle.clf.specs.Reading.{nodesAmong, withChild}
 use Rattle.clf.specs.Whole.{WholeText}
+use Rattle.process_list.specs.declared.ProcessList.{ProcessList}
 use Rattle.file_text.specs.declared.ListState.{ListState}
-use Rattle.file_text.specs.declared.ListStep.{ListStep}
-use Rattle.file_text.specs.Code.{bare, stateFrom, stateWith, Counted, Holds, flagsOf, noList, step, ChildReads, refused, read, ItemsRead}
+use Rattle.file_text.specs.declared.Progress.{Progress}
+use Rattle.file_text.specs.declared.FoundChild.{FoundChild}
+use Rattle.file_text.specs.declared.ChildStep.{ChildStep}
+use Rattle.file_text.specs.Code.{bare, stateFrom, stateWith, Counted, Holds, flagsOf, stateBy, noProgress, step, behindChild, listWith, foundChild, nodeFound, childStep, ChildReads, refused, read, ContentReads}
 use Rattle.file_text.proofs.Nodes.{counted-none, counted-both}
 use Rattle.file_text.proofs.Rooms.{from-less, holds-none, holds-more, holds-failed, holds-whole, holds-size}
 use Rattle.file_text.proofs.Places.{nodes-misc, nodes-child, state-none, state-misc, state-child, flags-child}
@@ -38,16 +42,16 @@ use Rattle.file_text.proofs.Children.{child-room}
 use Rattle.file_text.proofs.Items.{onItems, wholeFrom, itemAt, items-on, items-end, items-bad, items-short, whole-on, whole-end, whole-bad, whole-short, item-length, flat-more}
 
 -- what has been read of the content up to i: the items, each with its bytes
-pub record ContentInv (wanted : ℕ) (s : List ℕ) (at i : ℕ) (st : ListState) (m₀ m : Room) : Type 0 where
+pub record ContentInv (wanted : ℕ) (s : List ℕ) (at i : ℕ) (list : ProcessList) (p : Progress) (m₀ m : Room) : Type 0 where
   pub parts : List (Part Child × List ℕ)
   pub place : i ≡ at + length (flat parts)
-  pub run : onItems [] noFlags (drop at s) ≡ onItems parts (flagsOf st) (drop i s)
-  pub whole : wholeFrom [] noFlags (drop at s) ≡ wholeFrom parts (flagsOf st) (drop i s)
-  pub state : st ≡ stateFrom wanted at (flagsOf st, parts)
+  pub run : onItems [] noFlags (drop at s) ≡ onItems parts (flagsOf p) (drop i s)
+  pub whole : wholeFrom [] noFlags (drop at s) ≡ wholeFrom parts (flagsOf p) (drop i s)
+  pub state : stateBy list p ≡ stateFrom wanted at (flagsOf p, parts)
   pub counted : Counted (nodesAmong parts)
   pub room : RoomFrom Lists.mostNumbers (laidIn 0 (allNumbers (nodesAmong parts)) m₀) m
 
-pub content-start : (wanted : ℕ) (s : List ℕ) (at : ℕ) (m : Room) → ContentInv wanted s at at noList m m
+pub content-start : (wanted : ℕ) (s : List ℕ) (at : ℕ) (m : Room) → ContentInv wanted s at at (Lists.listOf []) noProgress m m
 unfolding nodesAmong
 content-start wanted s at m = record {
   parts = [];
@@ -63,27 +67,23 @@ item-is : (st : Flags) (u : List ℕ) → (listItem st) .run u ≡ (between (end
 unfolding listItem
 item-is st u = refl
 
--- the answer of the content that begins at `at`
-abbrev pub ContentReads : ℕ → List ℕ → ℕ → ListStep → Room → Room → Type 0
-ContentReads wanted s at r m₀ m₁ = ItemsRead wanted ((items listItem nextFlags noFlags) .run) (wholeItems listItem nextFlags noFlags (drop at s)) at s at r m₀ m₁
-
 used-is : (wanted at : ℕ) (fl : Flags) (l : List (Part Child × List ℕ)) (st : ListState) → st ≡ stateFrom wanted at (fl, l) → st .used ≡ Lists.capped (Lists.total (bare (nodesAmong l)))
 unfolding stateFrom stateWith
 used-is wanted at fl l st e = ap (λ (x : ListState). x .used) e
 
-module _ (wanted : ℕ) (s : List ℕ) (at i : ℕ) (st : ListState) (m₀ m : Room) (v : ContentInv wanted s at i st m₀ m) where
+module _ (wanted : ℕ) (s : List ℕ) (at i : ℕ) (list : ProcessList) (p : Progress) (m₀ m : Room) (v : ContentInv wanted s at i list p m₀ m) where
   abbrev fl : Flags
-  fl = flagsOf st
+  fl = flagsOf p
 
   abbrev now : WholeText
-  now = (flagsOf st, v .parts)
+  now = (flagsOf p, v .parts)
 
-  used : st .used ≡ Lists.capped (Lists.total (bare (nodesAmong (v .parts))))
-  used = used-is wanted at fl (v .parts) st (v .state)
+  used : p .used ≡ Lists.capped (Lists.total (bare (nodesAmong (v .parts))))
+  used = used-is wanted at fl (v .parts) (stateBy list p) (v .state)
 
   -- it ends here: what stands whole is what has been read
   ended : (parts : List (Part Child × List ℕ)) (r : Scan) (m₁ : Room) → scanOut (λ e. parts) s r ≡ onItems (v .parts) fl (drop i s) → wholeFrom (v .parts) fl (drop i s) ≡ now
-      → Inside 0 s at r → RoomFrom (st .used) m m₁ → ContentReads wanted s at (step r st) m₀ m₁
+      → Inside 0 s at r → RoomFrom (p .used) m m₁ → ContentReads wanted s at (step r (stateBy list p)) m₀ m₁
   ended parts r m₁ z w b g =
       let e : wholeItems listItem nextFlags noFlags (drop at s) ≡ now = v .whole ∙ w in
       record {
@@ -92,15 +92,15 @@ module _ (wanted : ℕ) (s : List ℕ) (at i : ℕ) (st : ListState) (m₀ m : R
         inside = b;
         state = v .state ∙ ap (stateFrom wanted at) (sym e);
         counted = subst (λ (x : WholeText). Counted (nodesAmong (x .1))) (sym e) (v .counted);
-        room = subst (λ (x : WholeText). Holds (nodesAmong (x .1)) m₀ m₁) (sym e) (holds-failed (nodesAmong (v .parts)) (st .used) m₀ m m₁ used (v .room) g);
+        room = subst (λ (x : WholeText). Holds (nodesAmong (x .1)) m₀ m₁) (sym e) (holds-failed (nodesAmong (v .parts)) (p .used) m₀ m m₁ used (v .room) g);
       }
 
   -- the slices keep their lengths
   pub content-size : RoomFrom 0 m₀ m
   content-size = holds-size (nodesAmong (v .parts)) m₀ m (holds-whole (nodesAmong (v .parts)) m₀ m (v .room))
 
-  pub child-size : (w : List ℕ) (e : ℕ) (r : ListStep) (m₁ : Room) → ChildReads wanted s w i e st r m m₁ → RoomFrom 0 m₀ m₁
-  child-size w e r m₁ h = from-trans 0 m₀ m m₁ content-size (from-less (st .used) 0 m m₁ (omega arith) (child-room wanted s w i e st r m m₁ h))
+  pub child-size : (w : List ℕ) (e : ℕ) (r : ChildStep) (m₁ : Room) → ChildReads s w i e p r m m₁ → RoomFrom 0 m₀ m₁
+  child-size w e r m₁ h = from-trans 0 m₀ m m₁ content-size (from-less (p .used) 0 m m₁ (omega arith) (child-room s w i e p r m m₁ h))
 
   low : at ≤ i
   low = omega (arith, v .place)
@@ -110,23 +110,23 @@ module _ (wanted : ℕ) (s : List ℕ) (at i : ℕ) (st : ListState) (m₀ m : R
   later (Scans.Fault k q) b = (omega (arith, low, b .0), b .1)
   later Scans.Cut b = tt
 
-  same : RoomFrom (st .used) m m
-  same = from-refl (st .used) m
+  same : RoomFrom (p .used) m m
+  same = from-refl (p .used) m
 
   -- the item is at fault, or the bytes end in it
   bad : (k q : ℕ) (m₁ : Room) → (listItem fl) .run (drop i s) ≡ fault k (drop q s) → Inside 0 s i (Scans.Fault k q)
-      → RoomFrom (st .used) m m₁ → ContentReads wanted s at (step (Scans.Fault k q) st) m₀ m₁
+      → RoomFrom (p .used) m m₁ → ContentReads wanted s at (step (Scans.Fault k q) (stateBy list p)) m₀ m₁
   bad k q m₁ x b f =
       ended [] (Scans.Fault k q) m₁ (sym (items-bad (v .parts) fl (drop i s) k (drop q s) x)) (whole-bad (v .parts) fl (drop i s) k (drop q s) x) (later (Scans.Fault k q) b) f
 
-  short : (m₁ : Room) → (listItem fl) .run (drop i s) ≡ cut → RoomFrom (st .used) m m₁ → ContentReads wanted s at (step Scans.Cut st) m₀ m₁
+  short : (m₁ : Room) → (listItem fl) .run (drop i s) ≡ cut → RoomFrom (p .used) m m₁ → ContentReads wanted s at (step Scans.Cut (stateBy list p)) m₀ m₁
   short m₁ x f = ended [] Scans.Cut m₁ (sym (items-short (v .parts) fl (drop i s) x)) (whole-short (v .parts) fl (drop i s) x) tt f
 
   -- one item more, up to e
-  longer : (e : ℕ) (p : Part Child) → i < e → e ≤ length s → e ≡ at + length (flat (v .parts ++ itemAt s i e p ∷ []))
-  longer e p h k = omega (arith, v .place, flat-more (v .parts) (itemAt s i e p), item-length (v .parts) fl s i e h k p)
+  longer : (e : ℕ) (x : Part Child) → i < e → e ≤ length s → e ≡ at + length (flat (v .parts ++ itemAt s i e x ∷ []))
+  longer e x h k = omega (arith, v .place, flat-more (v .parts) (itemAt s i e x), item-length (v .parts) fl s i e h k x)
 
-  pub content-misc : (e : ℕ) → ItemReads s i (Items.Misc e) → ContentInv wanted s at e st m₀ m
+  pub content-misc : (e : ℕ) → ItemReads s i (Items.Misc e) → ContentInv wanted s at e list p m₀ m
   content-misc e l =
       let h : i < e = omega (arith, l .inside .0) in
       let x : (listItem fl) .run (drop i s) ≡ done misc (drop e s) = item-is fl (drop i s) ∙ between-misc (endTag (bytes "ProcessList") 0) (childFault fl) childBody s i e l in
@@ -136,19 +136,19 @@ module _ (wanted : ℕ) (s : List ℕ) (at i : ℕ) (st : ListState) (m₀ m : R
         place = longer e misc h (l .inside .1);
         run = v .run ∙ items-on (v .parts) fl s i e h (l .inside .1) misc fl x refl;
         whole = v .whole ∙ whole-on (v .parts) fl s i e h (l .inside .1) misc fl x refl;
-        state = state-misc wanted at (v .parts) st (itemAt s i e misc .1) (v .state);
+        state = state-misc wanted at (v .parts) list p (itemAt s i e misc .1) (v .state);
         counted = subst (λ (ns : List Element). Counted ns) (sym n) (v .counted);
         room = subst (λ (ns : List Element). RoomFrom Lists.mostNumbers (laidIn 0 (allNumbers ns) m₀) m) (sym n) (v .room);
       }
 
-  pub content-fault : (k q : ℕ) → ItemReads s i (Items.Fault k q) → ContentReads wanted s at (step (Scans.Fault k q) st) m₀ m
+  pub content-fault : (k q : ℕ) → ItemReads s i (Items.Fault k q) → ContentReads wanted s at (step (Scans.Fault k q) (stateBy list p)) m₀ m
   content-fault k q l = bad k q m (item-is fl (drop i s) ∙ between-fault (endTag (bytes "ProcessList") 0) (childFault fl) childBody s i k q l) (l .inside) same
 
-  pub content-cut : ItemReads s i Items.Cut → ContentReads wanted s at (step Scans.Cut st) m₀ m
+  pub content-cut : ItemReads s i Items.Cut → ContentReads wanted s at (step Scans.Cut (stateBy list p)) m₀ m
   content-cut l = short m (item-is fl (drop i s) ∙ between-cut (endTag (bytes "ProcessList") 0) (childFault fl) childBody s i l) same
 
   -- the end tag
-  pub content-end : (r : Scan) → ItemReads s i Items.EndTag → Reads 1 ((endTag (bytes "ProcessList") 0) .run) noValue s i r → ContentReads wanted s at (step r st) m₀ m
+  pub content-end : (r : Scan) → ItemReads s i Items.EndTag → Reads 1 ((endTag (bytes "ProcessList") 0) .run) noValue s i r → ContentReads wanted s at (step r (stateBy list p)) m₀ m
   content-end (Scans.At e) l h =
       let x : (listItem fl) .run (drop i s) ≡ done close (drop e s) =
       item-is fl (drop i s) ∙ between-end-reads (endTag (bytes "ProcessList") 0) (childFault fl) childBody s i l (Scans.At e) h in
@@ -165,67 +165,73 @@ module _ (wanted : ℕ) (s : List ℕ) (at i : ℕ) (st : ListState) (m₀ m : R
     w = part s (i + 1) e
 
     -- what it may answer, by the name as the definition has it
-    named : (r : ListStep) → ChildReads wanted s (partIn s (i + 1) e) i e st r m m₁ → ChildReads wanted s w i e st r m m₁
-    named r h = subst (λ (x : List ℕ). ChildReads wanted s x i e st r m m₁) (sym (part-in s (i + 1) e (l .inside .1))) h
+    named : (r : ChildStep) → ChildReads s (partIn s (i + 1) e) i e p r m m₁ → ChildReads s w i e p r m m₁
+    named r h = subst (λ (x : List ℕ). ChildReads s x i e p r m m₁) (sym (part-in s (i + 1) e (l .inside .1))) h
 
     never : (q k : ℕ) → Scans.At q ≡ Scans.Fault k i → ⊥
     never q k y = let n : _≡_ {A = ℕ} 0 1 = cc in omega arith
 
-    moved : (q : ℕ) (x : ListState) → ChildReads wanted s w i e st (step (Scans.At q) x) m m₁ → (i < q) × (q ≤ length s)
-    moved q x (refused k f z y o) = absurd (never q k y)
-    moved q x (read k f z b y) = (omega (arith, l .inside .0, b .0), b .1)
+    moved : (q : ℕ) (x : FoundChild) (u : Node) → ChildReads s w i e p (childStep (Scans.At q) x u) m m₁ → (i < q) × (q ≤ length s)
+    moved q x u (refused k f z y o) = absurd (never q k y)
+    moved q x u (read k f z b y) = (omega (arith, l .inside .0, b .0), b .1)
 
-    next : (q : ℕ) (x : ListState) → ChildReads wanted s w i e st (step (Scans.At q) x) m m₁ → ContentInv wanted s at q x m₀ m₁
-    next q x (refused k f z y o) = absurd (never q k y)
-    next q x (read c f z b y) =
+    -- list and progress behind a child
+    abbrev After : ℕ → FoundChild → Node → Type 0
+    After q x u = ContentInv wanted s at q (listWith list x u) (behindChild p x u (list .count) wanted i) m₀ m₁
+
+    next : (q : ℕ) (x : FoundChild) (u : Node) → ChildReads s w i e p (childStep (Scans.At q) x u) m m₁ → After q x u
+    next q x u (refused k f z y o) = absurd (never q k y)
+    next q x u (read c f z b y) =
         let h : i < q = omega (arith, l .inside .0, b .0) in
         let t : (listItem fl) .run (drop i s) ≡ done (child c) (drop q s) =
         item-is fl (drop i s) ∙ between-child (endTag (bytes "ProcessList") 0) (childFault fl) childBody s i e l f c (drop q s) (sym z) in
         let n : nodesAmong (v .parts ++ itemAt s i q (child c) ∷ []) ≡ nodesAmong (v .parts) ++ withChild c [] = nodes-child (v .parts) c (itemAt s i q (child c) .1) in
-        let g : nextFlags fl (child c) ≡ again (flagsOf x) = flags-child wanted i st c ∙ ap (λ (u : ListState). again (flagsOf u)) (sym (y .0)) in
-        record {
+        let d : Progress = behindChild p (foundChild c) (nodeFound c) (list .count) wanted i in
+        let g : nextFlags fl (child c) ≡ again (flagsOf d) = flags-child p (list .count) wanted i c in
+        rw (y .0, y .1) (record {
           parts = v .parts ++ itemAt s i q (child c) ∷ [];
           place = longer q (child c) h (b .1);
-          run = v .run ∙ items-on (v .parts) fl s i q h (b .1) (child c) (flagsOf x) t g;
-          whole = v .whole ∙ whole-on (v .parts) fl s i q h (b .1) (child c) (flagsOf x) t g;
-          state = y .0 ∙ state-child wanted at (v .parts) st i c (itemAt s i q (child c) .1) (v .place) (v .state)
-              ∙ ap (λ (u : ListState). stateFrom wanted at (flagsOf u, v .parts ++ itemAt s i q (child c) ∷ [])) (sym (y .0));
-          counted = subst (λ (ns : List Element). Counted ns) (sym n) (counted-both (nodesAmong (v .parts)) (withChild c []) (v .counted) (y .1));
+          run = v .run ∙ items-on (v .parts) fl s i q h (b .1) (child c) (flagsOf d) t g;
+          whole = v .whole ∙ whole-on (v .parts) fl s i q h (b .1) (child c) (flagsOf d) t g;
+          state = state-child wanted at (v .parts) list p i c (itemAt s i q (child c) .1) (v .place) (v .state);
+          counted = subst (λ (ns : List Element). Counted ns) (sym n) (counted-both (nodesAmong (v .parts)) (withChild c []) (v .counted) (y .2));
           room = subst (λ (ns : List Element). RoomFrom Lists.mostNumbers (laidIn 0 (allNumbers ns) m₀) m₁) (sym n)
-              (subst (λ (a : Room). RoomFrom Lists.mostNumbers (laidIn 0 (allNumbers (nodesAmong (v .parts) ++ withChild c [])) m₀) a) (sym (y .2))
-              (holds-more (nodesAmong (v .parts)) (withChild c []) (st .used) m₀ m (v .counted) used (v .room)));
-        }
+              (subst (λ (a : Room). RoomFrom Lists.mostNumbers (laidIn 0 (allNumbers (nodesAmong (v .parts) ++ withChild c [])) m₀) a) (sym (y .3))
+              (holds-more (nodesAmong (v .parts)) (withChild c []) (p .used) m₀ m (v .counted) used (v .room)));
+        })
 
-    failed : (r : Scan) (x : ListState) → Failed r → ChildReads wanted s w i e st (step r x) m m₁ → ContentReads wanted s at (step r st) m₀ m₁
-    failed r x a (refused k f z y o) =
-        subst (λ (d : Scan). ContentReads wanted s at (step d st) m₀ m₁) (sym y)
+    failed : (r : Scan) (x : FoundChild) (u : Node) → Failed r → ChildReads s w i e p (childStep r x u) m m₁ → ContentReads wanted s at (step r (stateBy list p)) m₀ m₁
+    failed r x u a (refused k f z y o) =
+        subst (λ (d : Scan). ContentReads wanted s at (step d (stateBy list p)) m₀ m₁) (sym y)
         (bad k i m₁ (item-is fl (drop i s) ∙ between-refused (endTag (bytes "ProcessList") 0) (childFault fl) childBody s i e l k f z)
-        (omega arith, omega (arith, l .inside)) (subst (λ (d : Room). RoomFrom (st .used) m d) (sym o) same))
-    failed (Scans.Fault j q) x a (read k f z b y) =
+        (omega arith, omega (arith, l .inside)) (subst (λ (d : Room). RoomFrom (p .used) m d) (sym o) same))
+    failed (Scans.Fault j q) x u a (read k f z b y) =
         bad j q m₁ (item-is fl (drop i s) ∙ between-child-fault (endTag (bytes "ProcessList") 0) (childFault fl) childBody s i e l f j (drop q s) (sym z))
         (omega (arith, l .inside .0, b .0), b .1) y
-    failed Scans.Cut x a (read k f z b y) =
+    failed Scans.Cut x u a (read k f z b y) =
         short m₁ (item-is fl (drop i s) ∙ between-child-cut (endTag (bytes "ProcessList") 0) (childFault fl) childBody s i e l f (sym z)) y
-    failed (Scans.At q) x a (read k f z b y) = absurd a
+    failed (Scans.At q) x u a (read k f z b y) = absurd a
 
-    pub content-child : (q : ℕ) (r : ListStep) → r .scan ≡ Scans.At q → ChildReads wanted s (partIn s (i + 1) e) i e st r m m₁ → ContentInv wanted s at q (r .state) m₀ m₁
-    content-child q r z h = next q (r .state) (subst (λ (d : Scan). ChildReads wanted s w i e st (step d (r .state)) m m₁) z (named r h))
+    pub content-child : (q : ℕ) (r : ChildStep) (list₁ : ProcessList) (p₁ : Progress) → r .scan ≡ Scans.At q → ChildReads s (partIn s (i + 1) e) i e p r m m₁
+        → p₁ ≡ behindChild p (r .child) (r .node) (list .count) wanted i → list₁ ≡ listWith list (r .child) (r .node) → ContentInv wanted s at q list₁ p₁ m₀ m₁
+    content-child q r list₁ p₁ z h x y =
+        rw (x, y) (next q (r .child) (r .node) (subst (λ (d : Scan). ChildReads s w i e p (childStep d (r .child) (r .node)) m m₁) z (named r h)))
 
     -- behind a child there are fewer bytes
-    pub content-moves : (q : ℕ) (r : ListStep) → r .scan ≡ Scans.At q → ChildReads wanted s (partIn s (i + 1) e) i e st r m m₁ → (i < q) × (q ≤ length s)
-    content-moves q r z h = moved q (r .state) (subst (λ (d : Scan). ChildReads wanted s w i e st (step d (r .state)) m m₁) z (named r h))
+    pub content-moves : (q : ℕ) (r : ChildStep) → r .scan ≡ Scans.At q → ChildReads s (partIn s (i + 1) e) i e p r m m₁ → (i < q) × (q ≤ length s)
+    content-moves q r z h = moved q (r .child) (r .node) (subst (λ (d : Scan). ChildReads s w i e p (childStep d (r .child) (r .node)) m m₁) z (named r h))
 
-    pub content-failed : (r : ListStep) → Failed (r .scan) → ChildReads wanted s (partIn s (i + 1) e) i e st r m m₁ → ContentReads wanted s at (step (r .scan) st) m₀ m₁
-    content-failed r a h = failed (r .scan) (r .state) a (named r h)
+    pub content-failed : (r : ChildStep) → Failed (r .scan) → ChildReads s (partIn s (i + 1) e) i e p r m m₁ → ContentReads wanted s at (step (r .scan) (stateBy list p)) m₀ m₁
+    content-failed r a h = failed (r .scan) (r .child) (r .node) a (named r h)
 
 -- ---- behind white space and comments
 
-module _ (wanted : ℕ) (s : List ℕ) (at i : ℕ) (st : ListState) (m₀ m : Room) (v : ContentInv wanted s at i st m₀ m) where
-  pub content-on : {j : ℕ} → Passed s i j → ContentInv wanted s at j st m₀ m
-  content-on w = passed-keeps s i (λ j. ContentInv wanted s at j st m₀ m) (λ j e x l. content-misc wanted s at j st m₀ m x e l) v w
+module _ (wanted : ℕ) (s : List ℕ) (at i : ℕ) (list : ProcessList) (p : Progress) (m₀ m : Room) (v : ContentInv wanted s at i list p m₀ m) where
+  pub content-on : {j : ℕ} → Passed s i j → ContentInv wanted s at j list p m₀ m
+  content-on w = passed-keeps s i (λ j. ContentInv wanted s at j list p m₀ m) (λ j e x l. content-misc wanted s at j list p m₀ m x e l) v w
 
   -- what stands there is no tag
-  pub content-none : (j : ℕ) (r : Scan) → NextReads s i (Nexts.Failed j r) → ContentReads wanted s at (step r st) m₀ m
+  pub content-none : (j : ℕ) (r : Scan) → NextReads s i (Nexts.Failed j r) → ContentReads wanted s at (step r (stateBy list p)) m₀ m
   content-none j (Scans.At e) n = absurd n
-  content-none j (Scans.Fault k q) n = content-fault wanted s at j st m₀ m (content-on (n .passed)) k q (n .reads)
-  content-none j Scans.Cut n = content-cut wanted s at j st m₀ m (content-on (n .passed)) (n .reads)
+  content-none j (Scans.Fault k q) n = content-fault wanted s at j list p m₀ m (content-on (n .passed)) k q (n .reads)
+  content-none j Scans.Cut n = content-cut wanted s at j list p m₀ m (content-on (n .passed)) (n .reads)

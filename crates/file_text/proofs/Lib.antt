@@ -4,5 +4,6 @@ pub mod Places
 pub mod Items
 pub mod Text
 pub mod Children
+pub mod Found
 pub mod Content
 pub mod Whole

@@ -19,8 +19,10 @@ use Rattle.clf.specs.Places.{spanOf}
 use Rattle.clf.specs.Reading.{nodesAmong, withChild, isNumbered}
 use Rattle.clf.specs.Whole.{placeAmong}
 use Rattle.clf.proofs.Whole.{nodes-more, span-old, span-new}
+use Rattle.process_list.specs.declared.Node.{Node}
 use Rattle.file_text.specs.declared.ListState.{ListState}
-use Rattle.file_text.specs.Code.{bare, stateWith, stateFrom, flagsOf, noList, flagged, wantedStart, isOver, nodeState, childState}
+use Rattle.file_text.specs.declared.Progress.{Progress}
+use Rattle.file_text.specs.Code.{bare, stateWith, stateFrom, flagsOf, stateBy, noList, flagged, wantedStart, isOver, behindNode, behindChild, listWith, foundChild, nodeFound}
 use Rattle.file_text.proofs.Nodes.{list-one, used-one, bare-length}
 
 -- ---- items with the same nodes
@@ -137,9 +139,25 @@ same-state : {l l′ : ProcessList} {o o′ : Bool} {u u′ p p′ : ℕ} (fl : 
     (record { list = l′; over = o′; used = u′; input = fl .input; output = fl .output; info = fl .info; start = p′ })
 same-state fl a b c d = cc
 
+-- a state with one node more, whose `<` stands at `at`
+abbrev nodeState : ListState → Node → ℕ → ℕ → ListState
+nodeState st n wanted at = record {
+  list = Lists.appended (st .list) n;
+  over = isOver (st .over) (st .list .count);
+  used = Lists.capped (st .used + Lists.numbersOf (n .kind));
+  input = st .input;
+  output = st .output;
+  info = st .info;
+  start = wantedStart (st .list .count) wanted (st .start) at;
+}
+
+-- a state with these flags
+abbrev withFlags : ListState → Bool → Bool → Bool → ListState
+withFlags st i o f = record { list = st .list; over = st .over; used = st .used; input = i; output = o; info = f; start = st .start }
+
 grown : (fl : Flags) (ns : List Element) (p wanted i : ℕ) (v : Element)
     → nodeState (stateWith fl ns p) (Lists.nodeOf v) wanted i ≡ stateWith fl (ns ++ v ∷ []) (wantedStart (min (length ns) 32) wanted p i)
-unfolding nodeState stateWith
+unfolding stateWith
 grown fl ns p wanted i v =
     same-state fl (list-one ns v)
     (ap (isOver (ltb 32 (length ns))) (count-is ns) ∙ over-more (length ns) (length (ns ++ v ∷ [])) (length-append ns (v ∷ [])))
@@ -162,34 +180,36 @@ module _ (wanted at : ℕ) (l : List (Part Child × List ℕ)) where
   unfolding stateFrom
   other fl x e = ap (λ (ns : List Element). stateWith fl ns (placeAmong wanted at l)) (sym e) ∙ ap (stateWith fl (nodesAmong (l ++ x ∷ []))) (sym (same-place wanted at l x e))
 
-  pub state-misc : (st : ListState) (b : List ℕ) → st ≡ stateFrom wanted at (flagsOf st, l) → st ≡ stateFrom wanted at (flagsOf st, l ++ (misc, b) ∷ [])
-  state-misc st b e = e ∙ other (flagsOf st) (misc, b) (nodes-misc l b)
+  pub state-misc : (list : ProcessList) (p : Progress) (b : List ℕ) → stateBy list p ≡ stateFrom wanted at (flagsOf p, l) → stateBy list p ≡ stateFrom wanted at (flagsOf p, l ++ (misc, b) ∷ [])
+  state-misc list p b e = e ∙ other (flagsOf p) (misc, b) (nodes-misc l b)
 
-  with-flags : (st : ListState) (i o f : Bool) → st ≡ stateFrom wanted at (flagsOf st, l) → flagged st i o f ≡ stateFrom wanted at (record { input = i; output = o; info = f }, l)
+  with-flags : (list : ProcessList) (p : Progress) (i o f : Bool) → stateBy list p ≡ stateFrom wanted at (flagsOf p, l)
+      → stateBy list (flagged p i o f) ≡ stateFrom wanted at (record { input = i; output = o; info = f }, l)
   unfolding stateFrom stateWith
-  with-flags st i o f e = ap (λ (x : ListState). flagged x i o f) e
+  with-flags list p i o f e = ap (λ (x : ListState). withFlags x i o f) e
 
   -- a child, whose `<` stands at i
-  pub state-child : (st : ListState) (i : ℕ) (c : Child) (b : List ℕ) → i ≡ at + length (flat l) → st ≡ stateFrom wanted at (flagsOf st, l)
-      → childState wanted i st c ≡ stateFrom wanted at (flagsOf (childState wanted i st c), l ++ (child c, b) ∷ [])
-  unfolding stateFrom nodeState
-  state-child st i (node v) b q e =
-      ap (λ (x : ListState). nodeState x (Lists.nodeOf v) wanted i) e ∙ grown (flagsOf st) (nodesAmong l) (placeAmong wanted at l) wanted i v
-      ∙ ap (λ (ns : List Element). stateWith (flagsOf st) ns (wantedStart (min (length (nodesAmong l)) 32) wanted (placeAmong wanted at l) i)) (sym (nodes-child l (node v) b))
-      ∙ ap (stateWith (flagsOf st) (nodesAmong (l ++ (child (node v), b) ∷ []))) (node-place wanted at i l v b q)
-  state-child st i description b q e = e ∙ other (flagsOf st) (child description, b) (nodes-child l description b ∙ append-nil (nodesAmong l))
-  state-child st i inputDescriptor b q e =
-      with-flags st true (st .output) (st .info) e ∙ other (flagsOf (flagged st true (st .output) (st .info))) (child inputDescriptor, b) (nodes-child l inputDescriptor b ∙ append-nil (nodesAmong l))
-  state-child st i outputDescriptor b q e =
-      with-flags st (st .input) true (st .info) e ∙ other (flagsOf (flagged st (st .input) true (st .info))) (child outputDescriptor, b) (nodes-child l outputDescriptor b ∙ append-nil (nodesAmong l))
-  state-child st i infoChild b q e =
-      with-flags st (st .input) (st .output) true e ∙ other (flagsOf (flagged st (st .input) (st .output) true)) (child infoChild, b) (nodes-child l infoChild b ∙ append-nil (nodesAmong l))
+  pub state-child : (list : ProcessList) (p : Progress) (i : ℕ) (c : Child) (b : List ℕ) → i ≡ at + length (flat l) → stateBy list p ≡ stateFrom wanted at (flagsOf p, l)
+      → stateBy (listWith list (foundChild c) (nodeFound c)) (behindChild p (foundChild c) (nodeFound c) (list .count) wanted i)
+      ≡ stateFrom wanted at (flagsOf (behindChild p (foundChild c) (nodeFound c) (list .count) wanted i), l ++ (child c, b) ∷ [])
+  unfolding stateFrom behindNode
+  state-child list p i (node v) b q e =
+      ap (λ (x : ListState). nodeState x (Lists.nodeOf v) wanted i) e ∙ grown (flagsOf p) (nodesAmong l) (placeAmong wanted at l) wanted i v
+      ∙ ap (λ (ns : List Element). stateWith (flagsOf p) ns (wantedStart (min (length (nodesAmong l)) 32) wanted (placeAmong wanted at l) i)) (sym (nodes-child l (node v) b))
+      ∙ ap (stateWith (flagsOf p) (nodesAmong (l ++ (child (node v), b) ∷ []))) (node-place wanted at i l v b q)
+  state-child list p i description b q e = e ∙ other (flagsOf p) (child description, b) (nodes-child l description b ∙ append-nil (nodesAmong l))
+  state-child list p i inputDescriptor b q e =
+      with-flags list p true (p .output) (p .info) e ∙ other (flagsOf (flagged p true (p .output) (p .info))) (child inputDescriptor, b) (nodes-child l inputDescriptor b ∙ append-nil (nodesAmong l))
+  state-child list p i outputDescriptor b q e =
+      with-flags list p (p .input) true (p .info) e ∙ other (flagsOf (flagged p (p .input) true (p .info))) (child outputDescriptor, b) (nodes-child l outputDescriptor b ∙ append-nil (nodesAmong l))
+  state-child list p i infoChild b q e =
+      with-flags list p (p .input) (p .output) true e ∙ other (flagsOf (flagged p (p .input) (p .output) true)) (child infoChild, b) (nodes-child l infoChild b ∙ append-nil (nodesAmong l))
 
 -- the flags behind a child
-pub flags-child : (wanted i : ℕ) (st : ListState) (c : Child) → nextFlags (flagsOf st) (child c) ≡ again (flagsOf (childState wanted i st c))
-unfolding nodeState
-flags-child wanted i st (node v) = refl
-flags-child wanted i st description = refl
-flags-child wanted i st inputDescriptor = refl
-flags-child wanted i st outputDescriptor = refl
-flags-child wanted i st infoChild = refl
+pub flags-child : (p : Progress) (count wanted i : ℕ) (c : Child) → nextFlags (flagsOf p) (child c) ≡ again (flagsOf (behindChild p (foundChild c) (nodeFound c) count wanted i))
+unfolding behindNode
+flags-child p count wanted i (node v) = refl
+flags-child p count wanted i description = refl
+flags-child p count wanted i inputDescriptor = refl
+flags-child p count wanted i outputDescriptor = refl
+flags-child p count wanted i infoChild = refl

@@ -28,11 +28,10 @@ use Rattle.clf.specs.Reading.{nodesAmong}
 use Rattle.clf.specs.Whole.{WholeText, nothingWhole, wholeBehind, wholeText, wholeNodes, behindHead, contentPlace}
 use Rattle.file_text.specs.declared.ListState.{ListState}
 use Rattle.file_text.specs.declared.ListStep.{ListStep}
-use Rattle.file_text.specs.Code.{bare, stateWith, stateFrom, stateOf, Counted, Holds, noList, step, ItemsRead, TextReads, ListReads, textNodes, rootP}
+use Rattle.file_text.specs.Code.{bare, stateWith, stateFrom, stateOf, Counted, Holds, noList, step, ItemsRead, ContentReads, TextReads, ListReads, textNodes, rootP}
 use Rattle.file_text.proofs.Nodes.{counted-none}
 use Rattle.file_text.proofs.Rooms.{holds-none, holds-whole, holds-cleared, holds-size}
 use Rattle.file_text.proofs.Places.{state-none}
-use Rattle.file_text.proofs.Content.{ContentReads}
 use Rattle.file_text.proofs.Text.{out-whole, head-failed, head-at, before-fault, before-cut, root-fault, root-short, root-done}
 
 -- ---- where nothing stands whole

@@ -8,11 +8,13 @@ use lib.Dec.{eqb, ltb, leb}
 use lib.ListN.{length, take, drop}
 use Rattle.decimal.specs.declared.Decimal.{Decimal}
 use Rattle.grammar.specs.Parse.{Out, done, thenOut, Parser}
+use Rattle.grammar.specs.Grammar.{items, wholeItems}
 use Rattle.xml.specs.declared.Scan.{Scan}
 use Rattle.xml.specs.declared.Scan.the-variants as Scans
 use Rattle.xml.specs.Code.{scanOut, Inside}
 use Rattle.xml.specs.Elements.{Part}
 use Rattle.process_list.specs.declared.Node.{Node}
+use Rattle.process_list.specs.declared.ProcessList.{ProcessList}
 use Rattle.process_list.specs.List as Lists
 use Rattle.room.specs.Room.{Room, roomLength, laidIn, filledWith}
 use Rattle.room.proofs.Rooms.{RoomFrom}
@@ -23,11 +25,15 @@ use Rattle.nodes.specs.declared.NodeName.{NodeName}
 use Rattle.nodes.specs.Code.{carriedOf, nameOf}
 use Rattle.xml.specs.Xml.{startTag}
 use Rattle.clf.specs.Nodes.{nodeBody, nodeFault}
-use Rattle.clf.specs.List.{Child, node, description, inputDescriptor, outputDescriptor, infoChild, Flags, childFault, childBody, listRules, listContent, Document, document, tail}
+use Rattle.clf.specs.List.{Child, node, description, inputDescriptor, outputDescriptor, infoChild, Flags, noFlags, nextFlags, childFault, childBody, listItem, listRules, listContent, Document, document, tail}
 use Rattle.clf.specs.Reading.{nodesAmong, withChild}
 use Rattle.clf.specs.Whole.{WholeText, wholeText, wholeNodes, contentPlace, placeAmong}
 use Rattle.file_text.specs.declared.ListState.{ListState}
 use Rattle.file_text.specs.declared.ListStep.{ListStep}
+use Rattle.file_text.specs.declared.Progress.{Progress}
+use Rattle.file_text.specs.declared.FoundChild.{FoundChild}
+use Rattle.file_text.specs.declared.FoundChild.the-variants as Found
+use Rattle.file_text.specs.declared.ChildStep.{ChildStep}
 use Rattle.refusals.specs.Refusals as Refusal
 
 -- the nodes of a text without fault, or its fault
@@ -102,6 +108,10 @@ pub record ItemsRead (wanted : ℕ) (p : Parser (List (Part Child × List ℕ)))
   pub counted : Counted (nodesAmong (whole .1))
   pub room : Holds (nodesAmong (whole .1)) m₀ m₁
 
+-- the content of ProcessList from `at` on
+abbrev pub ContentReads : ℕ → List ℕ → ℕ → ListStep → Room → Room → Type 0
+ContentReads wanted s at r m₀ m₁ = ItemsRead wanted ((items listItem nextFlags noFlags) .run) (wholeItems listItem nextFlags noFlags (drop at s)) at s at r m₀ m₁
+
 -- ProcessList behind its name
 abbrev pub rootP : Parser (List (Part Child × List ℕ))
 rootP u = thenOut ((startTag listRules) .run u) (λ tag. (listContent tag) .run)
@@ -109,73 +119,111 @@ rootP u = thenOut ((startTag listRules) .run u) (λ tag. (listContent tag) .run)
 -- ---- what the small steps of the code do
 
 -- which of the children that may not repeat have been there
-abbrev pub flagsOf : ListState → Flags
-flagsOf st = record { input = st .input; output = st .output; info = st .info }
+abbrev pub flagsOf : Progress → Flags
+flagsOf p = record { input = p .input; output = p .output; info = p .info }
 
+-- the state of this list, with what is kept beside it
+abbrev pub stateBy : ProcessList → Progress → ListState
+stateBy list p = record { list = list; over = p .over; used = p .used; input = p .input; output = p .output; info = p .info; start = p .start }
+
+-- what is kept beside the list before any child
+abbrev pub noProgress : Progress
+noProgress = record { over = false; used = 0; input = false; output = false; info = false; start = 0 }
+
+-- the state before any child
 abbrev pub noList : ListState
-noList = record { list = Lists.listOf []; over = false; used = 0; input = false; output = false; info = false; start = 0 }
+noList = stateBy (Lists.listOf []) noProgress
 
-abbrev pub flagged : ListState → Bool → Bool → Bool → ListState
-flagged st i o f = record { list = st .list; over = st .over; used = st .used; input = i; output = o; info = f; start = st .start }
+-- the same with these flags
+abbrev pub flagged : Progress → Bool → Bool → Bool → Progress
+flagged p i o f = record { over = p .over; used = p .used; input = i; output = o; info = f; start = p .start }
 
+-- the text reads so, and leaves this state
 abbrev pub step : Scan → ListState → ListStep
 step scan st = record { scan = scan; state = st }
-
-abbrev pub inputStep : ℕ → ListState → Scan → ListStep
-inputStep at st scan = cond (st .input) (step (Scans.Fault Refusal.wrongElement at) st) (step scan (flagged st true (st .output) (st .info)))
-
-abbrev pub outputStep : ℕ → ListState → Scan → ListStep
-outputStep at st scan = cond (st .output) (step (Scans.Fault Refusal.wrongElement at) st) (step scan (flagged st (st .input) true (st .info)))
-
-abbrev pub infoStep : ℕ → ListState → Scan → ListStep
-infoStep at st scan = cond (st .info) (step (Scans.Fault Refusal.wrongElement at) st) (step scan (flagged st (st .input) (st .output) true))
 
 -- the place of the node that is wanted, after `count` nodes and one more, whose `<` stands at `at`
 unfoldable pub wantedStart : ℕ → ℕ → ℕ → ℕ → ℕ
 wantedStart count wanted old at = cond (ltb count 32) (cond (eqb (count + 1) wanted) at old) old
 
+-- whether there are more than 32 nodes, after `count` in the list and one more
 unfoldable pub isOver : Bool → ℕ → Bool
 isOver over count = cond over true (leb 32 count)
 
--- one node more, whose `<` stands at `at`
-unfoldable pub nodeState : ListState → Node → ℕ → ℕ → ListState
-nodeState st n wanted at = record {
-  list = Lists.appended (st .list) n;
-  over = isOver (st .over) (st .list .count);
-  used = Lists.capped (st .used + Lists.numbersOf (n .kind));
-  input = st .input;
-  output = st .output;
-  info = st .info;
-  start = wantedStart (st .list .count) wanted (st .start) at;
+-- one node more behind `count` others, whose `<` stands at `at`
+unfoldable pub behindNode : Progress → Node → ℕ → ℕ → ℕ → Progress
+behindNode p n count wanted at = record {
+  over = isOver (p .over) count;
+  used = Lists.capped (p .used + Lists.numbersOf (n .kind));
+  input = p .input;
+  output = p .output;
+  info = p .info;
+  start = wantedStart count wanted (p .start) at;
 }
 
+-- one child more behind `count` nodes, whose `<` stands at `at` and which has the node n if it is one
+abbrev pub behindChild : Progress → FoundChild → Node → ℕ → ℕ → ℕ → Progress
+behindChild p Found.Node n count wanted at = behindNode p n count wanted at
+behindChild p Found.InputDescriptor n count wanted at = flagged p true (p .output) (p .info)
+behindChild p Found.OutputDescriptor n count wanted at = flagged p (p .input) true (p .info)
+behindChild p Found.Info n count wanted at = flagged p (p .input) (p .output) true
+behindChild p Found.Other n count wanted at = p
+
+-- the list with one child more, which has the node n if it is one
+abbrev pub listWith : ProcessList → FoundChild → Node → ProcessList
+listWith list Found.Node n = Lists.appended list n
+listWith list Found.InputDescriptor n = list
+listWith list Found.OutputDescriptor n = list
+listWith list Found.Info n = list
+listWith list Found.Other n = list
+
+-- a child of the definition, as the code answers it
+abbrev pub foundChild : Child → FoundChild
+foundChild (node v) = Found.Node
+foundChild description = Found.Other
+foundChild inputDescriptor = Found.InputDescriptor
+foundChild outputDescriptor = Found.OutputDescriptor
+foundChild infoChild = Found.Info
+
+-- the node of a child of the definition, a blank one where it is none
+abbrev pub nodeFound : Child → Node
+nodeFound (node v) = Lists.nodeOf v
+nodeFound description = Lists.blankNode
+nodeFound inputDescriptor = Lists.blankNode
+nodeFound outputDescriptor = Lists.blankNode
+nodeFound infoChild = Lists.blankNode
+
+-- a child reads so, is this one, and has this node
+abbrev pub childStep : Scan → FoundChild → Node → ChildStep
+childStep scan child n = record { scan = scan; child = child; node = n }
+
+-- a child whose `<` stands at `at` and which may not stand there
+abbrev pub refusedChild : ℕ → ℕ → ChildStep
+refusedChild k at = childStep (Scans.Fault k at) Found.Other Lists.blankNode
+
+-- a child that is no node: refused where it may not repeat and has been there
+abbrev pub onceChild : ℕ → Bool → Scan → FoundChild → ChildStep
+onceChild at seen scan child = cond seen (refusedChild Refusal.wrongElement at) (childStep scan child Lists.blankNode)
+
 -- a carried node behind its name
-pub record CarriedReads (wanted : ℕ) (s : List ℕ) (at e : ℕ) (name : CarriedNode) (st : ListState) (r : ListStep) (m₁ m₂ : Room) : Type 0 where
+pub record CarriedReads (s : List ℕ) (e : ℕ) (name : CarriedNode) (used : ℕ) (r : ChildStep) (m₁ m₂ : Room) : Type 0 where
   pub node : NodeStep
-  pub reads : NodeReads ((nodeBody (carriedOf name)) .run) s e (st .used) node m₁ m₂
-  pub is : r ≡ step (node .scan) (nodeState st (node .node) wanted at)
+  pub reads : NodeReads ((nodeBody (carriedOf name)) .run) s e used node m₁ m₂
+  pub is : r ≡ childStep (node .scan) Found.Node (node .node)
 
 -- a child by its name as a node: a carried one, or none that may stand there
-pub data NodeChild (wanted : ℕ) (s : List ℕ) (at e : ℕ) (name : NodeName) (st : ListState) (r : ListStep) (m₁ m₂ : Room) : Type 0 where
-  carried : (n : CarriedNode) → nameOf name ≡ carriedOf n → CarriedReads wanted s at e n st r m₁ m₂ → NodeChild wanted s at e name st r m₁ m₂
-  other : (k : ℕ) → nodeFault (nameOf name) ≡ k → (k ≡ 0 → ⊥) → r .scan ≡ Scans.Fault k at → m₂ ≡ m₁ → NodeChild wanted s at e name st r m₁ m₂
+pub data NodeChild (s : List ℕ) (at e : ℕ) (name : NodeName) (used : ℕ) (r : ChildStep) (m₁ m₂ : Room) : Type 0 where
+  carried : (n : CarriedNode) → nameOf name ≡ carriedOf n → CarriedReads s e n used r m₁ m₂ → NodeChild s at e name used r m₁ m₂
+  other : (k : ℕ) → nodeFault (nameOf name) ≡ k → (k ≡ 0 → ⊥) → r .scan ≡ Scans.Fault k at → m₂ ≡ m₁ → NodeChild s at e name used r m₁ m₂
 
--- the state after a child whose `<` stands at `at`
-abbrev pub childState : ℕ → ℕ → ListState → Child → ListState
-childState wanted at st (node v) = nodeState st (Lists.nodeOf v) wanted at
-childState wanted at st description = st
-childState wanted at st inputDescriptor = flagged st true (st .output) (st .info)
-childState wanted at st outputDescriptor = flagged st (st .input) true (st .info)
-childState wanted at st infoChild = flagged st (st .input) (st .output) true
-
--- what a child leaves: where it stands whole, its state and its numbers; else nothing has changed but the room from `used` on
-abbrev pub ChildLeaves : ℕ → ℕ → ListState → Child → Scan → ListState → Room → Room → Type 0
-ChildLeaves wanted at st c (Scans.At e) next m₁ m₂ = (next ≡ childState wanted at st c) × Counted (withChild c []) × (m₂ ≡ laidIn (st .used) (allNumbers (withChild c [])) m₁)
-ChildLeaves wanted at st c (Scans.Fault k p) next m₁ m₂ = RoomFrom (st .used) m₁ m₂
-ChildLeaves wanted at st c Scans.Cut next m₁ m₂ = RoomFrom (st .used) m₁ m₂
+-- what a child leaves: where it stands whole, it is the definition's, and its numbers stand from `used` on; else nothing has changed but the room from there on
+abbrev pub ChildLeaves : ℕ → Child → Scan → FoundChild → Node → Room → Room → Type 0
+ChildLeaves used c (Scans.At e) found n m₁ m₂ = (found ≡ foundChild c) × (n ≡ nodeFound c) × Counted (withChild c []) × (m₂ ≡ laidIn used (allNumbers (withChild c [])) m₁)
+ChildLeaves used c (Scans.Fault k p) found n m₁ m₂ = RoomFrom used m₁ m₂
+ChildLeaves used c Scans.Cut found n m₁ m₂ = RoomFrom used m₁ m₂
 
 -- a child of the name w, whose `<` stands at `at` and whose name ends at e: it may not stand there, or it reads as the definition's
-pub data ChildReads (wanted : ℕ) (s w : List ℕ) (at e : ℕ) (st : ListState) (r : ListStep) (m₁ m₂ : Room) : Type 0 where
-  refused : (k : ℕ) → childFault (flagsOf st) w ≡ k → (k ≡ 0 → ⊥) → r .scan ≡ Scans.Fault k at → m₂ ≡ m₁ → ChildReads wanted s w at e st r m₁ m₂
-  read : (c : Child) → childFault (flagsOf st) w ≡ 0 → scanOut (λ q. c) s (r .scan) ≡ (childBody w) .run (drop e s) → Inside 1 s e (r .scan)
-      → ChildLeaves wanted at st c (r .scan) (r .state) m₁ m₂ → ChildReads wanted s w at e st r m₁ m₂
+pub data ChildReads (s w : List ℕ) (at e : ℕ) (p : Progress) (r : ChildStep) (m₁ m₂ : Room) : Type 0 where
+  refused : (k : ℕ) → childFault (flagsOf p) w ≡ k → (k ≡ 0 → ⊥) → r .scan ≡ Scans.Fault k at → m₂ ≡ m₁ → ChildReads s w at e p r m₁ m₂
+  read : (c : Child) → childFault (flagsOf p) w ≡ 0 → scanOut (λ q. c) s (r .scan) ≡ (childBody w) .run (drop e s) → Inside 1 s e (r .scan)
+      → ChildLeaves (p .used) c (r .scan) (r .child) (r .node) m₁ m₂ → ChildReads s w at e p r m₁ m₂

@@ -2,7 +2,6 @@
 ghost use mathlib.Core.Path.{_≡_};
 ghost use Prim.Native.Nat.{_+_, _<_};
 ghost use lib.ListN.{length, drop};
-ghost use Rattle.grammar.specs.Grammar.{items, wholeItems};
 ghost use Rattle.room.specs.Room.{lent};
 ghost use Rattle.xml.specs.Xml.{startTag};
 ghost use Rattle.tags.specs.Code.{partIn};
@@ -37,17 +36,44 @@ pub struct ListStep {
     pub state: ListState,
 }
 
+// What is kept beside the list while its children are read: all of `ListState` but the list itself, which is large and stays where it is.
+struct Progress {
+    over: bool,
+    used: usize,
+    input: bool,
+    output: bool,
+    info: bool,
+    start: usize,
+}
+
+// A child of ProcessList, by what it changes: a node, one of those that may not repeat, or any other, which changes nothing.
+enum FoundChild {
+    Node,
+    InputDescriptor,
+    OutputDescriptor,
+    Info,
+    Other,
+}
+
+// How a child reads, which one it is, and its node, a blank one where it is none.
+struct ChildStep {
+    scan: Scan,
+    child: FoundChild,
+    node: Node,
+}
+
+// The text reads so, and has held this.
 fn step_of(scan: Scan, state: ListState) -> ListStep
     ensures { λ r. ⌜ r ≡ Code.step scan state ⌝ }
 {
     ListStep { scan, state }
 }
 
-fn no_list() -> ListState
-    ensures { λ r. ⌜ r ≡ Code.noList ⌝ }
+// What is kept beside the list before any child.
+fn no_progress() -> Progress
+    ensures { λ r. ⌜ r ≡ Code.noProgress ⌝ }
 {
-    ListState {
-        list: process_list::empty(),
+    Progress {
         over: false,
         used: 0,
         input: false,
@@ -57,53 +83,47 @@ fn no_list() -> ListState
     }
 }
 
-// The same, with these flags.
-fn flagged(state: ListState, input: bool, output: bool, info: bool) -> ListState
-    ensures { λ r. ⌜ r ≡ Code.flagged state input output info ⌝ }
+// The state of this list, with what is kept beside it.
+fn state_by(list: ProcessList, progress: Progress) -> ListState
+    ensures { λ r. ⌜ r ≡ Code.stateBy list progress ⌝ }
 {
-    let list = state.list;
     ListState {
         list,
-        over: state.over,
-        used: state.used,
+        over: progress.over,
+        used: progress.used,
+        input: progress.input,
+        output: progress.output,
+        info: progress.info,
+        start: progress.start,
+    }
+}
+
+// The state before any child.
+fn no_list() -> ListState
+    ensures { λ r. ⌜ r ≡ Code.noList ⌝ }
+{
+    state_by(process_list::empty(), no_progress())
+}
+
+// The content reads so, and has held this.
+fn ended(scan: Scan, list: ProcessList, progress: Progress) -> ListStep
+    ensures { λ r. ⌜ r ≡ Code.step scan (Code.stateBy list progress) ⌝ }
+{
+    step_of(scan, state_by(list, progress))
+}
+
+// The same, with these flags.
+fn flagged(progress: Progress, input: bool, output: bool, info: bool) -> Progress
+    ensures { λ r. ⌜ r ≡ Code.flagged progress input output info ⌝ }
+{
+    Progress {
+        over: progress.over,
+        used: progress.used,
         input,
         output,
         info,
-        start: state.start,
+        start: progress.start,
     }
-}
-
-// InputDescriptor, whose `<` stands at `at` and which reads so.
-fn input_step(at: usize, state: ListState, scan: Scan) -> ListStep
-    ensures { λ r. ⌜ r ≡ Code.inputStep at state scan ⌝ }
-{
-    if state.input {
-        return step_of(Scan::Fault(refusals::WRONG_ELEMENT, at), state);
-    }
-    let next = flagged(state, true, state.output, state.info);
-    ListStep { scan, state: next }
-}
-
-// OutputDescriptor.
-fn output_step(at: usize, state: ListState, scan: Scan) -> ListStep
-    ensures { λ r. ⌜ r ≡ Code.outputStep at state scan ⌝ }
-{
-    if state.output {
-        return step_of(Scan::Fault(refusals::WRONG_ELEMENT, at), state);
-    }
-    let next = flagged(state, state.input, true, state.info);
-    ListStep { scan, state: next }
-}
-
-// Info.
-fn info_step(at: usize, state: ListState, scan: Scan) -> ListStep
-    ensures { λ r. ⌜ r ≡ Code.infoStep at state scan ⌝ }
-{
-    if state.info {
-        return step_of(Scan::Fault(refusals::WRONG_ELEMENT, at), state);
-    }
-    let next = flagged(state, state.input, state.output, true);
-    ListStep { scan, state: next }
 }
 
 // The place of the node that is wanted, after `count` nodes and one more, whose `<` stands at `at`.
@@ -128,43 +148,85 @@ fn is_over(over: bool, count: usize) -> bool
     32 <= count
 }
 
-// One node more, whose `<` stands at `at`.
-fn list_node(state: ListState, node: Node, wanted: usize, at: usize) -> ListState
-    ensures { λ r. ⌜ r ≡ Code.nodeState state node wanted at ⌝ }
+// One node more behind `count` others, whose `<` stands at `at`.
+fn behind_node(progress: Progress, node: Node, count: usize, wanted: usize, at: usize) -> Progress
+    ensures { λ r. ⌜ r ≡ Code.behindNode progress node count wanted at ⌝ }
 {
-    let list = state.list;
-    let count = list.count;
     let kind = node.kind;
-    let next = process_list::append(list, node);
-    ListState {
-        list: next,
-        over: is_over(state.over, count),
-        used: process_list::counted(state.used, kind),
-        input: state.input,
-        output: state.output,
-        info: state.info,
-        start: wanted_start(count, wanted, state.start, at),
+    Progress {
+        over: is_over(progress.over, count),
+        used: process_list::counted(progress.used, kind),
+        input: progress.input,
+        output: progress.output,
+        info: progress.info,
+        start: wanted_start(count, wanted, progress.start, at),
     }
 }
 
-// A carried node, whose `<` stands at `at` and whose name ends at e.
+// One child more behind `count` nodes, whose `<` stands at `at` and which has this node if it is one.
+fn behind_child(
+    progress: Progress,
+    child: FoundChild,
+    node: Node,
+    count: usize,
+    wanted: usize,
+    at: usize,
+) -> Progress
+    ensures { λ r. ⌜ r ≡ Code.behindChild progress child node count wanted at ⌝ }
+{
+    match child {
+        FoundChild::Node => behind_node(progress, node, count, wanted, at),
+        FoundChild::InputDescriptor => flagged(progress, true, progress.output, progress.info),
+        FoundChild::OutputDescriptor => flagged(progress, progress.input, true, progress.info),
+        FoundChild::Info => flagged(progress, progress.input, progress.output, true),
+        FoundChild::Other => progress,
+    }
+}
+
+// A child whose `<` stands at `at` and which may not stand there.
+fn refused(fault: u8, at: usize) -> ChildStep
+    ensures { λ r. ⌜ r ≡ Code.refusedChild fault at ⌝ }
+{
+    ChildStep {
+        scan: Scan::Fault(fault, at),
+        child: FoundChild::Other,
+        node: process_list::blank(),
+    }
+}
+
+// A child that is no node, whose `<` stands at `at` and which reads so; `seen` where it may not repeat and has been there.
+fn once(at: usize, seen: bool, scan: Scan, child: FoundChild) -> ChildStep
+    ensures { λ r. ⌜ r ≡ Code.onceChild at seen scan child ⌝ }
+{
+    if seen {
+        return refused(refusals::WRONG_ELEMENT, at);
+    }
+    ChildStep {
+        scan,
+        child,
+        node: process_list::blank(),
+    }
+}
+
+// A carried node, whose name ends at e and whose numbers are stored from `used` on.
 fn carried_child(
     s: &[u8],
-    at: usize,
     e: usize,
     name: CarriedNode,
-    state: ListState,
-    wanted: usize,
+    used: usize,
     coefficients: &mut [i64],
     powers: &mut [i8],
-) -> ListStep
-    ensures { λ r. ⌜ Code.CarriedReads wanted (now (s .entry)) at e name state r (lent (now (coefficients .entry)) (now (powers .entry))) (lent (now (coefficients .exit)) (now (powers .exit))) ⌝ }
+) -> ChildStep
+    ensures { λ r. ⌜ Code.CarriedReads (now (s .entry)) e name used r (lent (now (coefficients .entry)) (now (powers .entry))) (lent (now (coefficients .exit)) (now (powers .exit))) ⌝ }
 {
-    let step = nodes::node_body(s, e, name, coefficients, powers, state.used);
+    let step = nodes::node_body(s, e, name, coefficients, powers, used);
     let scan = step.scan;
     let node = step.node;
-    let next = list_node(state, node, wanted, at);
-    ListStep { scan, state: next }
+    ChildStep {
+        scan,
+        child: FoundChild::Node,
+        node,
+    }
 }
 
 // A child by its name as a node, whose `<` stands at `at` and whose name ends at e.
@@ -173,17 +235,16 @@ fn node_child(
     at: usize,
     e: usize,
     name: NodeName,
-    state: ListState,
-    wanted: usize,
+    used: usize,
     coefficients: &mut [i64],
     powers: &mut [i8],
-) -> ListStep
-    ensures { λ r. ⌜ Code.NodeChild wanted (now (s .entry)) at e name state r (lent (now (coefficients .entry)) (now (powers .entry))) (lent (now (coefficients .exit)) (now (powers .exit))) ⌝ }
+) -> ChildStep
+    ensures { λ r. ⌜ Code.NodeChild (now (s .entry)) at e name used r (lent (now (coefficients .entry)) (now (powers .entry))) (lent (now (coefficients .exit)) (now (powers .exit))) ⌝ }
 {
     match name {
-        NodeName::Carried(c) => carried_child(s, at, e, c, state, wanted, coefficients, powers),
-        NodeName::NotCarried => step_of(Scan::Fault(refusals::NOT_CARRIED, at), state),
-        NodeName::Other => step_of(Scan::Fault(refusals::WRONG_ELEMENT, at), state),
+        NodeName::Carried(c) => carried_child(s, e, c, used, coefficients, powers),
+        NodeName::NotCarried => refused(refusals::NOT_CARRIED, at),
+        NodeName::Other => refused(refusals::WRONG_ELEMENT, at),
     }
 }
 
@@ -192,33 +253,35 @@ fn list_child(
     s: &[u8],
     at: usize,
     e: usize,
-    state: ListState,
-    wanted: usize,
+    progress: Progress,
     coefficients: &mut [i64],
     powers: &mut [i8],
-) -> ListStep
+) -> ChildStep
     requires { ⌜ at < length (now s) ⌝ }
-    ensures { λ r. ⌜ Code.ChildReads wanted (now (s .entry)) (partIn (now (s .entry)) (at + 1) e) at e state r (lent (now (coefficients .entry)) (now (powers .entry)))
+    ensures { λ r. ⌜ Code.ChildReads (now (s .entry)) (partIn (now (s .entry)) (at + 1) e) at e progress r (lent (now (coefficients .entry)) (now (powers .entry)))
         (lent (now (coefficients .exit)) (now (powers .exit))) ⌝ }
 {
     let w = tags::part(s, at + 1, e);
     if xml::same(w, b"Description") {
-        return step_of(info::text_element(s, e, w), state);
+        let scan = info::text_element(s, e, w);
+        return once(at, false, scan, FoundChild::Other);
     }
     if xml::same(w, b"InputDescriptor") {
-        return input_step(at, state, info::text_element(s, e, w));
+        let scan = info::text_element(s, e, w);
+        return once(at, progress.input, scan, FoundChild::InputDescriptor);
     }
     if xml::same(w, b"OutputDescriptor") {
-        return output_step(at, state, info::text_element(s, e, w));
+        let scan = info::text_element(s, e, w);
+        return once(at, progress.output, scan, FoundChild::OutputDescriptor);
     }
     if xml::same(w, b"Info") {
-        return info_step(at, state, info::info(s, e));
+        return once(at, progress.info, info::info(s, e), FoundChild::Info);
     }
     let name = nodes::node_name(w);
-    node_child(s, at, e, name, state, wanted, coefficients, powers)
+    node_child(s, at, e, name, progress.used, coefficients, powers)
 }
 
-// The content of ProcessList, and its end tag. A child that does not stand whole leaves the state as it was before it.
+// The content of ProcessList, and its end tag. A child that does not stand whole leaves everything as it was before it.
 fn list_content(
     s: &[u8],
     at: usize,
@@ -226,27 +289,35 @@ fn list_content(
     coefficients: &mut [i64],
     powers: &mut [i8],
 ) -> ListStep
-    ensures { λ r. ⌜ Code.ItemsRead wanted ((items List.listItem List.nextFlags List.noFlags) .run)
-        (wholeItems List.listItem List.nextFlags List.noFlags (drop at (now (s .entry)))) at (now (s .entry)) at r (lent (now (coefficients .entry)) (now (powers .entry)))
-        (lent (now (coefficients .exit)) (now (powers .exit))) ⌝ }
+    ensures { λ r. ⌜ Code.ContentReads wanted (now (s .entry)) at r (lent (now (coefficients .entry)) (now (powers .entry))) (lent (now (coefficients .exit)) (now (powers .exit))) ⌝ }
 {
-    let mut state = no_list();
+    let mut list = process_list::empty();
+    let mut so_far = no_progress();
     let mut i = at;
     loop {
         let l = markup::next_tag(s, i);
         match l {
             NextTag::Start(a, e) => {
-                let step = list_child(s, a, e, state, wanted, coefficients, powers);
+                let step = list_child(s, a, e, so_far, coefficients, powers);
                 let scan = step.scan;
-                let next = step.state;
+                let child = step.child;
+                let node = step.node;
+                let k = list.count;
+                let next = behind_child(so_far, child, node, k, wanted, a);
                 let Scan::At(q) = scan else {
-                    return step_of(scan, state);
+                    return ended(scan, list, so_far);
                 };
-                state = next;
+                so_far = next;
                 i = q;
+                if let FoundChild::Node = child {
+                    if k < 32 {
+                        list.nodes[k] = node;
+                        list.count = k + 1;
+                    }
+                }
             }
-            NextTag::End(a) => return step_of(markup::end_tag(s, a, b"ProcessList", 0), state),
-            NextTag::Failed(a, r) => return step_of(r, state),
+            NextTag::End(a) => return ended(markup::end_tag(s, a, b"ProcessList", 0), list, so_far),
+            NextTag::Failed(a, r) => return ended(r, list, so_far),
         }
     }
 }

@@ -26,7 +26,7 @@ use Rattle.claims.proofs.Look.{Shows, shown-elements, SameNodes, look-list}
 use Rattle.replace_run.specs.Runs.{numbersSaid, CallsRun}
 use Rattle.replace_run.proofs.Laws.{length-answers}
 use Rattle.late_nodes.specs.Late.{Each, HasNumber, acceptedAt, NodeIs, NewestWins, EachNewest}
-use Rattle.late_nodes.specs.Late.{KeepsDepthsAndCount, AllApart, Reorderable, Reordered, RunPromises}
+use Rattle.late_nodes.specs.Late.{KeepsDepthsCountAndId, AllApart, Reorderable, Reordered, RunPromises}
 use Rattle.late_nodes.proofs.Wins.{At, Wins, Inside, newest-wins}
 use Rattle.late_nodes.proofs.Shapes.{shapeOf}
 use Rattle.late_nodes.proofs.Orders.{elementIn, elementBy, Fitting, Shaped, any-order}
@@ -129,7 +129,7 @@ module _ (x : Look) (array : length (x .list .nodes) ≡ mostNodes) (v : isValid
 
   -- ---- every order
 
-  fits : (c : Call) → KeepsDepthsAndCount x c → Fitting (start .elements) c
+  fits : (c : Call) → KeepsDepthsCountAndId x c → Fitting (start .elements) c
   unfolding elementOf
   fits c k =
       let e : elementBy c ≡ k .value = ap elementIn (k .parsed) in
@@ -141,14 +141,14 @@ module _ (x : Look) (array : length (x .list .nodes) ≡ mostNodes) (v : isValid
         there = simp (lt-ltb 0 (c .node) f, le-leb (c .node) (length (start .elements)) (omega arith));
         small = k .small;
         parsed = k .parsed ∙ ap (λ (v : Element). done v []) (sym e);
-        shape = ap shapeOf e ∙ (λ j. record { input = k .input j; output = k .output j; count = k .count j }) ∙ ap shapeOf (shown-element x start whole x shown (c .node) f l);
+        shape = ap shapeOf e ∙ (λ j. record { input = k .input j; output = k .output j; count = k .count j; id = k .id j }) ∙ ap shapeOf (shown-element x start whole x shown (c .node) f l);
       }
 
-  all-fit : (cs : List Call) → Each (KeepsDepthsAndCount x) cs → Each (Fitting (start .elements)) cs
+  all-fit : (cs : List Call) → Each (KeepsDepthsCountAndId x) cs → Each (Fitting (start .elements)) cs
   all-fit [] k = tt
   all-fit (c ∷ cs) k = (fits c (k .0), all-fit cs (k .1))
 
-  orders : (others : List Call) → Reordered calls others → Each (KeepsDepthsAndCount x) calls → AllApart calls → left ≡ lookRun x others .1
+  orders : (others : List Call) → Reordered calls others → Each (KeepsDepthsCountAndId x) calls → AllApart calls → left ≡ lookRun x others .1
   orders others r k a =
       let s : Shaped (start .elements) start = record { shape = refl; count = refl; kept = omega (arith, few, kept-length (x .list), array) } in
       let e : end ≡ listRun room start others .1 = any-order room (start .elements) (whole .fits) calls others r (all-fit calls k) a start s in

@@ -7,6 +7,7 @@ use mathlib.Core.List.{List, [], _∷_}
 use Prim.Native.Nat.{ℕ, _-_, _≤_}
 use lib.Dec.{eqb, ltb}
 use lib.ListN.{length, take, set}
+use Rattle.ids.specs.Ids.{idText}
 use Rattle.process_list.specs.List.{Element, numbersOf, nodesOf, nodeAt}
 use Rattle.valid.specs.Valid.{isValid, elementOf}
 use Rattle.grammar.specs.Parse.{done}
@@ -80,7 +81,7 @@ unfoldable pub largest : Call → List Call → Call
 largest c [] = c
 largest c (d ∷ ds) = cond (ltb (callNumber c) (callNumber d)) (largest d ds) (largest c ds)
 
--- node k, from 1, of list and room, 'but for where its numbers stand': kind with style and shape, depths and numbers are those of e, and n is the number kept with it
+-- node k, from 1, of list and room, 'but for where its numbers stand': kind with style and shape, depths, id and numbers are those of e, and n is the number kept with it
 pub record NodeIs (x : Look) (k : ℕ) (e : Element) (n : ℕ) : Type 0 where
   pub element : elementOf (x .room) (nodeAt (x .list) (k - 1)) ≡ e
   pub newest : newestAt x k ≡ n
@@ -110,9 +111,9 @@ pub data Reordered : List Call → List Call → Type 0 where
   swap : {cs : List Call} (c d : Call) → Reordered (c ∷ d ∷ cs) (d ∷ c ∷ cs)
   chain : {cs ds es : List Call} → Reordered cs ds → Reordered ds es → Reordered cs es
 
--- a numbered replacement of a node of x, 'without fault' (its node is there, its element at most 16 MiB, whole and sound), that keeps its 'node's depths, count of numbers'. (02 adds 'and id':
--- nodes have none before W-203)
-pub record KeepsDepthsAndCount (x : Look) (c : Call) : Type 0 where
+-- a numbered replacement of a node of x, 'without fault' (its node is there, its element at most 16 MiB, whole and sound), that keeps its 'node's depths, count of numbers and id': an element without
+-- id where the node has none, else with the very same one
+pub record KeepsDepthsCountAndId (x : Look) (c : Call) : Type 0 where
   pub number : HasNumber c
   pub there : There (x .list) (c .node)
   pub small : length (c .element) ≤ mostBytes
@@ -121,6 +122,7 @@ pub record KeepsDepthsAndCount (x : Look) (c : Call) : Type 0 where
   pub input : value .input ≡ nodeAt (x .list) (c .node - 1) .input
   pub output : value .output ≡ nodeAt (x .list) (c .node - 1) .output
   pub count : numbersOf (value .kind) ≡ numbersOf (nodeAt (x .list) (c .node - 1) .kind)
+  pub id : value .id ≡ idText (nodeAt (x .list) (c .node - 1) .id)
 
 -- 'no two for one node share a number'
 abbrev pub Apart : Call → Call → Type 0
@@ -132,7 +134,7 @@ AllApart (c ∷ cs) = Each (Apart c) cs × AllApart cs
 
 -- the premises of the second theorem: they speak of the look at the start and of the elements, and of no answer
 pub record Reorderable (x : Look) (calls : List Call) : Type 0 where
-  pub each : Each (KeepsDepthsAndCount x) calls
+  pub each : Each (KeepsDepthsCountAndId x) calls
   pub apart : AllApart calls
 
 -- THE PROMISE of a run of calls from any look x, for all inputs: the whole run; 'after any run of numbered replacements alone' the newest has won at each node; and where the calls are such as may be

@@ -36,7 +36,7 @@ pub fn replace_unnumbered(
 }
 
 // `replace_run::replace_all`, whose call i has the number marks[i] if that is below 2^32, else none. If all are numbered, the newest accepted replacement has won at each node; if besides they are
-// without fault, keep their nodes' depths and counts of numbers, and no two for one node share a number, every order of them would have left the same.
+// without fault, keep their nodes' depths, counts of numbers and ids, and no two for one node share a number, every order of them would have left the same.
 pub fn replace_arrivals(
     list: ProcessList,
     ks: &[usize],

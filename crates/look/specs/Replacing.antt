@@ -38,7 +38,8 @@ pub data Replacing : Type 0 where
   replaced : List Element → Replacing
   refused : ℕ → ℕ → Replacing
 
--- ---- an unnumbered call by the list alone: 'Replacing: 16, 19, 4 (the element alone), then the element's own fault, then 10, 13'. The list is a reading, so 16 does not arise
+-- ---- an unnumbered call by the list alone: 'Replacing: 16, 19, 4 (the element alone), then the element's own fault, then 10, 13', with 23 'after 10 and before 13' (02, W-203). The list is a
+-- reading, so 16 does not arise
 
 abbrev pub replacingBy : List Element → Verdict → Replacing
 replacingBy es = byVerdict (replaced es) refused
@@ -96,7 +97,7 @@ isLate kept unnumbered = false
 isLate kept (numbered n) = leb n kept
 
 -- a call by the list alone, of which these numbers are kept: '28, late, its place 0, between 19 and 4', so for a node that is there, whatever its element; 'any other answers as an unnumbered
--- one does'. The order is 16, 19, 28, 4, the element's own fault, 10, 13
+-- one does'. The order is 16, 19, 28, 4, the element's own fault, 10, 23, 13
 unfoldable pub call : ℕ → List ℕ → List Element → Call → Replacing
 call room kept es c =
     cond (isLate (keptAt kept (c .node)) (c .numbering) && isNumbered (c .node) (length es)) (refused Refusal.late 0) (replace room es (c .node) (c .element))

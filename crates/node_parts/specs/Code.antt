@@ -21,6 +21,8 @@ use Rattle.tags.specs.Code.{attributesOf}
 use Rattle.room.specs.Room.{Room, roomLength}
 use Rattle.values.specs.Code.{Laid, roomAfter}
 use Rattle.xml.specs.Bytes.{bytes}
+use Rattle.xml.specs.Xml.{textOf}
+use Rattle.ids.specs.Ids.{heldId}
 use Rattle.clf.specs.Nodes.{depthAt}
 use Rattle.node_parts.specs.declared.NodeStep.{NodeStep}
 
@@ -46,7 +48,7 @@ pub record NumbersIn (n base : ℕ) (m₀ m₁ : Room) (xs : List Decimal) : Typ
 unfoldable pub finishedNode : List ℕ → Attributes → Scan → Kind → NodeStep
 finishedNode s attributes scan kind = record {
   scan = scan;
-  node = Lists.unplaced kind (depthAt (bytes "inBitDepth") (attributesOf s attributes)) (depthAt (bytes "outBitDepth") (attributesOf s attributes));
+  node = Lists.unplaced kind (depthAt (bytes "inBitDepth") (attributesOf s attributes)) (depthAt (bytes "outBitDepth") (attributesOf s attributes)) (heldId (textOf (bytes "id") (attributesOf s attributes)));
 }
 
 abbrev pub failedNode : Scan → NodeStep

@@ -4,7 +4,9 @@ ghost use Rattle.xml.specs.Bytes.{same, bytes};
 ghost use Rattle.xml.specs.Xml.{textOf};
 ghost use Rattle.room.specs.Room.{lent, clearedFrom};
 ghost use Rattle.clf.specs.Nodes as Nodes;
-ghost use Rattle.tags.specs.Code.{attributesOf};
+ghost use Rattle.process_list.specs.declared.Depth.the-variants.{I8};
+ghost use Rattle.tags.specs.Code.{attributesOf, partIn};
+ghost use Rattle.ids.specs.Ids.{heldId};
 ghost use Rattle.values.specs.Code.{Laid};
 ghost use Rattle.node_parts.specs.Code as Code;
 use decimal::Decimal;
@@ -13,6 +15,7 @@ use process_list::Kind;
 use process_list::Node;
 use tags::Attributes;
 use tags::DepthRead;
+use tags::Span;
 use xml::Scan;
 
 // A node: how it reads, and what the list holds of it but for the position.
@@ -21,10 +24,10 @@ pub struct NodeStep {
     pub node: Node,
 }
 
-pub fn depth_at(s: &[u8], attributes: Attributes, w: &[u8]) -> Depth
-    ensures { λ r. ⌜ r ≡ Nodes.depthAt (now (w .entry)) (attributesOf (now (s .entry)) attributes) ⌝ }
+// The depth that a text says, which stands there.
+fn depth_in(s: &[u8], span: Span) -> Depth
+    ensures { λ r. ⌜ r ≡ Nodes.orElse I8 (Nodes.depthOf (partIn (now (s .entry)) (span .start) (span .end))) ⌝ }
 {
-    let span = tags::text_of(s, attributes, w);
     let a = span.start;
     let e = span.end;
     let d = tags::depth_of(tags::part(s, a, e));
@@ -32,6 +35,12 @@ pub fn depth_at(s: &[u8], attributes: Attributes, w: &[u8]) -> Depth
         DepthRead::Is(depth) => depth,
         DepthRead::Other => Depth::I8,
     }
+}
+
+pub fn depth_at(s: &[u8], attributes: Attributes, w: &[u8]) -> Depth
+    ensures { λ r. ⌜ r ≡ Nodes.depthAt (now (w .entry)) (attributesOf (now (s .entry)) attributes) ⌝ }
+{
+    depth_in(s, tags::text_of(s, attributes, w))
 }
 
 pub fn style_is(s: &[u8], attributes: Attributes, w: &[u8]) -> bool
@@ -43,13 +52,34 @@ pub fn style_is(s: &[u8], attributes: Attributes, w: &[u8]) -> bool
     xml::same(tags::part(s, a, e), w)
 }
 
+// The id whose text stands there, in its places.
+fn id_in(s: &[u8], span: Span) -> [u8; 32]
+    ensures { λ r. ⌜ r ≡ heldId (partIn (now (s .entry)) (span .start) (span .end)) ⌝ }
+{
+    let a = span.start;
+    let e = span.end;
+    ids::held(tags::part(s, a, e))
+}
+
+// The id that the attributes say, in its places.
+pub fn id_at(s: &[u8], attributes: Attributes) -> [u8; 32]
+    ensures { λ r. ⌜ r ≡ heldId (textOf (bytes "id") (attributesOf (now (s .entry)) attributes)) ⌝ }
+{
+    id_in(s, tags::text_of(s, attributes, b"id"))
+}
+
 // The node of these attributes.
 pub fn finished(s: &[u8], attributes: Attributes, scan: Scan, kind: Kind) -> NodeStep
     ensures { λ r. ⌜ r ≡ Code.finishedNode (now (s .entry)) attributes scan kind ⌝ }
 {
-    let input = depth_at(s, attributes, b"inBitDepth");
-    let output = depth_at(s, attributes, b"outBitDepth");
-    let node = process_list::unplaced(kind, input, output);
+    let texts = tags::node_texts(s, attributes);
+    let first = texts.input;
+    let second = texts.output;
+    let third = texts.id;
+    let input = depth_in(s, first);
+    let output = depth_in(s, second);
+    let id = id_in(s, third);
+    let node = process_list::unplaced(kind, input, output, id);
     NodeStep { scan, node }
 }
 

@@ -15,6 +15,7 @@ use Rattle.process_list.specs.List.{blankNode, replacedAt, placedList, d
 use Rattle.process_list.specs.File.{fileNode, fileList, keptNumbers, withNewest, keepingNodes, keeping}
 use Rattle.process_list.proofs.Maps.{map-take, map-drop, map-set}
 use Rattle.process_list.proofs.Lists.{list-length}
+use Rattle.process_list.proofs.Seen.{file-seen}
 
 -- ---- the two parts of a list
 
@@ -93,7 +94,7 @@ file-first (n ∷ ns) = file-differs 2 (n .output) ns
 
 pub file-judged : (room : ℕ) (ns : List Node) → judged room (map fileNode ns) ≡ judged room ns
 unfolding judged
-file-judged room ns = simp (length-map, file-first, file-total)
+file-judged room ns = simp (length-map, file-first, file-seen, file-total)
 
 pub file-place : (a : ℕ) (ns : List Node) → map fileNode (placeFrom a ns) ≡ placeFrom a (map fileNode ns)
 unfolding placeFrom withPosition

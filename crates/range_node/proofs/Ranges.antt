@@ -17,6 +17,7 @@ use Rattle.decimal.specs.Decimal as Decimals
 use Rattle.grammar.specs.Parse.{Parser, bindP, retP}
 use Rattle.process_list.specs.declared.Kind.the-variants.{Range, OneEnd}
 use Rattle.process_list.specs.List.{Element, numbersOf, unplaced}
+use Rattle.ids.specs.Ids.{heldId}
 use Rattle.room.specs.Room.{Room, clearedFrom}
 use Rattle.xml.specs.Bytes.{same, bytes}
 use Rattle.xml.specs.Xml.{Attribute, textOf, Tag, startTag, endTag}
@@ -156,12 +157,13 @@ module _ (l : List Attribute) (unclamped : Bool) (style : RangeStyle) (input out
   unfolding oneEndAllowedBy
   allowed-is allowed p q i o k = rw (← style-is p q, ← i, ← o) k
 
-  pub made-is : (s : List ℕ) (a : Attributes) (scan : Scan) (e : ℕ) (node : Node) (kind : Kind) (found : List Bool) → l ≡ attributesOf s a → scan ≡ At e
+  pub made-is : (s : List ℕ) (a : Attributes) (scan : Scan) (e : ℕ) (node : Node) (kind : Kind) (found : List Bool) (id : List ℕ) → l ≡ attributesOf s a → scan ≡ At e
       → unclamped ≡ same (textOf (bytes "style") l) (bytes "noClamp") → style ≡ cond unclamped NoClamp Clamp
-      → input ≡ depthAt (bytes "inBitDepth") l → output ≡ depthAt (bytes "outBitDepth") l → kind ≡ kindFound style found → node ≡ unplaced kind input output
+      → input ≡ depthAt (bytes "inBitDepth") l → output ≡ depthAt (bytes "outBitDepth") l → id ≡ heldId (textOf (bytes "id") l) → kind ≡ kindFound style found
+      → node ≡ unplaced kind input output id
       → record { scan = scan; node = node } ≡ finishedNode s a (At e) (kindFound (styleAt l) found)
   unfolding finishedNode
-  made-is s a scan e node kind found y j p q i o k n = rw (← style-is p q, ← y, ← i, ← o, j, n, k)
+  made-is s a scan e node kind found id y j p q i o d k n = rw (← style-is p q, ← y, ← i, ← o, ← d, j, n, k)
 
 module _ (s : List ℕ) (at base : ℕ) (tag : StartTag) where
   abbrev opens : Parser Tag

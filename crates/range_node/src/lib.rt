@@ -416,6 +416,7 @@ pub fn read_range(
     };
     let found = c.found;
     store_found(found, &small, &small_powers, coefficients, powers, base);
-    let node = process_list::unplaced(found_kind(found, style), input, output);
+    let id = node_parts::id_at(s, attributes);
+    let node = process_list::unplaced(found_kind(found, style), input, output, id);
     NodeStep { scan, node }
 }

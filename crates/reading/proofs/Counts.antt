@@ -7,7 +7,7 @@ use native.Mathlib.Omega.{arith}
 use lib.Dec.{ltb}
 use lib.ListN.{length}
 use Rattle.process_list.specs.declared.Verdict.{Verdict}
-use Rattle.process_list.specs.declared.Verdict.the-variants.{Accepted, NoNode, TooManyNodes, DepthDiffers, TooManyNumbers}
+use Rattle.process_list.specs.declared.Verdict.the-variants.{Accepted, NoNode, TooManyNodes, DepthDiffers, IdSeen, TooManyNumbers}
 use Rattle.process_list.specs.declared.Node.{Node}
 use Rattle.process_list.specs.List.{Element, nodeOf, nodesOf, listOf, placed, placeFrom, total, capped, verdict, mostNodes}
 use Rattle.process_list.proofs.Laws.{capped-exact}
@@ -30,6 +30,7 @@ by-verdict room l Accepted e = e
 by-verdict room l NoNode e = tt
 by-verdict room l TooManyNodes e = tt
 by-verdict room l (DepthDiffers k) e = tt
+by-verdict room l (IdSeen k) e = tt
 by-verdict room l TooManyNumbers e = tt
 
 list-judged : (room : ℕ) (l : List Element) → Judged room (listReading room l)

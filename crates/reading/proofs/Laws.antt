@@ -74,6 +74,7 @@ list-judged l Verdicts.Accepted = refl
 list-judged l Verdicts.NoNode = refl
 list-judged l Verdicts.TooManyNodes = refl
 list-judged l (Verdicts.DepthDiffers k) = refl
+list-judged l (Verdicts.IdSeen k) = refl
 list-judged l Verdicts.TooManyNumbers = refl
 
 -- ---- what the state of a text says
@@ -121,6 +122,7 @@ verdict-accepted l Verdicts.Accepted q = (refl, refl)
 verdict-accepted l Verdicts.NoNode q = nope cc
 verdict-accepted l Verdicts.TooManyNodes q = nope cc
 verdict-accepted l (Verdicts.DepthDiffers k) q = nope cc
+verdict-accepted l (Verdicts.IdSeen k) q = nope cc
 verdict-accepted l Verdicts.TooManyNumbers q = nope cc
 
 -- its nodes are those that stand whole
@@ -369,6 +371,7 @@ verdict-refused Verdicts.Accepted q = absurd (q refl)
 verdict-refused Verdicts.NoNode q = refl
 verdict-refused Verdicts.TooManyNodes q = refl
 verdict-refused (Verdicts.DepthDiffers k) q = refl
+verdict-refused (Verdicts.IdSeen k) q = refl
 verdict-refused Verdicts.TooManyNumbers q = refl
 
 -- the part itself, of which the code knows its place

@@ -26,15 +26,17 @@ use Rattle.clf.specs.Reading.{accepted, faulty, unfit, mostBytes, nodesAmong, n
 use Rattle.clf.specs.Reading as Reading
 use Rattle.look.specs.Look.{Look, roomLengthOf, asRead, holding}
 use Rattle.claims.specs.LookRuns.{readInto}
+use Rattle.claims.proofs.Unique.{repeat-none}
 use Rattle.claims.proofs.Rules.{WholeElements, whole-rules, accepted-rules, read-short, text-elements}
 use Rattle.claims.proofs.Look.{freshNodes, shows-fresh, shown-valid}
-use Rattle.written_form.specs.Written.{joined, listLines, refused, written, isIdByte, idRight, fitting, writeOf}
+use Rattle.written_form.specs.Written.{joined, listLines, mostIdBytes, refused, written, fitting, writeOf}
+use Rattle.ids.specs.Ids.{isIdByte, allIdBytes, idRight}
 use Rattle.written_form.proofs.Tail.{nodesText, headText, listText, list-text}
 use Rattle.written_form.proofs.Short.{elements-short}
 use Rattle.claims.specs.Rules.{Allowed}
 use Rattle.reads_back.specs.Back.{ReadAs, HasPlaces, Valid, elementsHeld, writing, EqualRoom, ReadingLeaves, ReadingLeavesIn, WrittenReadsBack, WrittenReadsIn, Refusal16, ExactlyAllowed}
 use Rattle.reads_back.proofs.Items.{Item, items-from, line-item, Read, nodes-read}
-use Rattle.reads_back.proofs.Heads.{Id, id-parts, rootAttributes, head-reads}
+use Rattle.reads_back.proofs.Heads.{rootAttributes, head-reads}
 
 -- ---- the document of a written list
 
@@ -44,18 +46,18 @@ record Documented (id : List ℕ) (es : List Element) : Type 0 where
   reads : document .run (listText id es) ≡ done (record { start = start; parts = items }) (10 ∷ [])
   nodes : nodesAmong items ≡ es
 
-document-reads : (id : List ℕ) (es : List Element) → Id id → every sound es ≡ true → Documented id es
+document-reads : (id : List ℕ) (es : List Element) → idRight mostIdBytes id ≡ true → every sound es ≡ true → Documented id es
 unfolding listText headText document nodesAmong
 document-reads id es k h =
     let s : List ℕ = listText id es in
     let n : List ℕ = nodesText es (bytes "</ProcessList>\n") in
     let g : Item = (misc, before (10 ∷ n) n) in
-    let tag : Tag = record { attributes = rootAttributes id k; empty = false } in
+    let tag : Tag = record { attributes = rootAttributes id; empty = false } in
     let i : Read noFlags (g ∷ []) n (10 ∷ []) es = nodes-read noFlags (g ∷ []) es (10 ∷ []) h in
     record {
       start = before s (10 ∷ n);
       items = g ∷ i .parts;
-      reads = ap (λ (o : Out Tag). thenOut (keptOut o s) (λ x r. thenOut ((listContent (x .0)) .run r) (λ l. retP (record { start = x .1; parts = l })))) (head-reads id k (10 ∷ n))
+      reads = ap (λ (o : Out Tag). thenOut (keptOut o s) (λ x r. thenOut ((listContent (x .0)) .run r) (λ l. retP (record { start = x .1; parts = l })))) (head-reads mostIdBytes id k (10 ∷ n))
           ∙ ap (λ (o : Out (List Item)). thenOut o (λ l. retP (record { start = before s (10 ∷ n); parts = l }))) (items-from (10 ∷ n) ∙ line-item noFlags [] n ∙ i .reads);
       nodes = i .nodes;
     }
@@ -73,6 +75,7 @@ allowed-verdict room es a =
       some = omega (arith, a .some, heads-length es);
       few = omega (arith, a .few, heads-length es);
       chained = a .chained;
+      apart = repeat-none es (a .nodes) (a .unique);
       holds = omega (arith, a .holds, all-length es (a .nodes));
     })
 
@@ -80,7 +83,8 @@ list-accepted : (room : ℕ) (es : List Element) → verdict room es ≡ Accepte
 unfolding listReading
 list-accepted room es v = ap (readingBy es) v
 
-text-accepted : (room : ℕ) (id : List ℕ) (es : List Element) → Id id → every sound es ≡ true → verdict room es ≡ Accepted → readText room (joined (listLines id es)) ≡ accepted es
+text-accepted : (room : ℕ) (id : List ℕ) (es : List Element) → idRight mostIdBytes id ≡ true → every sound es ≡ true → verdict room es ≡ Accepted
+    → readText room (joined (listLines id es)) ≡ accepted es
 unfolding readText
 text-accepted room id es k h v =
     let s : List ℕ = listText id es in
@@ -93,16 +97,15 @@ text-accepted room id es k h v =
     ∙ list-accepted room es v
 
 -- at most 16 MiB: '4 first'
-text-small : (room : ℕ) (id : List ℕ) (es : List Element) → idRight id ≡ true → Allowed room es → length (joined (listLines id es)) ≤ mostBytes
+text-small : (room : ℕ) (id : List ℕ) (es : List Element) → idRight mostIdBytes id ≡ true → Allowed room es → length (joined (listLines id es)) ≤ mostBytes
 text-small room id es i a = elements-short id es i (a .nodes) (a .few) (omega (arith, a .holds))
 
 -- over the elements: 'a list written out reads back as that list'
-pub list-reads-back : (room : ℕ) (id : List ℕ) (es : List Element) → idRight id ≡ true → Allowed room es → ReadAs room (joined (listLines id es)) es
+pub list-reads-back : (room : ℕ) (id : List ℕ) (es : List Element) → idRight mostIdBytes id ≡ true → Allowed room es → ReadAs room (joined (listLines id es)) es
 unfolding read
 list-reads-back room id es i a =
-    let k : Id id = id-parts id i in
     ap (λ (v : Bool). cond v (faulty 4 0) (readText room (joined (listLines id es)))) (le-ltb mostBytes (length (joined (listLines id es))) (text-small room id es i a))
-    ∙ text-accepted room id es k (a .nodes) (allowed-verdict room es a)
+    ∙ text-accepted room id es i (a .nodes) (allowed-verdict room es a)
 
 -- ---- which lists are read
 
@@ -110,11 +113,11 @@ list-reads-back room id es i a =
 accepted-whole : (room : ℕ) (file : List ℕ) (l : List Element) → read room file ≡ accepted l → WholeElements room l
 accepted-whole room file l e = text-elements room file l (read-short room file l e .text)
 
-plain-id : idRight (bytes "a") ≡ true
-unfolding idRight isIdByte isLetter every
+plain-id : idRight mostIdBytes (bytes "a") ≡ true
+unfolding idRight allIdBytes isIdByte isLetter
 plain-id = refl
 
--- a list is the list of some accepted file exactly if it keeps the rules (1 to 32 nodes, 10, 13, and each node's own)
+-- a list is the list of some accepted file exactly if it keeps the rules (1 to 32 nodes, 10, 23, 13, and each node's own)
 pub exactly-allowed : (room : ℕ) (es : List Element) → ExactlyAllowed room es
 exactly-allowed room es = (λ a. (joined (listLines (bytes "a") es), list-reads-back room (bytes "a") es plain-id a), λ f. back (f .0) (f .1))
   where
@@ -138,13 +141,13 @@ module _ (x : Look) (p : HasPlaces x) (v : Valid x) where
   -- in a room that holds the numbers
   module _ (y : Look) (h : length (allNumbers (elementsHeld x)) ≤ roomLengthOf y) where
     allowed-in : Allowed (roomLengthOf y) (elementsHeld x)
-    allowed-in = let a = held-allowed in record { some = a .some; few = a .few; chained = a .chained; holds = omega (arith, a .holds); nodes = a .nodes }
+    allowed-in = let a = held-allowed in record { some = a .some; few = a .few; chained = a .chained; unique = a .unique; holds = omega (arith, a .holds); nodes = a .nodes }
 
     holding-in : (holding y (elementsHeld x) .list ≡ fileList (x .list)) × (holding y (elementsHeld x) .room ≡ filledWith (allNumbers (elementsHeld x)) (y .room))
     unfolding holding
     holding-in = (sym (reading .list), refl)
 
-    pub valid-reads-in : (id : List ℕ) → idRight id ≡ true → ReadingLeavesIn y (joined (listLines id (elementsHeld x))) x
+    pub valid-reads-in : (id : List ℕ) → idRight mostIdBytes id ≡ true → ReadingLeavesIn y (joined (listLines id (elementsHeld x))) x
     valid-reads-in id i =
         let r : ReadAs (roomLengthOf y) (joined (listLines id (elementsHeld x))) (elementsHeld x) = list-reads-back (roomLengthOf y) id (elementsHeld x) i allowed-in in
         let q : readInto y (joined (listLines id (elementsHeld x))) ≡ holding y (elementsHeld x) = ap (λ (z : Reading.Reading). holding y (nodesIn z)) r in
@@ -162,7 +165,7 @@ module _ (x : Look) (p : HasPlaces x) (v : Valid x) where
     holding-equal es = rw (filled-equal (allNumbers es) (x .room) (y .room) (e .room) (e .behind)) refl
 
     -- the text of a valid list and room, under any right id
-    pub valid-reads-back : (id : List ℕ) → idRight id ≡ true → ReadingLeaves y (joined (listLines id (elementsHeld x))) x
+    pub valid-reads-back : (id : List ℕ) → idRight mostIdBytes id ≡ true → ReadingLeaves y (joined (listLines id (elementsHeld x))) x
     valid-reads-back id i =
         let r : ReadAs (roomLengthOf x) (joined (listLines id (elementsHeld x))) (elementsHeld x) = list-reads-back (roomLengthOf x) id (elementsHeld x) i held-allowed in
         let q : read (roomLengthOf y) (joined (listLines id (elementsHeld x))) ≡ accepted (elementsHeld x) = ap (λ (n : ℕ). read n (joined (listLines id (elementsHeld x)))) (e .room) ∙ r in
@@ -175,14 +178,14 @@ module _ (x : Look) (p : HasPlaces x) (v : Valid x) where
 -- what writing answered: list and room are valid, the id is right, and the text is theirs
 record Wrote (x : Look) (id text : List ℕ) : Type 0 where
   valid : Valid x
-  right : idRight id ≡ true
+  right : idRight mostIdBytes id ≡ true
   is : joined (listLines id (elementsHeld x)) ≡ text
 
 wrote : (x : Look) (id : List ℕ) (out : ℕ) (text : List ℕ) → writing x id out ≡ written text → Wrote x id text
 unfolding writeOf fitting
-wrote x id out text e = go (isValid (x .list) (x .room)) (idRight id) (ltb out (length (joined (listLines id (elementsHeld x))))) refl refl e
+wrote x id out text e = go (isValid (x .list) (x .room)) (idRight mostIdBytes id) (ltb out (length (joined (listLines id (elementsHeld x))))) refl refl e
   where
-    go : (a b c : Bool) → isValid (x .list) (x .room) ≡ a → idRight id ≡ b
+    go : (a b c : Bool) → isValid (x .list) (x .room) ≡ a → idRight mostIdBytes id ≡ b
         → cond a (cond b (cond c (refused 17) (written (joined (listLines id (elementsHeld x))))) (refused 18)) (refused 16) ≡ written text → Wrote x id text
     go true true true q r z = nope cc
     go true true false q r z = record { valid = q; right = r; is = cc }

@@ -16,6 +16,7 @@ use Rattle.process_list.specs.File.{fileNode, keeping}
 use Rattle.process_list.specs.List.{Element, nodesOf}
 use Rattle.process_list.proofs.Files.{file-nodes, file-keeping}
 use Rattle.room.specs.Room.{Room, roomLength}
+use Rattle.ids.specs.Ids.{idRight}
 use Rattle.valid.specs.Valid.{isValid, elementsOf}
 use Rattle.valid.proofs.Readings.{valid-file, elements-file}
 use Rattle.tags.specs.Code.{partIn}
@@ -35,7 +36,7 @@ use Rattle.claims.proofs.Calls.{isCallFault, call-number}
 use Rattle.pixel_run.specs.Finite.{firstNotFinite}
 use Rattle.running.specs.declared.Ran.{Ran}
 use Rattle.running.specs.Running.{preparedOf, rowsOf, runNode, runNodes, notThrees, notFinite, ran, ranOf, pixelsOf}
-use Rattle.written_form.specs.Written.{joined, listLines, Writing, refused, written, idRight, fitting, writeOf, outputOf}
+use Rattle.written_form.specs.Written.{joined, listLines, mostIdBytes, Writing, refused, written, fitting, writeOf, outputOf}
 use Rattle.written_form.specs.Written as Text
 use Rattle.writing.specs.declared.Written.{Written}
 use Rattle.writing.specs.Writing.{writingAnswer}
@@ -54,7 +55,7 @@ record Zero (w : Writing) : Type 0 where
 -- the refusals of writing are 16, 18 and 17
 zero-written : (x : Look) (id : List ℕ) (n : ℕ) → Text.writingNumber (writing x id n) ≡ 0 → Zero (writing x id n)
 unfolding writeOf fitting
-zero-written x id n z = go (isValid (x .list) (x .room)) (idRight id) (ltb n (length (joined (listLines id (elementsOf (x .list) (x .room)))))) z
+zero-written x id n z = go (isValid (x .list) (x .room)) (idRight mostIdBytes id) (ltb n (length (joined (listLines id (elementsOf (x .list) (x .room)))))) z
   where
     text : List ℕ
     text = joined (listLines id (elementsOf (x .list) (x .room)))
@@ -115,7 +116,7 @@ wrote-read x p id w r out₀ out₁ m₀ m₁ e o h =
 -- as the code goes: the part of the output that was written is read
 written-fits : (x : Look) (id : List ℕ) (n : ℕ) → Text.writingLength (writing x id n) ≤ n
 unfolding writeOf fitting
-written-fits x id n = go (isValid (x .list) (x .room)) (idRight id) (ltb n (length text)) refl
+written-fits x id n = go (isValid (x .list) (x .room)) (idRight mostIdBytes id) (ltb n (length text)) refl
   where
     text : List ℕ
     text = joined (listLines id (elementsOf (x .list) (x .room)))
@@ -182,9 +183,9 @@ write-refuses x p id r out₀ out₁ e o = record {
   output = o;
   unseen = write-unseen x id (length out₀);
   refuses = refuses x p (r .number)
-      (λ v z. valid (isValid (x .list) (x .room)) (idRight id) (ltb (length out₀) (length text)) v (sym (ap (λ (w : Written). w .number) e) ∙ z))
+      (λ v z. valid (isValid (x .list) (x .room)) (idRight mostIdBytes id) (ltb (length out₀) (length text)) v (sym (ap (λ (w : Written). w .number) e) ∙ z))
       (λ v. ap (λ (w : Written). w .number) e ∙ ap (λ (b : Bool). Text.writingNumber
-      (cond b (cond (idRight id) (cond (ltb (length out₀) (length text)) (refused 17) (written text)) (refused 18)) (refused 16))) v);
+      (cond b (cond (idRight mostIdBytes id) (cond (ltb (length out₀) (length text)) (refused 17) (written text)) (refused 18)) (refused 16))) v);
 }
   where
     text : List ℕ

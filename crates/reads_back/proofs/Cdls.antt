@@ -12,19 +12,20 @@ use Rattle.process_list.specs.declared.Depth.{Depth}
 use Rattle.process_list.specs.declared.Kind.the-variants.{Cdl}
 use Rattle.grammar.specs.Parse.{Out, done, thenOut, retP}
 use Rattle.xml.specs.Bytes.{bytes, same, isLetter, isDigit, isNameByte}
-use Rattle.xml.specs.Xml.{textOf, Tag}
+use Rattle.xml.specs.Xml.{Attribute, textOf, Tag}
 use Rattle.xml.specs.Elements.{held}
+use Rattle.ids.specs.Ids.{idAllowed}
 use Rattle.clf.specs.Numbers.{anyNumber, notBelowZero, mustBeOne}
 use Rattle.clf.specs.Nodes.{cdlStyle, elementWith, notEmptyRules, sopHolder, sopNode, satHolder, satNode, CdlState, noCdl, cdlHolder, cdlTexts, cdlNode, cdlRules, cdlContent, ascCdl}
 use Rattle.claims.proofs.Numbers.{Each, Kept}
 use Rattle.valid.specs.Valid.{every}
 use Rattle.written_form.specs.Written.{cdlStyleText}
-use Rattle.written_form.proofs.Tail.{valueText, sopText, satText, depthsText}
+use Rattle.written_form.proofs.Tail.{valueText, sopText, satText, depthsText, nodeIdText}
 use Rattle.reads_back.proofs.Texts.{isName}
 use Rattle.reads_back.proofs.Tags.{quoted, greater-name, tag-from, tag-ends}
 use Rattle.reads_back.proofs.Held.{heldFrom, held-from, held-line, held-child, held-end}
 use Rattle.reads_back.proofs.Values.{value-child}
-use Rattle.reads_back.proofs.Depths.{withDepths, lastText, node-is, NodeRules, style-last, last-tag}
+use Rattle.reads_back.proofs.Depths.{withDepths, idOf, id-said-first, lastText, node-is, NodeRules, LastName, style-last, last-said, last-tag}
 
 sop-name : isName (bytes "SOPNode") ≡ true
 unfolding isName isNameByte isLetter isDigit every
@@ -147,8 +148,17 @@ unfolding same
 style-right Fwd = refl
 style-right FwdNoClamp = refl
 
+style-of : (style : CdlStyle) → cdlStyle (fwdText style) ≡ style
+unfolding same
+style-of Fwd = refl
+style-of FwdNoClamp = refl
+
+-- its attribute stands last
+styled : LastName cdlRules (bytes "style")
+styled = style-last cdlRules refl
+
 abbrev cdl-rules : NodeRules cdlRules
-cdl-rules = record { rest = cdlTexts; texts = refl; opened = refl; in-free = refl; out-free = refl }
+cdl-rules = record { rest = cdlTexts; texts = refl; opened = refl; in-free = refl; out-free = refl; id-free = refl }
 
 -- its ten numbers, each kept to its rule
 pub record Ten (s1 s2 s3 o1 o2 o3 p1 p2 p3 v : Decimal) : Type 0 where
@@ -181,22 +191,24 @@ module _ (s1 s2 s3 o1 o2 o3 p1 p2 p3 v : Decimal) (k : Ten s1 s2 s3 o1 o2 o3 p1 
       ∙ held-line cdlHolder (withBoth first-nine (v ∷ [])) z
       ∙ held-end cdlHolder (withBoth first-nine (v ∷ [])) t cdl-name refl
 
-  module _ (i o : Depth) where
-    kind-said : (style : CdlStyle) → cdlStyle (textOf (bytes "style") (withDepths i o (record { name = bytes "style"; text = fwdText style } ∷ []))) ≡ style
-    unfolding textOf same
-    kind-said Fwd = refl
-    kind-said FwdNoClamp = refl
+  module _ (i o : Depth) (id : List ℕ) (h : idAllowed id ≡ true) where
+    -- the attributes of a written ASC_CDL, behind the depths
+    abbrev behindDepths : CdlStyle → List Attribute
+    behindDepths style = idOf id ++ record { name = bytes "style"; text = fwdText style } ∷ []
+
+    kind-said : (style : CdlStyle) → cdlStyle (textOf (bytes "style") (withDepths i o (behindDepths style))) ≡ style
+    kind-said style = ap cdlStyle (last-said cdlRules cdl-rules (bytes "style") styled i o id (fwdText style)) ∙ style-of style
 
     pub cdl-reads : (style : CdlStyle) (t : List ℕ)
-        → ascCdl .run (depthsText i o (cdlStyleText style ++ (bytes ">\n" ++ sopText ten (satText ten (bytes "</ASC_CDL>" ++ t)))))
-        ≡ done (record { kind = Cdl style; input = i; output = o; numbers = ten }) t
+        → ascCdl .run (depthsText i o (nodeIdText id (cdlStyleText style ++ (bytes ">\n" ++ sopText ten (satText ten (bytes "</ASC_CDL>" ++ t))))))
+        ≡ done (record { kind = Cdl style; input = i; output = o; id = id; numbers = ten }) t
     unfolding ascCdl
     cdl-reads style t =
         let r : List ℕ = 10 ∷ sopText ten (satText ten (bytes "</ASC_CDL>" ++ t)) in
-        let l = withDepths i o (record { name = bytes "style"; text = fwdText style } ∷ []) in
-        ap (λ (s : List ℕ). ascCdl .run (depthsText i o s)) (style-text style (62 ∷ r))
+        let l = withDepths i o (behindDepths style) in
+        ap (λ (s : List ℕ). ascCdl .run (depthsText i o (nodeIdText id s))) (style-text style (62 ∷ r))
         ∙ ap (λ (x : Out Tag). thenOut x (λ tag u. thenOut ((cdlContent tag) .run u) (λ st. retP (cdlNode (tag .attributes) st))))
-        (last-tag cdlRules cdl-rules i o (bytes "style") (style-last cdlRules refl) (fwdText style) r (style-quoted style) (style-right style))
+        (last-tag cdlRules cdl-rules i o id h (bytes "style") styled (fwdText style) r (style-quoted style) (style-right style))
         ∙ ap (λ (x : Out CdlState). thenOut x (λ st. retP (cdlNode l st))) (content-reads t)
         ∙ ap (λ (u : CdlStyle). done (elementWith l (Cdl u) ten) t) (kind-said style)
-        ∙ ap (λ (x : Element). done x t) (node-is i o (record { name = bytes "style"; text = fwdText style } ∷ []) (Cdl style) ten)
+        ∙ ap (λ (x : Element). done x t) (node-is i o id (behindDepths style) (Cdl style) ten (id-said-first id (bytes "style") (fwdText style) (styled .id-not)))

@@ -1,5 +1,6 @@
 pub mod Texts
 pub mod Tags
+pub mod Ids
 pub mod Held
 pub mod Numbers
 pub mod Shapes

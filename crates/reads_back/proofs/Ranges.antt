@@ -14,23 +14,25 @@ use lib.ListN.{set}
 use Rattle.decimal.specs.declared.Decimal.{Decimal}
 use Rattle.decimal_value.specs.Value.{less, atMost, equal}
 use Rattle.process_list.specs.declared.Depth.{Depth}
+use Rattle.process_list.specs.declared.Kind.{Kind}
 use Rattle.process_list.specs.declared.Kind.the-variants.{Range, OneEnd}
 use Rattle.grammar.specs.Parse.{Out, done, thenOut, retP}
 use Rattle.xml.specs.Bytes.{bytes, same, isLetter, isDigit, isNameByte}
 use Rattle.xml.specs.Xml.{Attribute, textOf, Tag}
 use Rattle.xml.specs.Elements.{Holder, held}
+use Rattle.ids.specs.Ids.{idAllowed}
 use Rattle.clf.specs.Numbers.{anyNumber}
 use Rattle.clf.specs.Nodes.{elementWith, nodeRules, RangeState, noValues, isThere, rangeIndex, onlyNumber, inOf, outOf, onlyPair, pairEqual, oneEndFault, rangeMissing, rangeHolder, rangeTexts}
-use Rattle.clf.specs.Nodes.{styleAt, depthAt, oneEndAllowed, oneEndAllowedBy, rangeNode, range}
+use Rattle.clf.specs.Nodes.{rangeStyle, styleAt, depthAt, oneEndAllowed, oneEndAllowedBy, rangeNode, range}
 use Rattle.claims.proofs.Numbers.{Each, Kept}
 use Rattle.valid.specs.Valid.{every}
 use Rattle.written_form.specs.Written.{rangeStyleText}
-use Rattle.written_form.proofs.Tail.{valueText, rangeText, pairText, oneEndText, depthsText}
+use Rattle.written_form.proofs.Tail.{valueText, rangeText, pairText, oneEndText, depthsText, nodeIdText}
 use Rattle.reads_back.proofs.Texts.{isName}
 use Rattle.reads_back.proofs.Tags.{quoted}
 use Rattle.reads_back.proofs.Held.{heldFrom, held-from, held-line, held-end}
 use Rattle.reads_back.proofs.Values.{value-child}
-use Rattle.reads_back.proofs.Depths.{withDepths, depth-said, lastText, node-is, NodeRules, style-last, last-tag}
+use Rattle.reads_back.proofs.Depths.{withDepths, depth-said, idOf, id-said-first, lastText, node-is, NodeRules, LastName, style-last, last-said, last-tag}
 
 pub range-name : isName (bytes "Range") ≡ true
 unfolding isName isNameByte isLetter isDigit every
@@ -149,15 +151,12 @@ pair-read end a b t k =
 -- ---- the start tag
 
 abbrev range-rules : NodeRules (nodeRules (λ w. 0) rangeTexts)
-range-rules = record { rest = rangeTexts; texts = refl; opened = refl; in-free = refl; out-free = refl }
+range-rules = record { rest = rangeTexts; texts = refl; opened = refl; in-free = refl; out-free = refl; id-free = refl }
 
 -- the style of a Range
 abbrev clampText : RangeStyle → List ℕ
 clampText Clamp = bytes "Clamp"
 clampText NoClamp = bytes "noClamp"
-
-abbrev styled : RangeStyle → List Attribute
-styled style = record { name = bytes "style"; text = clampText style } ∷ []
 
 style-text : (style : RangeStyle) (t : List ℕ) → rangeStyleText style ++ t ≡ lastText (bytes "style") (clampText style) t
 style-text Clamp t = refl
@@ -173,15 +172,25 @@ unfolding same
 style-right Clamp = refl
 style-right NoClamp = refl
 
-module _ (i o : Depth) where
-  -- the attributes of a written Range
+style-of : (style : RangeStyle) → rangeStyle (clampText style) ≡ style
+unfolding same
+style-of Clamp = refl
+style-of NoClamp = refl
+
+-- its attribute stands last
+styled : LastName (nodeRules (λ w. 0) rangeTexts) (bytes "style")
+styled = style-last (nodeRules (λ w. 0) rangeTexts) refl
+
+module _ (i o : Depth) (id : List ℕ) (h : idAllowed id ≡ true) where
+  -- the attributes of a written Range: those behind its depths, and all
+  abbrev behindDepths : RangeStyle → List Attribute
+  behindDepths style = idOf id ++ record { name = bytes "style"; text = clampText style } ∷ []
+
   abbrev written : RangeStyle → List Attribute
-  written style = withDepths i o (styled style)
+  written style = withDepths i o (behindDepths style)
 
   kind-said : (style : RangeStyle) → styleAt (written style) ≡ style
-  unfolding textOf same
-  kind-said Clamp = refl
-  kind-said NoClamp = refl
+  kind-said style = ap rangeStyle (last-said (nodeRules (λ w. 0) rangeTexts) range-rules (bytes "style") styled i o id (clampText style)) ∙ style-of style
 
   in-said : (style : RangeStyle) → depthAt (bytes "inBitDepth") (written style) ≡ i
   unfolding textOf same
@@ -191,41 +200,44 @@ module _ (i o : Depth) where
   unfolding textOf same
   out-said style = rw (depth-said o)
 
+  -- the node is the element
+  element-is : (style : RangeStyle) (kind : Kind) (ns : List Decimal) → elementWith (written style) kind ns ≡ record { kind = kind; input = i; output = o; id = id; numbers = ns }
+  element-is style kind ns = node-is i o id (behindDepths style) kind ns (id-said-first id (bytes "style") (clampText style) (styled .id-not))
+
   -- W-202: equal depths and style Clamp allow one pair alone
   clamp-allowed : sameDepth i o ≡ true → oneEndAllowedBy (written Clamp) ≡ true
   unfolding oneEndAllowedBy oneEndAllowed
-  clamp-allowed h = rw (kind-said Clamp, in-said Clamp, out-said Clamp, h)
+  clamp-allowed e = rw (kind-said Clamp, in-said Clamp, out-said Clamp, e)
 
   -- the start tag, in front of a content that is read
   tagged : (style : RangeStyle) (s : List ℕ) (st : RangeState) (t : List ℕ) → (held (rangeHolder (oneEndAllowedBy (written style))) noValues) .run (10 ∷ s) ≡ done st t
-      → range .run (depthsText i o (rangeStyleText style ++ (bytes ">\n" ++ s))) ≡ done (rangeNode (written style) st) t
+      → range .run (depthsText i o (nodeIdText id (rangeStyleText style ++ (bytes ">\n" ++ s)))) ≡ done (rangeNode (written style) st) t
   unfolding range
   tagged style s st t e =
-      ap (λ (u : List ℕ). range .run (depthsText i o u)) (style-text style (62 ∷ 10 ∷ s))
+      ap (λ (u : List ℕ). range .run (depthsText i o (nodeIdText id u))) (style-text style (62 ∷ 10 ∷ s))
       ∙ ap (λ (x : Out Tag). thenOut x (λ tag u. thenOut ((held (rangeHolder (oneEndAllowedBy (tag .attributes))) noValues) .run u) (λ st. retP (rangeNode (tag .attributes) st))))
-      (last-tag (nodeRules (λ w. 0) rangeTexts) range-rules i o (bytes "style") (style-last (nodeRules (λ w. 0) rangeTexts) refl) (clampText style) (10 ∷ s) (style-quoted style) (style-right style))
+      (last-tag (nodeRules (λ w. 0) rangeTexts) range-rules i o id h (bytes "style") styled (clampText style) (10 ∷ s) (style-quoted style) (style-right style))
       ∙ ap (λ (x : Out RangeState). thenOut x (λ st. retP (rangeNode (written style) st))) e
 
   -- A RANGE WITH FOUR VALUES
   pub range-reads : (a b c d : Decimal) (style : RangeStyle) (t : List ℕ) → Each (Kept anyNumber) (a ∷ b ∷ c ∷ d ∷ []) → (less a b && atMost c d) ≡ true
-      → range .run (depthsText i o (rangeStyleText style ++ (bytes ">\n" ++ rangeText (a ∷ b ∷ c ∷ d ∷ []) (bytes "</Range>" ++ t))))
-      ≡ done (record { kind = Range style; input = i; output = o; numbers = a ∷ b ∷ c ∷ d ∷ [] }) t
+      → range .run (depthsText i o (nodeIdText id (rangeStyleText style ++ (bytes ">\n" ++ rangeText (a ∷ b ∷ c ∷ d ∷ []) (bytes "</Range>" ++ t)))))
+      ≡ done (record { kind = Range style; input = i; output = o; id = id; numbers = a ∷ b ∷ c ∷ d ∷ [] }) t
   range-reads a b c d style t k e =
       let z : List ℕ = bytes "</Range>" ++ t in
       let l = written style in
       let v = oneEndAllowedBy l in
       tagged style (rangeText (a ∷ b ∷ c ∷ d ∷ []) z) (fourValues a b c d) t (content-reads v (fourValues a b c d) (rangeText (a ∷ b ∷ c ∷ d ∷ []) z) t (four-read v a b c d z k) (four-right v a b c d e))
       ∙ ap (λ (u : RangeStyle). done (elementWith l (Range u) (a ∷ b ∷ c ∷ d ∷ [])) t) (kind-said style)
-      ∙ ap (λ (x : Element). done x t) (node-is i o (styled style) (Range style) (a ∷ b ∷ c ∷ d ∷ []))
+      ∙ ap (λ (x : Element). done x t) (element-is style (Range style) (a ∷ b ∷ c ∷ d ∷ []))
 
   -- A RANGE WITH ONE END
   pub one-end-reads : (end : RangeEnd) (a b : Decimal) (t : List ℕ) → Each (Kept anyNumber) (a ∷ b ∷ []) → equal a b ≡ true → sameDepth i o ≡ true
-      → range .run (depthsText i o (rangeStyleText Clamp ++ (bytes ">\n" ++ oneEndText end (a ∷ b ∷ []) (bytes "</Range>" ++ t))))
-      ≡ done (record { kind = OneEnd end; input = i; output = o; numbers = a ∷ b ∷ [] }) t
-  one-end-reads end a b t k e h =
+      → range .run (depthsText i o (nodeIdText id (rangeStyleText Clamp ++ (bytes ">\n" ++ oneEndText end (a ∷ b ∷ []) (bytes "</Range>" ++ t)))))
+      ≡ done (record { kind = OneEnd end; input = i; output = o; id = id; numbers = a ∷ b ∷ [] }) t
+  one-end-reads end a b t k e d =
       let z : List ℕ = bytes "</Range>" ++ t in
       let s : List ℕ = oneEndText end (a ∷ b ∷ []) z in
-      let l = written Clamp in
       tagged Clamp s (pairValues end a b) t
-      (ap (λ (v : Bool). (held (rangeHolder v) noValues) .run (10 ∷ s)) (clamp-allowed h) ∙ content-reads true (pairValues end a b) s t (pair-read end a b z k) (pair-right end a b e))
-      ∙ ap (λ (x : Element). done x t) (pair-node l end a b ∙ node-is i o (styled Clamp) (OneEnd end) (a ∷ b ∷ []))
+      (ap (λ (v : Bool). (held (rangeHolder v) noValues) .run (10 ∷ s)) (clamp-allowed d) ∙ content-reads true (pairValues end a b) s t (pair-read end a b z k) (pair-right end a b e))
+      ∙ ap (λ (x : Element). done x t) (pair-node (written Clamp) end a b ∙ element-is Clamp (OneEnd end) (a ∷ b ∷ []))

@@ -16,21 +16,18 @@ use Rattle.process_list.specs.declared.Interpolation.{Interpolation}
 use Rattle.process_list.specs.declared.Kind.the-variants.{Matrix, Lut1d, Lut3d}
 use Rattle.valid.specs.Valid.{tableRight, cubeRight}
 use Rattle.valid.proofs.Elements.{both-true}
+use Rattle.valid.proofs.Readings.{same-self}
 use Rattle.grammar.specs.Laws.{nope}
 use Rattle.xml.specs.Bytes.{same, isDigit}
 use Rattle.clf.specs.Nodes.{matrixShape, wholeFrom, behindDigits, beginsWithZero, lutColumns, lutShape, cubeDim, cubeShape}
 use Rattle.written_form.specs.Written.{dims}
-use Rattle.reads_back.proofs.Tags.{quoted, same-self}
-use Rattle.reads_back.proofs.Texts.{plainByte}
+use Rattle.reads_back.proofs.Tags.{inQuotes, quotes-by, quoted}
 use Rattle.reads_back.proofs.Numbers.{every-of}
 
 -- ---- its bytes
 
-abbrev inQuotes : ℕ → Bool
-inQuotes = plainByte (λ b. eqb b 34)
-
 quoted-digit : (k : ℕ) → k < 10 → inQuotes (48 + k) ≡ true
-quoted-digit k h = rw (ne-eqb (48 + k) 34 (λ e. omega arith), ne-eqb (48 + k) 60 (λ e. omega arith), ne-eqb (48 + k) 38 (λ e. omega arith))
+quoted-digit k h = quotes-by (48 + k) (λ e. omega arith) (λ e. omega arith) (λ e. omega arith)
 
 dims-every : (ns : List ℕ) → Every (λ b. inQuotes b ≡ true) (dims ns)
 unfolding dims

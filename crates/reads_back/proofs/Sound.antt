@@ -9,7 +9,7 @@ use Rattle.decimal.specs.declared.Decimal.{Decimal}
 use Rattle.decimal.specs.Decimal.{inRange}
 use Rattle.decimal_write.specs.Written.{isNormal}
 use Rattle.decimal_value.specs.Value.{less, atMost, equal, notNegative, isOne}
-use Rattle.valid.specs.Valid.{every, carried, rangeHolds, oneEndHolds, slopesHold, powersHold, cdlHolds, sound}
+use Rattle.valid.specs.Valid.{every, carried, rangeHolds, oneEndHolds, slopesHold, powersHold, cdlHolds}
 use Rattle.valid.proofs.Elements.{both-true}
 use Rattle.valid.proofs.Readings.{every-cons}
 use Rattle.clf.specs.Numbers.{anyNumber, notBelowZero, mustBeOne}

@@ -16,19 +16,20 @@ use Rattle.grammar.specs.Parse.{Out, done, thenOut, retP}
 use Rattle.xml.specs.Bytes.{bytes, same, isLetter, isDigit, isNameByte}
 use Rattle.xml.specs.Xml.{Attribute, textOf, Tag, startTag}
 use Rattle.xml.specs.Elements.{held}
+use Rattle.ids.specs.Ids.{idAllowed}
 use Rattle.clf.specs.Numbers.{anyNumber}
 use Rattle.clf.specs.Nodes.{nodeRules, matrixShape, lutShape, cubeShape, array, Table, ArrayState, noArray, arrayHolder, tableNode, matrix, lutNames, lutTexts, lut1d}
 use Rattle.clf.specs.Nodes.{cubeTexts, interpolationOf, cubeShapeBy, lut3d}
 use Rattle.claims.proofs.Numbers.{Each, Kept}
 use Rattle.valid.specs.Valid.{every, tableRight, cubeRight}
 use Rattle.written_form.specs.Written.{dims, interpolationText}
-use Rattle.written_form.proofs.Tail.{rowsText, linesText, arrayText, tableText, cubeText, depthsText, dims-text}
+use Rattle.written_form.proofs.Tail.{rowsText, linesText, arrayText, tableText, cubeText, depthsText, nodeIdText, dims-text}
 use Rattle.reads_back.proofs.Texts.{isName}
 use Rattle.reads_back.proofs.Tags.{quoted}
 use Rattle.reads_back.proofs.Held.{held-from, held-line, held-child, held-end}
 use Rattle.reads_back.proofs.Shapes.{dims-quoted, matrix-shape, lut-shape, cube-shape}
 use Rattle.reads_back.proofs.Values.{array-name, array-reads}
-use Rattle.reads_back.proofs.Depths.{withDepths, lastText, node-is, NodeRules, LastName, plain-tag, last-tag}
+use Rattle.reads_back.proofs.Depths.{withDepths, idOf, id-said, id-said-first, lastText, node-is, NodeRules, LastName, last-said, plain-tag, last-tag}
 
 pub space-name : isNameByte 32 ≡ false
 unfolding isNameByte isLetter isDigit
@@ -66,7 +67,7 @@ module _ (w : List ℕ) (shape : List ℕ → Option Kind) (named : isName w ≡
 
 -- ---- a node that holds one Array, whose shape may depend on the node's attributes: its start tag has been read, and its Array follows
 
-module _ (w : List ℕ) (shape : List Attribute → List ℕ → Option Kind) (named : isName w ≡ true) (i o : Depth) (more : List Attribute) where
+module _ (w : List ℕ) (shape : List Attribute → List ℕ → Option Kind) (named : isName w ≡ true) (i o : Depth) (id : List ℕ) (more : List Attribute) where
   abbrev tagRead : List ℕ → Out Tag
   tagRead r = done (record { attributes = withDepths i o more; empty = false }) r
 
@@ -74,12 +75,12 @@ module _ (w : List ℕ) (shape : List Attribute → List ℕ → Option Kind) (n
   behindTag x = thenOut x (λ tag u. thenOut ((held (arrayHolder w (shape (tag .attributes))) noArray) .run u) (λ st. retP (tableNode (tag .attributes) st)))
 
   array-node : (x : Out Tag) (ns : List ℕ) (rows columns : ℕ) (k : Kind) (ds : List Decimal) (t : List ℕ) → x ≡ tagRead (10 ∷ arrayText ns rows columns ds (60 ∷ 47 ∷ w ++ 62 ∷ t))
-      → shape (withDepths i o more) (dims ns) ≡ some k → Each (Kept anyNumber) ds → length ds ≡ rows * columns → numbersOf k ≡ length ds
-      → behindTag x ≡ done (record { kind = k; input = i; output = o; numbers = ds }) t
-  array-node x ns rows columns k ds t q e each c n =
+      → textOf (bytes "id") more ≡ id → shape (withDepths i o more) (dims ns) ≡ some k → Each (Kept anyNumber) ds → length ds ≡ rows * columns → numbersOf k ≡ length ds
+      → behindTag x ≡ done (record { kind = k; input = i; output = o; id = id; numbers = ds }) t
+  array-node x ns rows columns k ds t q said e each c n =
       ap behindTag q
       ∙ ap (λ (y : Out ArrayState). thenOut y (λ st. retP (tableNode (withDepths i o more) st))) (content-reads w (shape (withDepths i o more)) named ns rows columns k ds t e each c n)
-      ∙ ap (λ (y : Element). done y t) (node-is i o more k ds)
+      ∙ ap (λ (y : Element). done y t) (node-is i o id more k ds said)
 
 -- ---- Matrix
 
@@ -88,16 +89,16 @@ unfolding isName isNameByte isLetter isDigit every
 matrix-name = refl
 
 matrix-rules : NodeRules (nodeRules (λ w. 0) (λ w t. 0))
-matrix-rules = record { rest = λ w t. 0; texts = refl; opened = refl; in-free = refl; out-free = refl }
+matrix-rules = record { rest = λ w t. 0; texts = refl; opened = refl; in-free = refl; out-free = refl; id-free = refl }
 
-module _ (i o : Depth) where
+module _ (i o : Depth) (id : List ℕ) (h : idAllowed id ≡ true) where
   pub matrix-reads : (wide : Bool) (ds : List Decimal) (t : List ℕ) → Each (Kept anyNumber) ds → length ds ≡ 3 * cond wide 4 3 → numbersOf (Matrix wide) ≡ length ds
-      → matrix .run (depthsText i o (bytes ">\n" ++ tableText 3 (cond wide 4 3) ds (bytes "</Matrix>" ++ t)))
-      ≡ done (record { kind = Matrix wide; input = i; output = o; numbers = ds }) t
+      → matrix .run (depthsText i o (nodeIdText id (bytes ">\n" ++ tableText 3 (cond wide 4 3) ds (bytes "</Matrix>" ++ t))))
+      ≡ done (record { kind = Matrix wide; input = i; output = o; id = id; numbers = ds }) t
   unfolding matrix
   matrix-reads wide ds t each c n =
-      array-node (bytes "Matrix") (λ l. matrixShape) matrix-name i o [] _ (3 ∷ cond wide 4 3 ∷ []) 3 (cond wide 4 3) (Matrix wide) ds t
-      (plain-tag (nodeRules (λ w. 0) (λ w t. 0)) matrix-rules i o (10 ∷ tableText 3 (cond wide 4 3) ds (bytes "</Matrix>" ++ t))) (matrix-shape wide) each c n
+      array-node (bytes "Matrix") (λ l. matrixShape) matrix-name i o id (idOf id) _ (3 ∷ cond wide 4 3 ∷ []) 3 (cond wide 4 3) (Matrix wide) ds t
+      (plain-tag (nodeRules (λ w. 0) (λ w t. 0)) matrix-rules i o id h (10 ∷ tableText 3 (cond wide 4 3) ds (bytes "</Matrix>" ++ t))) (id-said id) (matrix-shape wide) each c n
 
 -- ---- LUT1D
 
@@ -107,17 +108,17 @@ lut-name = refl
 
 lut-rules : NodeRules (nodeRules lutNames lutTexts)
 unfolding same
-lut-rules = record { rest = lutTexts; texts = refl; opened = refl; in-free = refl; out-free = refl }
+lut-rules = record { rest = lutTexts; texts = refl; opened = refl; in-free = refl; out-free = refl; id-free = refl }
 
-module _ (i o : Depth) where
+module _ (i o : Depth) (id : List ℕ) (h : idAllowed id ≡ true) where
   pub lut-reads : (entries columns : ℕ) (ds : List Decimal) (t : List ℕ) → tableRight entries columns ≡ true → Each (Kept anyNumber) ds → length ds ≡ entries * columns
       → numbersOf (Lut1d entries columns) ≡ length ds
-      → lut1d .run (depthsText i o (bytes ">\n" ++ tableText entries columns ds (bytes "</LUT1D>" ++ t)))
-      ≡ done (record { kind = Lut1d entries columns; input = i; output = o; numbers = ds }) t
+      → lut1d .run (depthsText i o (nodeIdText id (bytes ">\n" ++ tableText entries columns ds (bytes "</LUT1D>" ++ t))))
+      ≡ done (record { kind = Lut1d entries columns; input = i; output = o; id = id; numbers = ds }) t
   unfolding lut1d
   lut-reads entries columns ds t right each c n =
-      array-node (bytes "LUT1D") (λ l. lutShape) lut-name i o [] _ (entries ∷ columns ∷ []) entries columns (Lut1d entries columns) ds t
-      (plain-tag (nodeRules lutNames lutTexts) lut-rules i o (10 ∷ tableText entries columns ds (bytes "</LUT1D>" ++ t))) (lut-shape entries columns right) each c n
+      array-node (bytes "LUT1D") (λ l. lutShape) lut-name i o id (idOf id) _ (entries ∷ columns ∷ []) entries columns (Lut1d entries columns) ds t
+      (plain-tag (nodeRules lutNames lutTexts) lut-rules i o id h (10 ∷ tableText entries columns ds (bytes "</LUT1D>" ++ t))) (id-said id) (lut-shape entries columns right) each c n
 
 -- ---- LUT3D
 
@@ -126,11 +127,11 @@ unfolding isName isNameByte isLetter isDigit every
 cube-name = refl
 
 abbrev cube-rules : NodeRules (nodeRules (λ w. 0) cubeTexts)
-cube-rules = record { rest = cubeTexts; texts = refl; opened = refl; in-free = refl; out-free = refl }
+cube-rules = record { rest = cubeTexts; texts = refl; opened = refl; in-free = refl; out-free = refl; id-free = refl }
 
 method-last : LastName (nodeRules (λ w. 0) cubeTexts) (bytes "interpolation")
 unfolding isName isNameByte isLetter isDigit every same
-method-last = record { name = refl; not-in = refl; not-out = refl; free = refl }
+method-last = record { name = refl; not-in = refl; not-out = refl; not-id = refl; id-not = refl; free = refl }
 
 -- the text of a method
 abbrev methodText : Interpolation → List ℕ
@@ -151,24 +152,28 @@ unfolding same
 method-right Trilinear = refl
 method-right Tetrahedral = refl
 
-module _ (i o : Depth) where
+method-of : (m : Interpolation) → interpolationOf (methodText m) ≡ m
+unfolding same
+method-of Trilinear = refl
+method-of Tetrahedral = refl
+
+module _ (i o : Depth) (id : List ℕ) (h : idAllowed id ≡ true) where
   abbrev method : Interpolation → List Attribute
-  method m = record { name = bytes "interpolation"; text = methodText m } ∷ []
+  method m = idOf id ++ record { name = bytes "interpolation"; text = methodText m } ∷ []
 
   method-said : (m : Interpolation) → interpolationOf (textOf (bytes "interpolation") (withDepths i o (method m))) ≡ m
-  unfolding textOf same
-  method-said Trilinear = refl
-  method-said Tetrahedral = refl
+  method-said m = ap interpolationOf (last-said (nodeRules (λ w. 0) cubeTexts) cube-rules (bytes "interpolation") method-last i o id (methodText m)) ∙ method-of m
 
   pub cube-reads : (n : ℕ) (m : Interpolation) (ds : List Decimal) (t : List ℕ) → cubeRight n ≡ true → Each (Kept anyNumber) ds → length ds ≡ cubeNumbers n
       → numbersOf (Lut3d n m) ≡ length ds
-      → lut3d .run (depthsText i o (interpolationText m ++ (bytes ">\n" ++ cubeText n ds (bytes "</LUT3D>" ++ t))))
-      ≡ done (record { kind = Lut3d n m; input = i; output = o; numbers = ds }) t
+      → lut3d .run (depthsText i o (nodeIdText id (interpolationText m ++ (bytes ">\n" ++ cubeText n ds (bytes "</LUT3D>" ++ t)))))
+      ≡ done (record { kind = Lut3d n m; input = i; output = o; id = id; numbers = ds }) t
   unfolding lut3d
   cube-reads n m ds t right each c k =
       let ns : List ℕ = n ∷ n ∷ n ∷ 3 ∷ [] in
       let r : List ℕ = 10 ∷ cubeText n ds (bytes "</LUT3D>" ++ t) in
-      array-node (bytes "LUT3D") cubeShapeBy cube-name i o (method m) _ ns (cubeEntries n) 3 (Lut3d n m) ds t
-      (ap (λ (s : List ℕ). (startTag (nodeRules (λ w. 0) cubeTexts)) .run (depthsText i o s)) (method-text m (62 ∷ r))
-      ∙ last-tag (nodeRules (λ w. 0) cubeTexts) cube-rules i o (bytes "interpolation") method-last (methodText m) r (method-quoted m) (method-right m))
+      array-node (bytes "LUT3D") cubeShapeBy cube-name i o id (method m) _ ns (cubeEntries n) 3 (Lut3d n m) ds t
+      (ap (λ (s : List ℕ). (startTag (nodeRules (λ w. 0) cubeTexts)) .run (depthsText i o (nodeIdText id s))) (method-text m (62 ∷ r))
+      ∙ last-tag (nodeRules (λ w. 0) cubeTexts) cube-rules i o id h (bytes "interpolation") method-last (methodText m) r (method-quoted m) (method-right m))
+      (id-said-first id (bytes "interpolation") (methodText m) (method-last .id-not))
       (ap (λ (x : Interpolation). cubeShape x (dims ns)) (method-said m) ∙ cube-shape m n right) each c k

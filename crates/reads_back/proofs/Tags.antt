@@ -6,9 +6,10 @@ use Prim.Native.Nat.{ℕ, _≤_}
 use native.Mathlib.Omega.{arith}
 use lib.Dec.{eqb, leb}
 use lib.ListN.{length, length-append}
-use borrow.Author.Tests.{lt-ltb, eq-eqb, ne-eqb, leb-true}
+use borrow.Author.Tests.{lt-ltb, ne-eqb, leb-true}
 use Rattle.valid.specs.Valid.{every}
 use Rattle.valid.proofs.Elements.{both-true}
+use Rattle.valid.proofs.Readings.{same-self}
 use Rattle.grammar.specs.Parse.{Out, done, cut, Parser, Turn, again, thenOut, retP, judgedTo, judgeOut, strictOut, loopP}
 use Rattle.grammar.specs.Laws.{nope, loop-again, loop-last}
 use Rattle.grammar.specs.Grammar.{look}
@@ -21,11 +22,6 @@ use Rattle.reads_back.proofs.Texts.{skip, isName, name-reads, closeName
 
 pub judge-reads : {A : Type 0} (j : A → ℕ) (o : Out A) (s : List ℕ) (a : A) (r : List ℕ) → o ≡ done a r → j a ≡ 0 → judgeOut j o s ≡ done a r
 judge-reads j o s a r e q = ap (λ (x : Out _). judgeOut j x s) e ∙ ap (λ (n : ℕ). judgedTo n a r s) q
-
-pub same-self : (w : List ℕ) → same w w ≡ true
-unfolding same
-same-self [] = refl
-same-self (b ∷ w) = rw (eq-eqb b b refl, same-self w)
 
 -- ---- bytes that are no white space
 
@@ -44,9 +40,16 @@ letter-big b h = go (leb 97 b) (leb 65 b) refl refl h
 
 -- ---- attributes
 
--- no byte of an attribute's text in double quotes ends it, or begins markup or an `&` form
+-- a byte of an attribute's text in double quotes that does not end it, and begins neither markup nor an `&` form
+abbrev pub inQuotes : ℕ → Bool
+inQuotes = plainByte (λ b. eqb b 34)
+
+pub quotes-by : (b : ℕ) → (b ≡ 34 → ⊥) → (b ≡ 60 → ⊥) → (b ≡ 38 → ⊥) → inQuotes b ≡ true
+quotes-by b p q r = rw (ne-eqb b 34 p, ne-eqb b 60 q, ne-eqb b 38 r)
+
+-- a text of such bytes
 abbrev pub quoted : List ℕ → Bool
-quoted v = every (plainByte (λ b. eqb b 34)) v
+quoted v = every inQuotes v
 
 not-spaces : (b : ℕ) (t : List ℕ) → isSpace b ≡ false → spaces .run (b ∷ t) ≡ done [] (b ∷ t)
 unfolding spaces

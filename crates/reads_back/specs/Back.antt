@@ -1,4 +1,5 @@
--- Demand 2, 'a list written out reads back as that list', and refusal 16 of document 01, 'list and room are no accepted reading of any file into that room': what is proved of them.
+-- Demand 2, 'a list written out reads back as that list', and refusal 16 of document 01, 'list and room are no accepted reading of any file into that room': what is proved of them, 'over lists
+-- with ids' (02, W-203): a node's id is part of its element, and stands in the list.
 use mathlib.Core.Path.{_≡_}
 use mathlib.Core.Logic.{_↔_}
 use mathlib.Core.Bool.{true}
@@ -61,8 +62,8 @@ pub record ReadingLeavesIn (y : Look) (file : List ℕ) (x : Look) : Type 0 wher
 abbrev pub SomeReading : Look → Type 0
 SomeReading x = (file : List ℕ) × ReadingLeaves x file x
 
--- DEMAND 2, its last part. Whatever text writing answers for list and room is accepted, and leaves this very list and room, by what a file says of them, when it is read into equal room: the kept
--- numbers, 'read back', are 0
+-- DEMAND 2, its last part. Whatever text writing answers for list and room is accepted, and leaves this very list and room, by what a file says of them, when it is read into equal room: each node
+-- has its id back, and the kept numbers, 'read back', are 0
 abbrev pub WrittenReadsBack : Look → Type 0
 WrittenReadsBack x = (id : List ℕ) (out : ℕ) (text : List ℕ) → writing x id out ≡ written text → (y : Look) → EqualRoom x y → ReadingLeaves y text x
 
@@ -70,7 +71,8 @@ WrittenReadsBack x = (id : List ℕ) (out : ℕ) (text : List ℕ) → writing x
 abbrev pub WrittenReadsIn : Look → Type 0
 WrittenReadsIn x = (id : List ℕ) (out : ℕ) (text : List ℕ) → writing x id out ≡ written text → (y : Look) → length (allNumbers (elementsHeld x)) ≤ roomLengthOf y → ReadingLeavesIn y text x
 
--- REFUSAL 16, both ways: list and room pass exactly if, by what a file says of them, they are the accepted reading of some file into that room
+-- REFUSAL 16, both ways: list and room pass exactly if, by what a file says of them, they are the accepted reading of some file into that room. So they do not where two nodes have one id, where
+-- an id has a byte that is none of 'letters, digits, `-`, `_`, `.`', or where bytes behind an id's end are not zero (02, W-203): no reading leaves such a list
 abbrev pub Refusal16 : Look → Type 0
 Refusal16 x = Valid x ↔ SomeReading x
 

@@ -30,7 +30,7 @@ use Rattle.reads_back.specs.Back.{SomeReading, EqualRoom, elementsHeld, 
 
 -- ---- 'a list written out reads back as that list'
 
--- a reading that is accepted and leaves the list and room x, by what a file says of them: each kept number, 'read back', is 0
+-- a reading that is accepted and leaves the list and room x, by what a file says of them: each node has its id, and each kept number, 'read back', is 0
 pub record ReadBack (x : Look) (r : Answer) (m₁ : Room) : Type 0 where
   pub number : r .number ≡ 0
   pub list : r .list ≡ fileList (x .list)
@@ -58,7 +58,8 @@ pub record IsReading (x : Look) (r : Bool) : Type 0 where
   pub both : (r ≡ true) ↔ SomeReading x
   pub ignores : (kept : List ℕ) → r ≡ isValid (withKept kept x .list) (x .room)
 
--- a call on list and room answers this number
+-- a call on list and room answers this number: 16 exactly where no file's reading leaves them. So it is also where two nodes have one id, where an id has a byte that is none of 'letters, digits,
+-- `-`, `_`, `.`', and where bytes behind an id's end are not zero (02, W-203)
 abbrev pub Refuses16 : Look → ℕ → Type 0
 Refuses16 x n = (n ≡ 16) ↔ (SomeReading x → ⊥)
 

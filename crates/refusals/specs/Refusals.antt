@@ -89,6 +89,14 @@ ruleBroken = 21
 abbrev pub wrongCount : ℕ
 wrongCount = 22
 
+-- 'an id seen on an earlier node' (02, W-203)
+abbrev pub idSeen : ℕ
+idSeen = 23
+
+-- 'an id that is not 1 to 32 bytes of letters, digits, `-`, `_`, `.`' (02, W-203)
+abbrev pub wrongNodeId : ℕ
+wrongNodeId = 24
+
 -- 'late' (02, W-208)
 abbrev pub late : ℕ
 late = 28

@@ -66,5 +66,11 @@ pub const RULE_BROKEN: u8 = 21;
 // too few or too many numbers
 pub const WRONG_COUNT: u8 = 22;
 
+// an id seen on an earlier node (02, W-203)
+pub const ID_SEEN: u8 = 23;
+
+// a node's id that is not 1 to 32 bytes of letters, digits, `-`, `_`, `.` (02, W-203)
+pub const WRONG_NODE_ID: u8 = 24;
+
 // late (02, W-208): a numbered replacement whose number is not larger than the one kept at its node
 pub const LATE: u8 = 28;

@@ -12,7 +12,8 @@ use Rattle.grammar.specs.Laws.{nope}
 use Rattle.process_list.specs.declared.Node.{Node}
 use Rattle.process_list.specs.declared.ProcessList.{ProcessList}
 use Rattle.process_list.specs.declared.Verdict.{Verdict}
-use Rattle.process_list.specs.declared.Verdict.the-variants.{Accepted, NoNode, TooManyNodes, DepthDiffers, TooManyNumbers}
+use Rattle.ids.specs.Ids.{noId}
+use Rattle.process_list.specs.declared.Verdict.the-variants.{Accepted, NoNode, TooManyNodes, DepthDiffers, IdSeen, TooManyNumbers}
 use Rattle.process_list.specs.File.{fileNode, fileList, keptNumbers, withNewest, keeping}
 use Rattle.process_list.specs.List.{blankElement, Element, mostNodes, numbersOf, nodeOf, unplaced, withPosition, total, placed, allNumbers, blankNode, listOf, nodesOf, nodeAt, replacedAt, placedList}
 use Rattle.process_list.specs.List.{capped, judged, verdict, verdictNumber, verdictPlace}
@@ -39,7 +40,7 @@ use Rattle.replacing.proofs.Calls.{leaves-refused, elements-length, by-
 -- ---- nodes of elements
 
 none-node : nodeOf blankElement ≡ blankNode
-unfolding nodeOf blankNode
+unfolding nodeOf blankNode noId
 none-node = refl
 
 head-at : (es : List Element) (k : ℕ) → getD (map nodeOf es) k blankNode .kind ≡ getD es k blankElement .kind
@@ -61,6 +62,7 @@ verdict-refused es Accepted z = absurd (z refl)
 verdict-refused es NoNode z = refl
 verdict-refused es TooManyNodes z = refl
 verdict-refused es (DepthDiffers k) z = refl
+verdict-refused es (IdSeen k) z = refl
 verdict-refused es TooManyNumbers z = refl
 
 -- the room after an answer without fault
@@ -122,7 +124,7 @@ module _ (w : ℕ) (l : ProcessList) (m₀ : Room) (k : ℕ) (node : Node) (e : 
       sym (file-judged room (nodesOf next)) ∙ ap (judged room) (sym (file-nodes next)) ∙ ap (λ (a : ProcessList). judged room (nodesOf a)) file-next
       ∙ replaced-verdict es i el few inside room
 
-  -- what the call answers: 10 or 13, or the new element is in its place
+  -- what the call answers: 10, 23 or 13, or the new element is in its place
   answer-is : callIn x (plainCall k e) ≡ replacingBy new (verdict room new)
   unfolding listed
   answer-is = by-element l m₀ k e (f .callable) ∙ ap (byElement room es k e) (f .out)

@@ -1,4 +1,4 @@
-// Replacing a node of a look by an element (document 01, Replacing): 16, 19, 4 (the element alone), then the element's own fault, then 10, 13. A numbered replacement (document 02, W-208)
+// Replacing a node of a look by an element (document 01, Replacing): 16, 19, 4 (the element alone), then the element's own fault, then 10, 23 (document 02, W-203), 13. A numbered replacement (W-208)
 // may be late: 28, between 19 and 4.
 // The element is read twice: first alone, so that a refusal changes nothing, then into the room.
 ghost use mathlib.Core.Path.{_≡_};
@@ -97,7 +97,7 @@ fn store_element(
     element::element(element, coefficients, powers, at);
 }
 
-// The element, which has this node and no fault, in the place of node k, from 1, with this number kept where it is accepted: 10 or 13, or it is there.
+// The element, which has this node and no fault, in the place of node k, from 1, with this number kept where it is accepted: 10, 23 or 13, or it is there.
 fn replace_node(
     list: ProcessList,
     coefficients: &mut [i64],

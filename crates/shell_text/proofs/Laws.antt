@@ -8,7 +8,7 @@ use native.Mathlib.Numerals.{add-one}
 use native.Mathlib.Nat.{add-assoc}
 use borrow.Author.Tests.{eq-eqb, ne-eqb, lt-ltb, le-ltb, le-leb, lt-leb}
 use lib.Dec.{T, eqb, leb}
-use lib.ListN.{length, take, drop, getD, set, length-set, length-drop, take-append-drop}
+use lib.ListN.{length, take, drop, getD, set, length-set, length-drop, take-append-drop, drop-of-length-le}
 use lib.Seq.{getD-drop, drop-drop, drop-set-lt, take-suc-set, length-take-le}
 use lib.Ieee.{Float, nan, inf, fin, binary64, ofBits, toBits, nanBits, isNan, eq, ne, level, up, down, div, ofFields}
 use Rattle.scanning.specs.Steps.{here, part-length}
@@ -18,10 +18,12 @@ use Rattle.text_out.specs.Output.{Goes}
 use Rattle.fields.specs.declared.Field.{Field}
 use Rattle.fields.specs.Fields.{fieldFrom, wordNumber}
 use Rattle.tags.specs.Code.{partIn}
+use Rattle.xml.specs.Bytes.{bytes}
 use Rattle.shell_text.specs.declared.Decoded.{Decoded}
 use Rattle.shell_text.specs.declared.Decoded.the-variants as Hexes
 use Rattle.shell_text.specs.declared.Word.the-variants.{Bits, Malformed}
-use Rattle.shell_text.specs.Hex.{digitOf, glyphOf, joinedOf, bytesOf, Decodes, wordAt, isNone, partOf, partLeft, DecodesPart, isLast, lastOf, lastLeft, DecodesLast}
+use Rattle.shell_text.specs.Hex.{digitOf, glyphOf, pairText, joinedOf, bytesOf, Decodes, wordAt, isNone, partOf, partLeft, DecodesPart, isLast, lastOf, lastLeft, DecodesLast}
+use Rattle.shell_text.specs.Show.{hexText, idShown}
 use Rattle.shell_text.specs.Lines.{isRun, lastNumber, lineEnd}
 use Rattle.shell_text.specs.Words.{withDigit, bitsFrom, bitsOf, topDigits, bitsText}
 
@@ -110,6 +112,26 @@ pub top-none : (i rest : ℕ) → i ≤ 0 → (t : List ℕ) → topDigits i res
 unfolding topDigits
 top-none zero rest h t = refl
 top-none (suc i) rest h t = absurd (omega arith)
+
+-- ---- a node's id: hex digits, two a byte, `-` for none
+pub hex-more : (w : List ℕ) (i : ℕ) (pair : List ℕ) → i < length w → pair ≡ pairText (getD w i 0) → (t : List ℕ) → hexText (drop i w) t ≡ pair ++ hexText (drop (i + 1) w) t
+unfolding hexText
+hex-more w i pair h e t = rw (here w i h, e)
+
+pub hex-none : (w : List ℕ) (i : ℕ) → length w ≤ i → (t : List ℕ) → hexText (drop i w) t ≡ t
+unfolding hexText
+hex-none w i h t = rw (drop-of-length-le w h)
+
+pub shown-none : (s : List ℕ) → length s ≡ 0 → (t : List ℕ) → idShown s t ≡ bytes "-" ++ t
+unfolding idShown
+shown-none [] h t = refl
+shown-none (b ∷ s) h t = absurd (omega arith)
+
+-- w are the id's bytes, as the code has them
+pub shown-some : (s w : List ℕ) → 1 ≤ length s → w ≡ s → (t : List ℕ) → idShown s t ≡ hexText w t
+unfolding idShown
+shown-some [] w h e t = absurd (omega arith)
+shown-some (b ∷ s) w h e t = rw e
 
 -- ---- the command X
 pub run-none : (l : List ℕ) → length l ≡ 0 → false ≡ isRun l

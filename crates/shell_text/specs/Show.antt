@@ -1,7 +1,7 @@
--- The pieces of an answer (tests/PROTOCOL.md): `NUM PLACE`; of STATE a node, `;KIND,IN,OUT,STYLE,SHAPE,AT,NEWEST`, and a number, `coefficient:power`. Definitions only.
+-- The pieces of an answer (tests/PROTOCOL.md): `NUM PLACE`; of STATE a node, `;KIND,IN,OUT,STYLE,SHAPE,AT,NEWEST,ID`, and a number, `coefficient:power`. Definitions only.
 -- Each text is written in front of what follows it: `shownNode n t` is the text of the node n, then t.
 use mathlib.Core.Bool.{Bool, cond}
-use mathlib.Core.List.{List, _++_}
+use mathlib.Core.List.{List, [], _∷_, _++_}
 use Prim.Native.Nat.{ℕ}
 use lib.IntN.{ℤ}
 use Rattle.decimal_write.specs.Written.{digits, wholeText}
@@ -16,6 +16,8 @@ use Rattle.process_list.specs.declared.Node.{Node}
 use Rattle.process_list.specs.List.{rangeClamps, cdlClamps}
 use Rattle.xml.specs.Bytes.{bytes}
 use Rattle.written_form.specs.Written.{depthText, nameText}
+use Rattle.ids.specs.Ids.{idText}
+use Rattle.shell_text.specs.Hex.{pairText}
 
 -- `NUM PLACE`
 unfoldable pub shownAnswer : ℕ → ℕ → List ℕ → List ℕ
@@ -59,9 +61,22 @@ formText (OneEnd end) t = oneEndText end ++ t
 unfoldable pub placeText : ℕ → ℕ → List ℕ → List ℕ
 placeText at newest t = digits at ++ (bytes "," ++ (digits newest ++ t))
 
--- `;KIND,IN,OUT,STYLE,SHAPE,AT,NEWEST`
+-- bytes as hex digits, two a byte
+unfoldable pub hexText : List ℕ → List ℕ → List ℕ
+hexText [] t = t
+hexText (b ∷ s) t = pairText b ++ hexText s t
+
+-- ID: 'its id in hex, `-` for none'
+unfoldable pub idShown : List ℕ → List ℕ → List ℕ
+idShown [] t = bytes "-" ++ t
+idShown (b ∷ s) t = hexText (b ∷ s) t
+
+-- `;KIND,IN,OUT,STYLE,SHAPE,AT,NEWEST,ID`
 unfoldable pub shownNode : Node → List ℕ → List ℕ
-shownNode n t = bytes ";" ++ (nameText (n .kind) ++ shownDepths (n .input) (n .output) (formText (n .kind) (bytes "," ++ placeText (n .at) (n .newest) t)))
+shownNode n t =
+    bytes ";"
+    ++ (nameText (n .kind)
+    ++ shownDepths (n .input) (n .output) (formText (n .kind) (bytes "," ++ placeText (n .at) (n .newest) (bytes "," ++ idShown (idText (n .id)) t))))
 
 -- `coefficient:power`
 unfoldable pub decimalText : ℤ → ℤ → List ℕ → List ℕ

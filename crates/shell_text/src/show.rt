@@ -2,6 +2,8 @@
 ghost use mathlib.Core.List.{_++_};
 ghost use Rattle.text_out.specs.Output.{Puts};
 ghost use Rattle.shell_text.specs.Show as Show;
+ghost use Rattle.ids.specs.Ids.{idText};
+use crate::hex::hex_pair;
 use node_names::put_depth;
 use node_names::put_name;
 use process_list::Depth;
@@ -130,6 +132,31 @@ fn put_place(out: &mut [u8], at: usize, first: usize, newest: u32) -> usize
     put_digits(out, b, newest as usize)
 }
 
+// Bytes as hex digits.
+fn put_hex(out: &mut [u8], at: usize, bytes: &[u8]) -> usize
+    ensures { λ r. ⌜ Puts (Show.hexText (now (bytes .entry))) at (now (out .entry)) (now (out .exit)) r ⌝ }
+{
+    let mut held = at;
+    let mut i = 0;
+    while i < bytes.len() {
+        let pair = hex_pair(bytes[i]);
+        held = put(out, held, &pair);
+        i += 1;
+    }
+    held
+}
+
+// An id as hex digits, `-` for none: `places` are its 32 places.
+fn put_id(out: &mut [u8], at: usize, places: &[u8]) -> usize
+    ensures { λ r. ⌜ Puts (Show.idShown (idText (now (places .entry)))) at (now (out .entry)) (now (out .exit)) r ⌝ }
+{
+    let n = ids::length_of(places);
+    if n == 0 {
+        return put(out, at, b"-");
+    }
+    put_hex(out, at, &places[0..n])
+}
+
 // A node of a list.
 pub fn put_node(out: &mut [u8], at: usize, node: Node) -> usize
     ensures { λ r. ⌜ Puts (Show.shownNode node) at (now (out .entry)) (now (out .exit)) r ⌝ }
@@ -142,7 +169,10 @@ pub fn put_node(out: &mut [u8], at: usize, node: Node) -> usize
     let c = put_depths(out, b, input, output);
     let d = put_form(out, c, kind);
     let e = put(out, d, b",");
-    put_place(out, e, node.at, node.newest)
+    let f = put_place(out, e, node.at, node.newest);
+    let g = put(out, f, b",");
+    let id = node.id;
+    put_id(out, g, &id)
 }
 
 // A number of the table room: its coefficient, `:` and its power.

@@ -15,7 +15,7 @@ use Rattle.xml.specs.Code.{part, ReadsFrom, noValue}
 use Rattle.xml.specs.CodeLaws.{look-at}
 use Rattle.xml.specs.declared.Scan.{Scan}
 use Rattle.xml.specs.declared.Scan.the-variants as Scans
-use Rattle.tags.specs.Code.{partIn, attributesOf, noAttributes, withAttribute, attributeOut, AttributeInside, EndInside, endOut, openEnd, emptyEnd, EndIs}
+use Rattle.tags.specs.Code.{partIn, attributesOf, noAttributes, withAttribute, attributeOut, AttributeInside, EndInside, endOut, openEnd, emptyEnd, EndIs, closedTag}
 use Rattle.tags.specs.Rules.{rulesOf}
 use Rattle.tags.specs.Places.{attributePlacesFrom, attributePlaces}
 use Rattle.tags.specs.Ended.{EndsAs, TagRead, TagStops, endPlaced, ended, ends-as, ends-placed}
@@ -251,26 +251,16 @@ plainly s at e v = v
 
 -- ---- the whole start tag: its attributes where it ends, and none where it does not
 
-module _ (kind : TagKind) (s : List ℕ) (at : ℕ) (t : StartTag) (v : TagStops (rulesOf kind) s at t) where
-  abbrev found : Out Tag
-  found = (startTag (rulesOf kind)) .run (drop at s)
+module _ (kind : TagKind) (s : List ℕ) (at : ℕ) (attributes : Attributes) where
+  closes-as : (end : TagEnd) → TagStops (rulesOf kind) s at (record { end = end; attributes = attributes }) → TagRead kind s at (closedTag end attributes)
+  unfolding closedTag
+  closes-as (Open e) v = (v .0, v .1, v .2 ∙ ap (attributePlaces s at) (v .0))
+  closes-as (Empty e) v = (v .0, v .1, v .2 ∙ ap (attributePlaces s at) (v .0))
+  closes-as (Fault k p) v = (v .0, v .1, ap (attributePlaces s at) (v .0))
+  closes-as Cut v = (v .0, tt, ap (attributePlaces s at) (v .0))
 
-  -- the answer at an end
-  by-end : (end : TagEnd) → t .end ≡ end → endOut s (t .attributes) end ≡ found
-  by-end end q = ap (endOut s (t .attributes)) (sym q) ∙ v .0
-
-  pub kept-open : (e : ℕ) → t .end ≡ Open e → TagRead kind s at (record { end = Open e; attributes = t .attributes })
-  kept-open e q = (by-end (Open e) q, rw q at (v .1), v .2 ∙ ap (attributePlaces s at) (by-end (Open e) q))
-
-  pub kept-empty : (e : ℕ) → t .end ≡ Empty e → TagRead kind s at (record { end = Empty e; attributes = t .attributes })
-  kept-empty e q = (by-end (Empty e) q, rw q at (v .1), v .2 ∙ ap (attributePlaces s at) (by-end (Empty e) q))
-
-  module _ (n : Attributes) (z : n ≡ noAttributes) where
-    pub none-fault : (k p : ℕ) → t .end ≡ Fault k p → TagRead kind s at (record { end = Fault k p; attributes = n })
-    none-fault k p q = (by-end (Fault k p) q, rw q at (v .1), z ∙ ap (attributePlaces s at) (by-end (Fault k p) q))
-
-    pub none-cut : t .end ≡ Cut → TagRead kind s at (record { end = t .end; attributes = n })
-    none-cut q = (ap (endOut s n) q ∙ by-end Cut q, v .1, z ∙ ap (attributePlaces s at) (by-end Cut q))
+  pub closes : (end : TagEnd) (t : StartTag) → t ≡ closedTag end attributes → TagStops (rulesOf kind) s at (record { end = end; attributes = attributes }) → TagRead kind s at t
+  closes end t e v = rw e (closes-as end v)
 
 -- there is one answer
 pub tag-placed : (kind : TagKind) (s : List ℕ) (at : ℕ) (t : StartTag) → TagRead kind s at t

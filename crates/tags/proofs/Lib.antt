@@ -1,3 +1,4 @@
+pub mod Nodes
 pub mod Words
 pub mod Dims
 pub mod Cubes

@@ -5,14 +5,14 @@ use mathlib.Core.List.{List, [], _∷_, _++_, append-assoc}
 use Prim.Native.Nat.{ℕ, zero, suc, _+_, _≤_, _<_, min}
 use native.Mathlib.Omega.{arith}
 use native.Mathlib.Numerals.{add-one}
-use lib.ListN.{length, set, length-append, length-set}
+use lib.ListN.{length, set, getD, length-append, length-set}
 use lib.Seq.{getD-set-same, getD-set-other}
 use lib.Dec.{ltb, leb}
 use borrow.Author.Tests.{ltb-true, ltb-false, lt-ltb, le-ltb, le-leb, lt-leb}
 use Rattle.grammar.specs.Laws.{nope}
 use Rattle.xml.specs.Bytes.{same}
 use Rattle.xml.specs.Xml.{Attribute, isNamed, textOf}
-use Rattle.tags.specs.Code.{partIn, attributeAt, firstOnes, attributesOf, noAttributes, withAttribute, firstNamed, spanAt, textPlace, TextStands, IndexOf}
+use Rattle.tags.specs.Code.{partIn, attributeAt, firstOnes, attributesOf, noAttributes, withAttribute, firstNamed, spanAt, textPlace, TextStands, IndexOf, IndexIn, BothOr, spanIn}
 use Rattle.tags.specs.declared.Attributes.{Attributes}
 use Rattle.tags.proofs.Words.{part-nothing}
 
@@ -134,9 +134,48 @@ index-none s attributes w i h e =
     let n : isNamed w (attributesOf s attributes) ≡ false = ap (λ (m : ℕ). isNamed w (firstOnes f m)) (sym e) ∙ h in
     record { first = λ z. absurd (omega arith); named = n; found = λ z. absurd (omega arith); missing = λ z. text-none w (attributesOf s attributes) n }
 
+-- ---- the same by where the names stand alone, of all attributes whose names stand there
+
+abbrev pub NoneIn : List ℕ → List ℕ → List ℕ → ℕ → List ℕ → ℕ → Type 0
+NoneIn s starts ends count w i = (attributes : Attributes) → attributes .count ≡ count → attributes .«name_start» ≡ starts → attributes .«name_end» ≡ ends → NoneOf s attributes w i
+
+module _ (s starts ends : List ℕ) (count : ℕ) (w : List ℕ) where
+  pub none-in : NoneIn s starts ends count w 0
+  none-in attributes n a e = none-start s attributes w
+
+  module _ (i : ℕ) (h : NoneIn s starts ends count w i) where
+    pub none-in-more : same w (partIn s (getD starts i 0) (getD ends i 0)) ≡ false → NoneIn s starts ends count w (i + 1)
+    none-in-more q attributes n a e = none-more s attributes w i (h attributes n a e) (rw (a, e) q)
+
+    pub index-in-found : i < count → i < 16 → same w (partIn s (getD starts i 0) (getD ends i 0)) ≡ true → IndexIn s starts ends count w i
+    index-in-found k k₂ q attributes n a e = index-found s attributes w i (h attributes n a e) (omega arith) k₂ (rw (a, e) q)
+
+    pub index-in-none : i ≡ min count 16 → IndexIn s starts ends count w 16
+    index-in-none z attributes n a e = index-none s attributes w i (h attributes n a e) (omega arith)
+
+-- ---- one attribute more, as the code stores it
+
+module _ (attributes : Attributes) (a b c d : ℕ) where
+  pub stored : attributes .count < 16
+      → _≡_ {A = Attributes}
+      (record {
+        count = attributes .count + 1;
+        «name_start» = set (attributes .«name_start») (attributes .count) a;
+        «name_end» = set (attributes .«name_end») (attributes .count) b;
+        «text_start» = set (attributes .«text_start») (attributes .count) c;
+        «text_end» = set (attributes .«text_end») (attributes .count) d;
+      })
+      (withAttribute attributes a b c d)
+  unfolding withAttribute
+  stored h = simp (lt-ltb (attributes .count) 16 h)
+
+  pub full : 16 ≤ attributes .count → attributes ≡ withAttribute attributes a b c d
+  unfolding withAttribute
+  full h = simp (le-ltb (attributes .count) 16 h)
+
 -- where its text stands
 module _ (s : List ℕ) (attributes : Attributes) (w : List ℕ) (i : ℕ) (v : IndexOf s attributes w i) where
-  pub text-found : i < 16 → TextStands s attributes w (spanAt attributes i)
+  text-found : i < 16 → TextStands s attributes w (spanAt attributes i)
   unfolding textPlace
   text-found h = record {
     span = sym (ap (λ (t : Bool). cond t (spanAt attributes (firstNamed w (attributesOf s attributes))) (record { start = 0; end = 0 })) (v .named ∙ lt-ltb i 16 h)
@@ -144,12 +183,28 @@ module _ (s : List ℕ) (attributes : Attributes) (w : List ℕ) (i : ℕ) (v : 
     text = sym (v .found h);
   }
 
-  pub text-missing : 16 ≤ i → TextStands s attributes w (record { start = 0; end = 0 })
+  text-missing : 16 ≤ i → TextStands s attributes w (record { start = 0; end = 0 })
   unfolding textPlace
   text-missing h = record {
     span = sym (ap (λ (t : Bool). cond t (spanAt attributes (firstNamed w (attributesOf s attributes))) (record { start = 0; end = 0 })) (v .named ∙ le-ltb i 16 h));
     text = part-nothing s ∙ sym (v .missing h);
   }
+
+  pub text-in : TextStands s attributes w (spanIn (attributes .«text_start») (attributes .«text_end») i)
+  unfolding spanIn
+  text-in = go (ltb i 16) refl
+    where
+      go : (b : Bool) → ltb i 16 ≡ b → TextStands s attributes w (cond b (spanAt attributes i) (record { start = 0; end = 0 }))
+      go true e = text-found (ltb-true i 16 e)
+      go false e = text-missing (ltb-false i 16 e)
+
+-- both names, or the fault k
+module _ (s starts ends : List ℕ) (count : ℕ) (a b : List ℕ) (k first : ℕ) (v : IndexIn s starts ends count a first) where
+  pub both-there : (second r : ℕ) → first < 16 → IndexIn s starts ends count b second → r ≡ cond (ltb second 16) 0 k → BothOr s starts ends count a b k r
+  both-there second r h w q attributes n x y = q ∙ sym (rw (v attributes n x y .named, lt-ltb first 16 h, w attributes n x y .named) refl)
+
+  pub first-missing : 16 ≤ first → BothOr s starts ends count a b k k
+  first-missing h attributes n x y = sym (rw (v attributes n x y .named, le-ltb first 16 h) refl)
 
 pub length-attributes : (s : List ℕ) (attributes : Attributes) → length (attributesOf s attributes) ≡ min (attributes .count) 16
 unfolding attributesOf

@@ -1,6 +1,6 @@
 -- What the answers of the code mean.
 use mathlib.Core.Path.{_≡_}
-use mathlib.Core.Bool.{Bool, true, false, cond}
+use mathlib.Core.Bool.{true, false, cond, _&&_}
 use mathlib.Core.List.{List, [], _∷_, _++_}
 use mathlib.Core.Option.{Option, none, some}
 use Prim.Native.Nat.{ℕ, zero, suc, _+_, _-_, _≤_, _<_, min}
@@ -18,6 +18,7 @@ use Rattle.clf.specs.Nodes.{wholeFrom, behindDigits, cubeShape}
 use Rattle.tags.specs.declared.Digits.{Digits}
 use Rattle.tags.specs.declared.Attributes.{Attributes}
 use Rattle.tags.specs.declared.Span.{Span}
+use Rattle.tags.specs.declared.NodeTexts.{NodeTexts}
 use Rattle.tags.specs.declared.TagEnd.{TagEnd}
 use Rattle.tags.specs.declared.TagEnd.the-variants as Ends
 use Rattle.tags.specs.declared.StartTag.{StartTag}
@@ -175,6 +176,33 @@ pub record IndexOf (s : List ℕ) (attributes : Attributes) (w : List ℕ) (r : 
   pub named : isNamed w (attributesOf s attributes) ≡ ltb r 16
   pub found : r < 16 → textOf w (attributesOf s attributes) ≡ (attributeAt s attributes r) .text
   pub missing : 16 ≤ r → textOf w (attributesOf s attributes) ≡ []
+
+-- the same by where the names stand alone: for all attributes, so many, whose names stand there
+abbrev pub IndexIn : List ℕ → List ℕ → List ℕ → ℕ → List ℕ → ℕ → Type 0
+IndexIn s starts ends count w r = (attributes : Attributes) → attributes .count ≡ count → attributes .«name_start» ≡ starts → attributes .«name_end» ≡ ends → IndexOf s attributes w r
+
+-- the fault k unless both names are there, likewise for all attributes whose names stand there
+abbrev pub BothOr : List ℕ → List ℕ → List ℕ → ℕ → List ℕ → List ℕ → ℕ → ℕ → Type 0
+BothOr s starts ends count a b k r =
+    (attributes : Attributes) → attributes .count ≡ count → attributes .«name_start» ≡ starts → attributes .«name_end» ≡ ends
+    → r ≡ cond (isNamed a (attributesOf s attributes) && isNamed b (attributesOf s attributes)) 0 k
+
+-- where the text of the attribute of index i stands, 0 and 0 from 16 on
+unfoldable pub spanIn : List ℕ → List ℕ → ℕ → Span
+spanIn starts ends i = cond (ltb i 16) (record { start = getD starts i 0; end = getD ends i 0 }) (record { start = 0; end = 0 })
+
+-- where a node's depths and its id stand
+pub record NodeTextsStand (s : List ℕ) (attributes : Attributes) (r : NodeTexts) : Type 0 where
+  pub input : TextStands s attributes (bytes "inBitDepth") (r .input)
+  pub output : TextStands s attributes (bytes "outBitDepth") (r .output)
+  pub id : TextStands s attributes (bytes "id") (r .id)
+
+-- a start tag that ends so, with these attributes read; at a fault, and where the bytes end, it has none
+unfoldable pub closedTag : TagEnd → Attributes → StartTag
+closedTag (Ends.Open e) attributes = record { end = Ends.Open e; attributes = attributes }
+closedTag (Ends.Empty e) attributes = record { end = Ends.Empty e; attributes = attributes }
+closedTag (Ends.Fault k p) attributes = record { end = Ends.Fault k p; attributes = noAttributes }
+closedTag Ends.Cut attributes = record { end = Ends.Cut; attributes = noAttributes }
 
 -- ---- an attribute by its parts: `attribute` is its name, then these
 

@@ -9,9 +9,10 @@ ghost use Rattle.xml.specs.Code.{Reads, part};
 ghost use Rattle.process_list.specs.declared.Interpolation.{Interpolation};
 ghost use Rattle.clf.specs.Nodes as Nodes;
 ghost use Rattle.clf.specs.List as List;
+ghost use Rattle.ids.specs.Ids.{idRight, mostNodeIdBytes};
 ghost use Rattle.tags.specs.Rules.{rulesOf};
 ghost use Rattle.tags.specs.Code as Code;
-ghost use Rattle.tags.specs.Ended.{behindTag, EndsAs, TagRead, TagStops};
+ghost use Rattle.tags.specs.Ended.{behindTag, EndsAs, TagRead};
 use process_list::Depth;
 use process_list::Interpolation;
 use xml::Scan;
@@ -73,6 +74,13 @@ pub enum AttributeRead {
 pub struct Span {
     pub start: usize,
     pub end: usize,
+}
+
+// Where a node's depths and its id stand.
+pub struct NodeTexts {
+    pub input: Span,
+    pub output: Span,
+    pub id: Span,
 }
 
 pub enum DepthRead {
@@ -286,12 +294,24 @@ fn either(text: &[u8], a: &[u8], b: &[u8]) -> bool
     xml::same(text, b)
 }
 
-// An attribute of a node: a depth, or another one, whose fault is `rest`.
+fn id_fault(text: &[u8]) -> u8
+    ensures { λ r. ⌜ r ≡ cond (idRight mostNodeIdBytes (now (text .entry))) 0 24 ⌝ }
+{
+    unless(
+        ids::id_right(text, ids::MOST_ID_BYTES),
+        refusals::WRONG_NODE_ID,
+    )
+}
+
+// An attribute of a node: a depth, its id, or another one, whose fault is `rest`.
 fn node_text_fault(name: &[u8], text: &[u8], rest: u8) -> u8
     ensures { λ r. ⌜ r ≡ Nodes.nodeTexts (λ w t. rest) (now (name .entry)) (now (text .entry)) ⌝ }
 {
     if either(name, b"inBitDepth", b"outBitDepth") {
         return depth_fault(text);
+    }
+    if xml::same(name, b"id") {
+        return id_fault(text);
     }
     rest
 }
@@ -468,29 +488,6 @@ pub fn no_attributes() -> Attributes
     }
 }
 
-// One attribute more; a full list stays as it is.
-fn with_attribute(
-    attributes: Attributes,
-    name_start: usize,
-    name_end: usize,
-    text_start: usize,
-    text_end: usize,
-) -> Attributes
-    ensures { λ r. ⌜ r ≡ Code.withAttribute attributes «name_start» «name_end» «text_start» «text_end» ⌝ }
-{
-    let n = attributes.count;
-    if n < 16 {
-        let mut next = attributes;
-        next.name_start[n] = name_start;
-        next.name_end[n] = name_end;
-        next.text_start[n] = text_start;
-        next.text_end[n] = text_end;
-        next.count = n + 1;
-        return next;
-    }
-    attributes
-}
-
 // The bytes from a to e, none where these are no places of s in order.
 pub fn part(s: &[u8], a: usize, e: usize) -> &[u8]
     ensures { λ r. ⌜ now r ≡ Code.partIn (now (s .entry)) a e ⌝ }
@@ -504,18 +501,24 @@ pub fn part(s: &[u8], a: usize, e: usize) -> &[u8]
     &s[a..e]
 }
 
-// The index of the first attribute of the name w, 16 where there is none.
-fn index_of(s: &[u8], attributes: Attributes, w: &[u8]) -> usize
-    ensures { λ r. ⌜ Code.IndexOf (now (s .entry)) attributes (now (w .entry)) r ⌝ }
+// The index of the first attribute of the name w, 16 where there is none, by where the names of `count` attributes start and end: of whatever attributes these are. It is lent the two arrays, since a
+// copy of all attributes would cost more than the search.
+fn index_of<'a>(
+    s: &[u8],
+    starts: &'a [usize; 16],
+    ends: &'a [usize; 16],
+    count: usize,
+    w: &[u8],
+) -> usize
+    ensures { λ r. ⌜ Code.IndexIn (now (s .entry)) (now (starts .entry)) (now (ends .entry)) count (now (w .entry)) r ⌝ }
 {
-    let count = attributes.count;
     let mut i = 0;
     while i < 16 {
         if count <= i {
             return 16;
         }
-        let a = attributes.name_start[i];
-        let e = attributes.name_end[i];
+        let a = starts[i];
+        let e = ends[i];
         if xml::same_name(w, part(s, a, e)) {
             return i;
         }
@@ -528,21 +531,62 @@ fn index_of(s: &[u8], attributes: Attributes, w: &[u8]) -> usize
 pub fn is_named(s: &[u8], attributes: Attributes, w: &[u8]) -> bool
     ensures { λ r. ⌜ r ≡ Xml.isNamed (now (w .entry)) (Code.attributesOf (now (s .entry)) attributes) ⌝ }
 {
-    index_of(s, attributes, w) < 16
+    let count = attributes.count;
+    index_of(s, &attributes.name_start, &attributes.name_end, count, w) < 16
+}
+
+// Where the text of the attribute of index i stands, 0 and 0 from 16 on.
+fn span_at<'a>(starts: &'a [usize; 16], ends: &'a [usize; 16], i: usize) -> Span
+    ensures { λ r. ⌜ r ≡ Code.spanIn (now (starts .entry)) (now (ends .entry)) i ⌝ }
+{
+    if i < 16 {
+        return Span {
+            start: starts[i],
+            end: ends[i],
+        };
+    }
+    Span { start: 0, end: 0 }
 }
 
 // Where the text of the first attribute of the name w stands.
 pub fn text_of(s: &[u8], attributes: Attributes, w: &[u8]) -> Span
     ensures { λ r. ⌜ Code.TextStands (now (s .entry)) attributes (now (w .entry)) r ⌝ }
 {
-    let i = index_of(s, attributes, w);
-    if i < 16 {
-        return Span {
-            start: attributes.text_start[i],
-            end: attributes.text_end[i],
-        };
-    }
-    Span { start: 0, end: 0 }
+    let count = attributes.count;
+    let i = index_of(s, &attributes.name_start, &attributes.name_end, count, w);
+    span_at(&attributes.text_start, &attributes.text_end, i)
+}
+
+// Where the texts stand that every node has or may have: its depths and its id.
+pub fn node_texts(s: &[u8], attributes: Attributes) -> NodeTexts
+    ensures { λ r. ⌜ Code.NodeTextsStand (now (s .entry)) attributes r ⌝ }
+{
+    let count = attributes.count;
+    let i = index_of(
+        s,
+        &attributes.name_start,
+        &attributes.name_end,
+        count,
+        b"inBitDepth",
+    );
+    let o = index_of(
+        s,
+        &attributes.name_start,
+        &attributes.name_end,
+        count,
+        b"outBitDepth",
+    );
+    let d = index_of(
+        s,
+        &attributes.name_start,
+        &attributes.name_end,
+        count,
+        b"id",
+    );
+    let input = span_at(&attributes.text_start, &attributes.text_end, i);
+    let output = span_at(&attributes.text_start, &attributes.text_end, o);
+    let id = span_at(&attributes.text_start, &attributes.text_end, d);
+    NodeTexts { input, output, id }
 }
 
 // What is wrong with the name w behind the attributes so far.
@@ -654,12 +698,22 @@ pub fn attribute(s: &[u8], at: usize, kind: TagKind, attributes: Attributes) -> 
     }
 }
 
-// The fault k unless there are attributes of both names.
-fn both_or(s: &[u8], attributes: Attributes, a: &[u8], b: &[u8], k: u8) -> u8
-    ensures { λ r. ⌜ r ≡ cond (Xml.isNamed (now (a .entry)) (Code.attributesOf (now (s .entry)) attributes) && Xml.isNamed (now (b .entry)) (Code.attributesOf (now (s .entry)) attributes)) 0 k ⌝ }
+// The fault k unless there are attributes of both names, by where the names of `count` attributes start and end.
+fn both_or<'a>(
+    s: &[u8],
+    starts: &'a [usize; 16],
+    ends: &'a [usize; 16],
+    count: usize,
+    a: &[u8],
+    b: &[u8],
+    k: u8,
+) -> u8
+    ensures { λ r. ⌜ Code.BothOr (now (s .entry)) (now (starts .entry)) (now (ends .entry)) count (now (a .entry)) (now (b .entry)) k r ⌝ }
 {
-    if is_named(s, attributes, a) {
-        return unless(is_named(s, attributes, b), k);
+    let first = index_of(s, starts, ends, count, a);
+    if first < 16 {
+        let second = index_of(s, starts, ends, count, b);
+        return unless(second < 16, k);
     }
     k
 }
@@ -667,9 +721,12 @@ fn both_or(s: &[u8], attributes: Attributes, a: &[u8], b: &[u8], k: u8) -> u8
 fn node_missing(s: &[u8], attributes: Attributes) -> u8
     ensures { λ r. ⌜ r ≡ Nodes.nodeMissing (Code.attributesOf (now (s .entry)) attributes) ⌝ }
 {
+    let count = attributes.count;
     both_or(
         s,
-        attributes,
+        &attributes.name_start,
+        &attributes.name_end,
+        count,
         b"inBitDepth",
         b"outBitDepth",
         refusals::WRONG_ATTRIBUTE,
@@ -679,9 +736,12 @@ fn node_missing(s: &[u8], attributes: Attributes) -> u8
 fn list_missing(s: &[u8], attributes: Attributes) -> u8
     ensures { λ r. ⌜ r ≡ List.listMissing (Code.attributesOf (now (s .entry)) attributes) ⌝ }
 {
+    let count = attributes.count;
     both_or(
         s,
-        attributes,
+        &attributes.name_start,
+        &attributes.name_end,
+        count,
         b"id",
         b"compCLFversion",
         refusals::WRONG_ATTRIBUTE,
@@ -770,9 +830,27 @@ fn empty_end(s: &[u8], at: usize, kind: TagKind, attributes: Attributes) -> TagE
     }
 }
 
-// A start tag behind its name, with the attributes up to where it stops.
-fn tag_parts(s: &[u8], at: usize, kind: TagKind) -> StartTag
-    ensures { λ r. ⌜ TagStops (rulesOf kind) (now (s .entry)) at r ⌝ }
+// A start tag that ends so, with these attributes read; at a fault, and where the bytes end, it has none.
+fn closed(end: TagEnd, attributes: Attributes) -> StartTag
+    ensures { λ r. ⌜ r ≡ Code.closedTag end attributes ⌝ }
+{
+    match end {
+        TagEnd::Open(e) => StartTag { end, attributes },
+        TagEnd::Empty(e) => StartTag { end, attributes },
+        TagEnd::Fault(k, p) => StartTag {
+            end,
+            attributes: no_attributes(),
+        },
+        TagEnd::Cut => StartTag {
+            end,
+            attributes: no_attributes(),
+        },
+    }
+}
+
+// A start tag behind its name; at a fault, and where the bytes end, it has no attributes.
+pub fn start_tag(s: &[u8], at: usize, kind: TagKind) -> StartTag
+    ensures { λ r. ⌜ TagRead kind (now (s .entry)) at r ⌝ }
 {
     let mut attributes = no_attributes();
     let mut spaced = false;
@@ -783,11 +861,9 @@ fn tag_parts(s: &[u8], at: usize, kind: TagKind) -> StartTag
             spaced = true;
             i += 1;
         } else if b == b'>' {
-            let end = open_end(s, i, kind, attributes);
-            return StartTag { end, attributes };
+            return closed(open_end(s, i, kind, attributes), attributes);
         } else if b == b'/' {
-            let end = empty_end(s, i, kind, attributes);
-            return StartTag { end, attributes };
+            return closed(empty_end(s, i, kind, attributes), attributes);
         } else if spaced {
             let a = attribute(s, i, kind, attributes);
             match a {
@@ -796,56 +872,26 @@ fn tag_parts(s: &[u8], at: usize, kind: TagKind) -> StartTag
                     text_start,
                     text_end,
                 } => {
-                    attributes = with_attribute(attributes, i, name_end, text_start, text_end);
+                    let name_start = i;
+                    let n = attributes.count;
                     spaced = false;
                     i = text_end + 1;
+                    if n < 16 {
+                        attributes.name_start[n] = name_start;
+                        attributes.name_end[n] = name_end;
+                        attributes.text_start[n] = text_start;
+                        attributes.text_end[n] = text_end;
+                        attributes.count = n + 1;
+                    }
                 }
-                AttributeRead::Fault(k, p) => {
-                    return StartTag {
-                        end: TagEnd::Fault(k, p),
-                        attributes,
-                    };
-                }
-                AttributeRead::Cut => {
-                    return StartTag {
-                        end: TagEnd::Cut,
-                        attributes,
-                    };
-                }
+                AttributeRead::Fault(k, p) => return closed(TagEnd::Fault(k, p), attributes),
+                AttributeRead::Cut => return closed(TagEnd::Cut, attributes),
             }
         } else {
-            return StartTag {
-                end: TagEnd::Fault(refusals::NOT_WELL_FORMED, i),
-                attributes,
-            };
+            return closed(TagEnd::Fault(refusals::NOT_WELL_FORMED, i), attributes);
         }
     }
-    StartTag {
-        end: TagEnd::Cut,
-        attributes,
-    }
-}
-
-// A start tag behind its name; at a fault, and where the bytes end, it has no attributes.
-pub fn start_tag(s: &[u8], at: usize, kind: TagKind) -> StartTag
-    ensures { λ r. ⌜ TagRead kind (now (s .entry)) at r ⌝ }
-{
-    let tag = tag_parts(s, at, kind);
-    let end = tag.end;
-    let attributes = tag.attributes;
-    let none = no_attributes();
-    match end {
-        TagEnd::Open(e) => StartTag { end, attributes },
-        TagEnd::Empty(e) => StartTag { end, attributes },
-        TagEnd::Fault(k, p) => StartTag {
-            end,
-            attributes: none,
-        },
-        TagEnd::Cut => StartTag {
-            end,
-            attributes: none,
-        },
-    }
+    closed(TagEnd::Cut, attributes)
 }
 
 // How a start tag that asks nothing of its attributes ends. Most such tags have none, and need no list of them.

@@ -24,11 +24,14 @@ use Rattle.process_list.proofs.Maps.{map-drop}
 use Rattle.process_list.proofs.Files.{file-place, file-judged, file-total, file-nodes}
 use Rattle.process_list.proofs.Laws.{same-depth-refl, capped-exact}
 use Rattle.process_list.proofs.Lists.{same-depth, list-nodes, list-count, list-is, place-judged, total-place, heads-length, placed-length, accepted-fine, Fine}
+use Rattle.xml.specs.Bytes.{same}
+use Rattle.ids.specs.Ids.{noId, heldId, idText, idAllowed, isHeld}
+use Rattle.ids.proofs.Laws.{text-held}
 use Rattle.room.specs.Room.{Room, roomLength, filled, filledWith, coefficientParts, powerParts}
 use Rattle.room.proofs.Contents.{filled-run}
 use Rattle.room.proofs.Rooms.{same-room, length-at-most, filled-room}
 use Rattle.valid.specs.Valid.{every, pairs, numbersAt, elementOf, elementsOf, sound, shapeRight, depthsRight, carried, rulesHold, gapless, isBlank, isBlankList, isSmallMatrix, isZero, listRight}
-use Rattle.valid.specs.Valid.{restZero, zeroFrom, isValid}
+use Rattle.valid.specs.Valid.{idHeld, restZero, zeroFrom, isValid}
 use Rattle.valid.proofs.Laws.{numbers-length}
 use Rattle.valid.proofs.Elements.{both-true, Right, right-few, right-holds, Holds, valid-parts, valid-made}
 
@@ -46,18 +49,51 @@ unfolding every
 every-replicate p zero a h = refl
 every-replicate p (suc n) a h = simp (h, every-replicate p n a h)
 
--- ---- an element has as many numbers as its kind
-pub sound-whole-numbers : (e : Element) → sound e ≡ true → length (e .numbers) ≡ numbersOf (e .kind)
-unfolding sound
-sound-whole-numbers e h =
-    let a = shapeRight (e .kind) in
-    let b = eqb (length (e .numbers)) (numbersOf (e .kind)) in
-    let c = every carried (e .numbers) in
-    let d = rulesHold (e .kind) (e .numbers) in
-    let o = both-true (a && b && c && d) (depthsRight (e .kind) (e .input) (e .output)) h in
-    let p = both-true (a && b && c) d (o .0) in
-    let q = both-true (a && b) c (p .0) in
-    eqb-true (length (e .numbers)) (numbersOf (e .kind)) (both-true a b (q .0) .1)
+-- ---- texts that are the same, byte by byte
+pub same-self : (w : List ℕ) → same w w ≡ true
+unfolding same
+same-self [] = refl
+same-self (b ∷ w) = rw (eq-eqb b b refl, same-self w)
+
+pub same-only : (v w : List ℕ) → same v w ≡ true → v ≡ w
+unfolding same
+same-only [] [] h = refl
+same-only [] (c ∷ w) h = absurd (let z : _≡_ {A = ℕ} 0 1 = cc in omega arith)
+same-only (b ∷ v) [] h = absurd (let z : _≡_ {A = ℕ} 0 1 = cc in omega arith)
+same-only (b ∷ v) (c ∷ w) h =
+    let p = both-true (eqb b c) (same v w) h in
+    rw (eqb-true b c (p .0), same-only v w (p .1)) refl
+
+-- ---- an id in its places: one that was put there stands there as it is held, and one that is held there is its text put there
+pub held-held : (t : List ℕ) → idAllowed t ≡ true → isHeld (heldId t) ≡ true
+unfolding isHeld
+held-held t h = rw (text-held t h) (same-self (heldId t))
+
+pub held-back : (places : List ℕ) → isHeld places ≡ true → heldId (idText places) ≡ places
+unfolding isHeld
+held-back places h = sym (same-only places (heldId (idText places)) h)
+
+-- ---- an element has as many numbers as its kind, and an id that is allowed
+module _ (e : Element) (h : sound e ≡ true) where
+  sound-both : (length (e .numbers) ≡ numbersOf (e .kind)) × (idAllowed (e .id) ≡ true)
+  unfolding sound
+  sound-both =
+      let a = shapeRight (e .kind) in
+      let b = eqb (length (e .numbers)) (numbersOf (e .kind)) in
+      let c = every carried (e .numbers) in
+      let d = rulesHold (e .kind) (e .numbers) in
+      let f = depthsRight (e .kind) (e .input) (e .output) in
+      let n = both-true (a && b && c && d && f) (idAllowed (e .id)) h in
+      let o = both-true (a && b && c && d) f (n .0) in
+      let p = both-true (a && b && c) d (o .0) in
+      let q = both-true (a && b) c (p .0) in
+      (eqb-true (length (e .numbers)) (numbersOf (e .kind)) (both-true a b (q .0) .1), n .1)
+
+  pub sound-whole-numbers : length (e .numbers) ≡ numbersOf (e .kind)
+  sound-whole-numbers = sound-both .0
+
+  pub sound-id : idAllowed (e .id) ≡ true
+  sound-id = sound-both .1
 
 -- a node of an element has the element's kind
 pub head-kind : (e : Element) → nodeOf e .kind ≡ e .kind
@@ -106,10 +142,18 @@ unfolding gapless placeFrom
 gapless-place a [] = refl
 gapless-place a (n ∷ ns) = simp (eq-eqb _ _ (stands-at a n), stands-kind a n, gapless-place (a + numbersOf (n .kind)) ns)
 
+-- ---- ids in their places
+ids-place : (a : ℕ) (es : List Element) → every sound es ≡ true → every idHeld (placeFrom a (map nodeOf es)) ≡ true
+unfolding every placeFrom withPosition nodeOf unplaced
+ids-place a [] h = refl
+ids-place a (e ∷ es) h =
+    let p = every-cons sound e es h in
+    simp (held-held (e .id) (sound-id e (p .0)), ids-place (a + numbersOf (e .kind)) es (p .1))
+
 -- ---- blank nodes
 pub blank-is : isBlank blankNode ≡ true
 unfolding isBlank blankNode unplaced
-blank-is = simp (same-depth-refl I8)
+blank-is = simp (same-depth-refl I8, same-self noId)
 
 -- ---- zeros behind the numbers
 pub rest-filled : (n : ℕ) (xs s : List ℤ) → length xs ≤ n → restZero n (length xs) (filled n (pos 0) xs s) ≡ true
@@ -138,10 +182,12 @@ module _ (m : Room) where
       let p = part (λ (d : Decimal). d .power) (roomLength m) x o y (m .powers) in
       rw (c, p) (pairs-back o)
 
-  element-back : (x : List Decimal) (e : Element) (y : List Decimal) → length (e .numbers) ≡ numbersOf (e .kind)
+  element-back : (x : List Decimal) (e : Element) (y : List Decimal) → sound e ≡ true
       → elementOf (filledWith (x ++ e .numbers ++ y) m) (withPosition (length x) (nodeOf e)) ≡ e
   unfolding elementOf withPosition nodeOf unplaced
-  element-back x e y w = rw (← w, numbers-back x (e .numbers) y) refl
+  element-back x e y h =
+      let w = sound-whole-numbers e h in
+      rw (← w, numbers-back x (e .numbers) y, text-held (e .id) (sound-id e h)) refl
 
   -- the elements that stand behind the numbers x
   elements-back : (x : List Decimal) (es : List Element) → every sound es ≡ true
@@ -153,7 +199,7 @@ module _ (m : Room) where
       let w = sound-whole-numbers e (p .0) in
       let a : x ++ (e .numbers ++ allNumbers es) ≡ x ++ e .numbers ++ allNumbers es = sym (append-assoc x (e .numbers) (allNumbers es)) in
       let l : length x + numbersOf (nodeOf e .kind) ≡ length (x ++ e .numbers) = rw (head-kind, length-append) (omega arith) in
-      rw (a, l, element-back x e (allNumbers es) w, elements-back (x ++ e .numbers) es (p .1)) refl
+      rw (a, l, element-back x e (allNumbers es) (p .0), elements-back (x ++ e .numbers) es (p .1)) refl
 
   module _ (es : List Element) (s : every sound es ≡ true) (v : verdict (roomLength m) es ≡ Accepted) where
     fine : Fine (roomLength m) (map nodeOf es)
@@ -184,6 +230,7 @@ module _ (m : Room) where
           few = rw (list-count (placed es) (rw placed-length few), placed-length) few;
           accepted = rw left-nodes (place-judged (roomLength m) 0 (map nodeOf es) ∙ v);
           placed = rw left-nodes (gapless-place 0 (map nodeOf es));
+          ids = rw left-nodes (ids-place 0 es s);
           blank = left-blank;
         }
 
@@ -223,24 +270,26 @@ gapless-placed a (n ∷ ns) h =
     let p = both-true (eqb (n .at) a) (gapless (a + numbersOf (n .kind)) ns) h in
     rw (stands-there a n (eqb-true (n .at) a (p .0)), gapless-placed (a + numbersOf (n .kind)) ns (p .1)) refl
 
--- a node's element gives back what a file says of the node, but for the position
+-- a node's element gives back what a file says of the node, but for the position, where the id is held in its places
 module _ (m : Room) where
-  stands-back : (a : ℕ) (n : Node) → withPosition a (nodeOf (elementOf m n)) ≡ withPosition a (fileNode n)
+  stands-back : (a : ℕ) (n : Node) → idHeld n ≡ true → withPosition a (nodeOf (elementOf m n)) ≡ withPosition a (fileNode n)
   unfolding withPosition nodeOf unplaced elementOf
-  stands-back a n = refl
+  stands-back a n h = rw (held-back (n .id) h) refl
 
   kind-back : (n : Node) → nodeOf (elementOf m n) .kind ≡ n .kind
   unfolding nodeOf unplaced elementOf
   kind-back n = refl
 
-  place-back : (a : ℕ) (ns : List Node) → placeFrom a (map nodeOf (map (elementOf m) ns)) ≡ placeFrom a (map fileNode ns)
+  place-back : (a : ℕ) (ns : List Node) → every idHeld ns ≡ true → placeFrom a (map nodeOf (map (elementOf m) ns)) ≡ placeFrom a (map fileNode ns)
   unfolding placeFrom
-  place-back a [] = refl
-  place-back a (n ∷ ns) = rw (stands-back a n, kind-back n, place-back (a + numbersOf (n .kind)) ns) refl
+  place-back a [] h = refl
+  place-back a (n ∷ ns) h =
+      let p = every-cons idHeld n ns h in
+      rw (stands-back a n (p .0), kind-back n, place-back (a + numbersOf (n .kind)) ns (p .1)) refl
 
 -- a blank node is one, but for its kept number
-node : Kind → Depth → Depth → ℕ → Node
-node k i o a = record { kind = k; input = i; output = o; at = a; newest = 0 }
+node : Kind → Depth → Depth → List ℕ → ℕ → Node
+node k i o t a = record { kind = k; input = i; output = o; id = t; at = a; newest = 0 }
 
 small-is : (k : Kind) → isSmallMatrix k ≡ true → k ≡ Matrix false
 small-is (Matrix true) h = absurd (let z : _≡_ {A = ℕ} 0 1 = cc in omega arith)
@@ -251,11 +300,11 @@ small-is (Cdl c) h = absurd (let z : _≡_ {A = ℕ} 0 1 = cc in omega arith)
 small-is (Lut3d n c) h = absurd (let z : _≡_ {A = ℕ} 0 1 = cc in omega arith)
 small-is (OneEnd e) h = absurd (let z : _≡_ {A = ℕ} 0 1 = cc in omega arith)
 
-node-is : (n : Node) → fileNode n ≡ node (n .kind) (n .input) (n .output) (n .at)
+node-is : (n : Node) → fileNode n ≡ node (n .kind) (n .input) (n .output) (n .id) (n .at)
 unfolding node
 node-is n = refl
 
-blank-node-is : blankNode ≡ node (Matrix false) I8 I8 0
+blank-node-is : blankNode ≡ node (Matrix false) I8 I8 noId 0
 unfolding node blankNode unplaced
 blank-node-is = refl
 
@@ -265,14 +314,17 @@ blank-only n h =
     let a = isSmallMatrix (n .kind) in
     let b = sameDepth (n .input) I8 in
     let c = sameDepth (n .output) I8 in
-    let p = both-true (a && b && c) (eqb (n .at) 0) h in
+    let d = eqb (n .at) 0 in
+    let s = both-true (a && b && c && d) (same (n .id) noId) h in
+    let p = both-true (a && b && c) d (s .0) in
     let q = both-true (a && b) c (p .0) in
     let r = both-true a b (q .0) in
     let k = small-is (n .kind) (r .0) in
     let i = same-depth (n .input) I8 (r .1) in
     let o = same-depth (n .output) I8 (q .1) in
     let z = eqb-true (n .at) 0 (p .1) in
-    node-is n ∙ (rw (k, i, o, z) (sym blank-node-is))
+    let t = same-only (n .id) noId (s .1) in
+    node-is n ∙ (rw (k, i, o, z, t) (sym blank-node-is))
 
 -- where g makes a of every one, the list of these repeats a
 pub every-same : {A B : Type 0} (p : A → Bool) (g : A → B) (a : B) → ((x : A) → p x ≡ true → g x ≡ a) → (xs : List A) → every p xs ≡ true → map g xs ≡ replicate (length xs) a
@@ -408,7 +460,7 @@ module _ (l : ProcessList) (m : Room) (array : length (l .nodes) ≡ 32) (h : is
 
   back : placed (elementsOf l m) ≡ map fileNode (nodesOf l)
   unfolding placed elementsOf
-  back = place-back m 0 (nodesOf l) ∙ sym (file-place 0 (nodesOf l)) ∙ ap (map fileNode) (gapless-placed 0 (nodesOf l) (right .placed))
+  back = place-back m 0 (nodesOf l) (right .ids) ∙ sym (file-place 0 (nodesOf l)) ∙ ap (map fileNode) (gapless-placed 0 (nodesOf l) (right .placed))
 
   held : length (nodesOf l) ≡ l .count
   unfolding nodesOf
@@ -457,10 +509,15 @@ unfolding gapless
 file-gapless a [] = refl
 file-gapless a (n ∷ ns) = rw (file-gapless (a + numbersOf (n .kind)) ns) refl
 
+-- a test that looks at no kept number
+file-every : (p : Node → Bool) → ((n : Node) → p (fileNode n) ≡ p n) → (ns : List Node) → every p (map fileNode ns) ≡ every p ns
+unfolding every
+file-every p f [] = refl
+file-every p f (n ∷ ns) = rw (f n, file-every p f ns) refl
+
 file-blank : (ns : List Node) → every isBlank (map fileNode ns) ≡ every isBlank ns
-unfolding every isBlank
-file-blank [] = refl
-file-blank (n ∷ ns) = rw (file-blank ns) refl
+unfolding isBlank
+file-blank = file-every isBlank (λ n. refl)
 
 pub valid-file : (l : ProcessList) (m : Room) → isValid (fileList l) m ≡ isValid l m
 unfolding isValid listRight fileList
@@ -471,6 +528,7 @@ valid-file l m =
       file-total (nodesOf l),
       file-judged (roomLength m) (nodesOf l),
       file-gapless 0 (nodesOf l),
+      file-every idHeld (λ n. refl) (nodesOf l),
       ← map-drop fileNode (l .count) (l .nodes),
       file-blank (drop (l .count) (l .nodes)),
     ) refl

@@ -41,7 +41,8 @@ fn is_blank(node: Node) -> bool
         process_list::same_depth(input, Depth::I8),
         process_list::same_depth(output, Depth::I8),
     );
-    both(depths, node.at == 0)
+    let id = node.id;
+    three(depths, node.at == 0, ids::is_same(id, ids::none()))
 }
 
 // Whether this is a Matrix 3x3.
@@ -111,6 +112,23 @@ fn is_gapless(list: ProcessList) -> bool
     true
 }
 
+// Whether each node's id stands in its places as a reading leaves it.
+fn ids_held(list: ProcessList) -> bool
+    ensures { λ r. ⌜ r ≡ Spec.every Spec.idHeld (List.nodesOf list) ⌝ }
+{
+    let count = process_list::held(list);
+    let mut k: usize = 0;
+    while k < count {
+        let node = process_list::get(list, k);
+        let id = node.id;
+        if !ids::is_held(id) {
+            return false;
+        }
+        k += 1;
+    }
+    true
+}
+
 // Whether the list alone is right for a room of this length.
 fn list_right(list: ProcessList, room: usize) -> bool
     ensures { λ r. ⌜ r ≡ Spec.listRight list room ⌝ }
@@ -123,6 +141,9 @@ fn list_right(list: ProcessList, room: usize) -> bool
         return false;
     }
     if !is_gapless(list) {
+        return false;
+    }
+    if !ids_held(list) {
         return false;
     }
     blank_behind(list)
@@ -331,7 +352,8 @@ pub fn sound(node: Node, coefficients: &[i64], powers: &[i8]) -> bool
     }
     let input = node.input;
     let output = node.output;
-    depths_right(kind, input, output)
+    let id = node.id;
+    both(depths_right(kind, input, output), ids::allowed(&id))
 }
 
 // Whether the elements of all nodes are without fault.

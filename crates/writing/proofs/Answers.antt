@@ -1,46 +1,24 @@
 -- What each way out of the call of writing comes to. Assumes nothing.
 use mathlib.Core.Path.{_≡_, refl, sym, ap, _∙_}
-use mathlib.Core.Bool.{Bool, true, false}
+use mathlib.Core.Bool.{true, false}
 use mathlib.Core.List.{List, []}
 use Prim.Native.Nat.{ℕ, _+_, _≤_, _<_, _^_}
 use native.Mathlib.Omega.{arith}
 use native.Mathlib.Nat.{zero-add}
-use borrow.Author.Tests.{lt-ltb, le-ltb, le-leb, lt-leb, ne-eqb}
+use borrow.Author.Tests.{lt-ltb, le-ltb}
 use lib.ListN.{length}
 use Rattle.process_list.specs.declared.ProcessList.{ProcessList}
 use Rattle.room.specs.Room.{Room}
 use Rattle.room.proofs.Contents.{laid-fits}
-use Rattle.valid.specs.Valid.{every, isValid, elementsOf}
-use Rattle.xml.specs.Bytes.{isLetter, isDigit, isNameByte}
+use Rattle.valid.specs.Valid.{isValid, elementsOf}
+use Rattle.ids.specs.Ids.{idRight}
 use Rattle.text_out.specs.Output.{counted, Puts}
 use Rattle.text_out.proofs.Laws.{counted-in, puts-is}
-use Rattle.written_form.specs.Written.{joined, listLines, isIdByte, idRight, Writing, refused, written, fitting, writeOf, outputOf}
+use Rattle.written_form.specs.Written.{joined, listLines, mostIdBytes, Writing, refused, written, fitting, writeOf, outputOf}
 use Rattle.written_form.proofs.Short.{list-short}
 use Rattle.written_form.proofs.Order.{list-first, id-second, output-last}
 use Rattle.writing.specs.Writing.{writingAnswer, Wrote}
 use Rattle.writing.specs.declared.Written.{Written}
-
--- ---- ids
-pub colon : (b : ℕ) → b ≡ 58 → false ≡ isIdByte b
-unfolding isIdByte isLetter isDigit
-colon b e = rw e
-
-pub name-byte : (b : ℕ) → (b ≡ 58 → ⊥) → isNameByte b ≡ isIdByte b
-unfolding isIdByte isNameByte
-name-byte b h = simp (ne-eqb b 58 h)
-
-module _ (id : List ℕ) where
-  pub id-empty : length id ≡ 0 → false ≡ idRight id
-  unfolding idRight
-  id-empty e = simp e
-
-  pub id-long : 64 < length id → false ≡ idRight id
-  unfolding idRight
-  id-long h = simp (le-leb 1 (length id) (omega arith), lt-leb (length id) 64 h)
-
-  pub id-bytes : (b : Bool) → 1 ≤ length id → length id ≤ 64 → every isIdByte id ≡ b → b ≡ idRight id
-  unfolding idRight
-  id-bytes b h k e = simp (le-leb 1 (length id) h, le-leb (length id) 64 k, e)
 
 -- ---- a text that has been put from the start of an output on
 pub wrote : {f : List ℕ → List ℕ} {s s' : List ℕ} {r : ℕ} → Puts f 0 s s' r → r < 2 ^ 64 → Wrote (f []) s s' r
@@ -60,10 +38,10 @@ module _ (l : ProcessList) (m : Room) (id out : List ℕ) where
   ends-16 r v e = ends-as (refused 16) r out (list-first l m id (length out) v) e refl
 
   module _ (v : isValid l m ≡ true) where
-    pub ends-18 : (r : Written) → idRight id ≡ false → r ≡ writingAnswer (refused 18) → Ends r out
+    pub ends-18 : (r : Written) → idRight mostIdBytes id ≡ false → r ≡ writingAnswer (refused 18) → Ends r out
     ends-18 r i e = ends-as (refused 18) r out (id-second l m id (length out) v i) e refl
 
-    module _ (i : idRight id ≡ true) where
+    module _ (i : idRight mostIdBytes id ≡ true) where
       abbrev text : List ℕ
       text = joined (listLines id (elementsOf l m))
 

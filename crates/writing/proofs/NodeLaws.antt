@@ -1,11 +1,11 @@
--- Laws of nodes: what stands between a node's tags, by its kind; a valid list's nodes, one after the other. Assumes nothing.
+-- Laws of nodes: an id in a node's start tag; what stands between a node's tags, by its kind; a valid list's nodes, one after the other. Assumes nothing.
 use Rattle.process_list.specs.declared.RangeStyle.{RangeStyle}
 use Rattle.process_list.specs.declared.RangeEnd.{RangeEnd}
 use Rattle.process_list.specs.declared.CdlStyle.{CdlStyle}
 use Rattle.process_list.specs.declared.Interpolation.{Interpolation}
 use mathlib.Core.Path.{_≡_, refl, sym, ap, _∙_}
 use mathlib.Core.Bool.{Bool, true, false}
-use mathlib.Core.List.{List, [], _∷_}
+use mathlib.Core.List.{List, [], _∷_, _++_}
 use Prim.Native.Nat.{ℕ, zero, suc, _+_, _*_, _≤_, _<_}
 use native.Mathlib.Omega.{arith}
 use native.Mathlib.Numerals.{add-one}
@@ -20,8 +20,21 @@ use Rattle.room.specs.Room.{Room, roomLength}
 use Rattle.valid.specs.Valid.{every, sound, isValid, numbersAt, elementOf, elementsOf}
 use Rattle.valid.proofs.Laws.{elements-at, elements-length}
 use Rattle.valid.proofs.Elements.{both-true, sound-inside}
-use Rattle.written_form.proofs.Tail.{tableText, cubeText, rangeText, oneEndText, sopText, satText, contentText, nodeText, nodesText}
+use Rattle.xml.specs.Bytes.{bytes}
+use Rattle.written_form.proofs.Tail.{tableText, cubeText, rangeText, oneEndText, sopText, satText, contentText, nodeIdText, nodeText, nodesText}
 use Rattle.written_form.proofs.Short.{valid-sound}
+
+-- ---- the id of a node, none or some
+pub id-none : (s : List ℕ) → length s ≡ 0 → (t : List ℕ) → nodeIdText s t ≡ t
+unfolding nodeIdText
+id-none [] h t = refl
+id-none (b ∷ s) h t = absurd (omega arith)
+
+-- w are the id's bytes, as the code has them
+pub id-some : (s w : List ℕ) → 1 ≤ length s → w ≡ s → (t : List ℕ) → nodeIdText s t ≡ bytes " id=\"" ++ (w ++ (bytes "\"" ++ t))
+unfolding nodeIdText
+id-some [] w h e t = absurd (omega arith)
+id-some (b ∷ s) w h e t = rw e
 
 -- ---- a node of each kind, and where its numbers stand
 module _ (kind : Kind) (wide : Bool) (e : kind ≡ Matrix wide) where

@@ -146,7 +146,8 @@ fn put_node(out: &mut [u8], at: usize, node: Node, coefficients: &[i64], powers:
     let input = node.input;
     let output = node.output;
     let from = node.at;
-    let a = put_start(out, at, kind, input, output);
+    let id = node.id;
+    let a = put_start(out, at, kind, input, output, &id);
     let b = put_content(out, a, kind, coefficients, powers, from);
     put_end(out, b, kind)
 }

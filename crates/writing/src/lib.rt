@@ -26,36 +26,6 @@ fn refused(number: u8) -> Written
     Written { number, length: 0 }
 }
 
-// The bytes of names but `:`.
-fn is_id_byte(b: u8) -> bool
-    ensures { λ r. ⌜ r ≡ Text.isIdByte b ⌝ }
-{
-    if b == b':' {
-        return false;
-    }
-    xml::is_name_byte(b)
-}
-
-// Whether an id is 1 to 64 of letters, digits, `-`, `_`, `.`.
-fn id_right(id: &[u8]) -> bool
-    ensures { λ r. ⌜ r ≡ Text.idRight (now (id .entry)) ⌝ }
-{
-    if id.len() == 0 {
-        return false;
-    }
-    if 64 < id.len() {
-        return false;
-    }
-    let mut i = 0;
-    while i < id.len() {
-        if !is_id_byte(id[i]) {
-            return false;
-        }
-        i += 1;
-    }
-    true
-}
-
 // The whole text from the start of the output on; the answer is its length.
 fn put_list(
     out: &mut [u8],
@@ -101,7 +71,7 @@ pub fn write(
     if !valid::valid(list, coefficients, powers) {
         return refused(refusals::NO_READING);
     }
-    if !id_right(id) {
+    if !ids::id_right(id, 64) {
         return refused(refusals::WRONG_ID);
     }
     let length = text_length(list, coefficients, powers, id);

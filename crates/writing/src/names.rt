@@ -3,6 +3,7 @@ ghost use mathlib.Core.List.{_++_};
 ghost use Rattle.text_out.specs.Output.{Puts};
 ghost use Rattle.written_form.specs.Written as Text;
 ghost use Rattle.written_form.proofs.Tail as Tail;
+ghost use Rattle.ids.specs.Ids.{idText};
 use node_names::put_depth;
 use node_names::put_name;
 use process_list::CdlStyle;
@@ -39,7 +40,7 @@ fn put_interpolation(out: &mut [u8], at: usize, interpolation: Interpolation) ->
     }
 }
 
-// What stands in a node's tag behind the depths: its style, or the method of a LUT3D. A Range with one end has style Clamp.
+// What stands in a node's tag behind the depths and its id: its style, or the method of a LUT3D. A Range with one end has style Clamp.
 fn put_style(out: &mut [u8], at: usize, kind: Kind) -> usize
     ensures { λ r. ⌜ Puts (λ t. Text.styleText kind ++ t) at (now (out .entry)) (now (out .exit)) r ⌝ }
 {
@@ -69,14 +70,35 @@ fn put_depths(out: &mut [u8], at: usize, input: Depth, output: Depth) -> usize
     put(out, d, b"\"")
 }
 
-pub fn put_start(out: &mut [u8], at: usize, kind: Kind, input: Depth, output: Depth) -> usize
-    ensures { λ r. ⌜ Puts (Tail.startText kind input output) at (now (out .entry)) (now (out .exit)) r ⌝ }
+// The id that stands in these places, as an attribute; nothing where there is none.
+fn put_id(out: &mut [u8], at: usize, places: &[u8]) -> usize
+    ensures { λ r. ⌜ Puts (Tail.nodeIdText (idText (now (places .entry)))) at (now (out .entry)) (now (out .exit)) r ⌝ }
+{
+    let n = ids::length_of(places);
+    if n == 0 {
+        return at;
+    }
+    let a = put(out, at, b" id=\"");
+    let b = put(out, a, &places[0..n]);
+    put(out, b, b"\"")
+}
+
+pub fn put_start(
+    out: &mut [u8],
+    at: usize,
+    kind: Kind,
+    input: Depth,
+    output: Depth,
+    places: &[u8],
+) -> usize
+    ensures { λ r. ⌜ Puts (Tail.startText kind input output (idText (now (places .entry)))) at (now (out .entry)) (now (out .exit)) r ⌝ }
 {
     let a = put(out, at, b"<");
     let b = put_name(out, a, kind);
     let c = put_depths(out, b, input, output);
-    let d = put_style(out, c, kind);
-    put(out, d, b">\n")
+    let d = put_id(out, c, places);
+    let e = put_style(out, d, kind);
+    put(out, e, b">\n")
 }
 
 pub fn put_end(out: &mut [u8], at: usize, kind: Kind) -> usize

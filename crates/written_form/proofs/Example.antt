@@ -14,7 +14,7 @@ use Rattle.process_list.specs.List.{Element}
 use Rattle.xml.specs.Bytes.{bytes}
 use Rattle.decimal_write.specs.Written.{digitsWithin, digits, wholeText, exponent, writtenOf}
 use Rattle.written_form.specs.Written.{joined, opening, closing, attribute, row, valueLine, rowLines, dims, arrayLine, arrayLines, tableLines, cubeLines}
-use Rattle.written_form.specs.Written.{rangeLines, oneEndLines, cdlLines, contentLines, startLine, nodeLines, nodesLines, rootLine, listLines, refused, written, fitting, outputOf}
+use Rattle.written_form.specs.Written.{rangeLines, oneEndLines, cdlLines, contentLines, idAttribute, startLine, nodeLines, nodesLines, rootLine, listLines, refused, written, fitting, outputOf}
 
 abbrev zero : Decimal
 zero = record { coefficient = pos 0; power = pos 0 }
@@ -31,7 +31,7 @@ abbrev large : Decimal
 large = record { coefficient = negsuc 24; power = pos 22 }
 
 -- 'Whole, for id `a`'
-pub whole-example : joined (listLines (bytes "a") (record { kind = Range Clamp; input = F32; output = F32; numbers = zero ∷ one ∷ zero ∷ half ∷ [] } ∷ []))
+pub whole-example : joined (listLines (bytes "a") (record { kind = Range Clamp; input = F32; output = F32; id = []; numbers = zero ∷ one ∷ zero ∷ half ∷ [] } ∷ []))
     ≡ bytes "<?xml version=\"1.0\" encoding=\"UTF-8\"?>\n"
     ++ bytes "<ProcessList id=\"a\" compCLFversion=\"3.0\">\n"
     ++ bytes "<Range inBitDepth=\"32f\" outBitDepth=\"32f\" style=\"Clamp\">\n"
@@ -41,16 +41,16 @@ pub whole-example : joined (listLines (bytes "a") (record { kind = Range Clamp; 
     ++ bytes "<maxOutValue>5e-1</maxOutValue>\n"
     ++ bytes "</Range>\n"
     ++ bytes "</ProcessList>\n"
-unfolding joined listLines rootLine nodesLines nodeLines startLine contentLines rangeLines valueLine opening closing attribute row writtenOf wholeText exponent digits digitsWithin
+unfolding joined listLines rootLine nodesLines nodeLines startLine idAttribute contentLines rangeLines valueLine opening closing attribute row writtenOf wholeText exponent digits digitsWithin
 whole-example = refl
 
 -- a Matrix 3x4, a LUT1D of two entries of three columns, an ASC_CDL of style FwdNoClamp, a Range of style noClamp
 abbrev others : List Element
 others =
-    record { kind = Matrix true; input = I10; output = F16; numbers = one ∷ zero ∷ zero ∷ large ∷ zero ∷ one ∷ zero ∷ zero ∷ zero ∷ zero ∷ one ∷ half ∷ [] }
-    ∷ record { kind = Lut1d 2 3; input = F16; output = I8; numbers = zero ∷ zero ∷ zero ∷ one ∷ half ∷ one ∷ [] }
-    ∷ record { kind = Cdl FwdNoClamp; input = I8; output = I12; numbers = one ∷ half ∷ one ∷ zero ∷ zero ∷ half ∷ one ∷ one ∷ one ∷ half ∷ [] }
-    ∷ record { kind = Range NoClamp; input = I12; output = I16; numbers = zero ∷ one ∷ zero ∷ one ∷ [] }
+    record { kind = Matrix true; input = I10; output = F16; id = []; numbers = one ∷ zero ∷ zero ∷ large ∷ zero ∷ one ∷ zero ∷ zero ∷ zero ∷ zero ∷ one ∷ half ∷ [] }
+    ∷ record { kind = Lut1d 2 3; input = F16; output = I8; id = []; numbers = zero ∷ zero ∷ zero ∷ one ∷ half ∷ one ∷ [] }
+    ∷ record { kind = Cdl FwdNoClamp; input = I8; output = I12; id = []; numbers = one ∷ half ∷ one ∷ zero ∷ zero ∷ half ∷ one ∷ one ∷ one ∷ half ∷ [] }
+    ∷ record { kind = Range NoClamp; input = I12; output = I16; id = []; numbers = zero ∷ one ∷ zero ∷ one ∷ [] }
     ∷ []
 
 -- 2 x 2 x 2 entries of three numbers
@@ -89,25 +89,25 @@ pub other-nodes : joined (nodesLines others)
     ++ bytes "<minOutValue>0</minOutValue>\n"
     ++ bytes "<maxOutValue>1</maxOutValue>\n"
     ++ bytes "</Range>\n"
-unfolding joined nodesLines nodeLines startLine contentLines tableLines arrayLines arrayLine dims rowLines rangeLines cdlLines valueLine opening closing attribute row
+unfolding joined nodesLines nodeLines startLine idAttribute contentLines tableLines arrayLines arrayLine dims rowLines rangeLines cdlLines valueLine opening closing attribute row
     writtenOf wholeText exponent digits digitsWithin
 other-nodes = refl
 
 -- W-201: the smallest LUT3D, whose method is tetrahedral; blue runs fastest, an entry a line
-pub cube-lines : joined (nodeLines (record { kind = Lut3d 2 Tetrahedral; input = F32; output = F32; numbers = cube }))
+pub cube-lines : joined (nodeLines (record { kind = Lut3d 2 Tetrahedral; input = F32; output = F32; id = []; numbers = cube }))
     ≡ bytes "<LUT3D inBitDepth=\"32f\" outBitDepth=\"32f\" interpolation=\"tetrahedral\">\n"
     ++ bytes "<Array dim=\"2 2 2 3\">\n"
     ++ bytes "0 0 0\n0 0 1\n0 1 0\n0 1 1\n1 0 0\n1 0 1\n1 1 0\n1 1 5e-1\n"
     ++ bytes "</Array>\n"
     ++ bytes "</LUT3D>\n"
-unfolding joined nodeLines startLine contentLines cubeLines arrayLines arrayLine dims rowLines closing attribute row writtenOf wholeText exponent digits digitsWithin
+unfolding joined nodeLines startLine idAttribute contentLines cubeLines arrayLines arrayLine dims rowLines closing attribute row writtenOf wholeText exponent digits digitsWithin
 cube-lines = refl
 
 -- W-202: a Range with the minimum alone, and one with the maximum alone: each with its pair and with style Clamp
 abbrev oneEnded : List Element
 oneEnded =
-    record { kind = OneEnd Minimum; input = I10; output = I10; numbers = zero ∷ zero ∷ [] }
-    ∷ record { kind = OneEnd Maximum; input = F16; output = F16; numbers = half ∷ half ∷ [] }
+    record { kind = OneEnd Minimum; input = I10; output = I10; id = []; numbers = zero ∷ zero ∷ [] }
+    ∷ record { kind = OneEnd Maximum; input = F16; output = F16; id = []; numbers = half ∷ half ∷ [] }
     ∷ []
 
 pub one-end-lines : joined (nodesLines oneEnded)
@@ -119,8 +119,19 @@ pub one-end-lines : joined (nodesLines oneEnded)
     ++ bytes "<maxInValue>5e-1</maxInValue>\n"
     ++ bytes "<maxOutValue>5e-1</maxOutValue>\n"
     ++ bytes "</Range>\n"
-unfolding joined nodesLines nodeLines startLine contentLines oneEndLines valueLine opening closing attribute row writtenOf wholeText exponent digits digitsWithin
+unfolding joined nodesLines nodeLines startLine idAttribute contentLines oneEndLines valueLine opening closing attribute row writtenOf wholeText exponent digits digitsWithin
 one-end-lines = refl
+
+-- W-203: an id 'is written after outBitDepth', and so before the style
+pub id-line : joined (nodeLines (record { kind = Range NoClamp; input = F16; output = F32; id = bytes "cam4"; numbers = zero ∷ one ∷ zero ∷ half ∷ [] }))
+    ≡ bytes "<Range inBitDepth=\"16f\" outBitDepth=\"32f\" id=\"cam4\" style=\"noClamp\">\n"
+    ++ bytes "<minInValue>0</minInValue>\n"
+    ++ bytes "<maxInValue>1</maxInValue>\n"
+    ++ bytes "<minOutValue>0</minOutValue>\n"
+    ++ bytes "<maxOutValue>5e-1</maxOutValue>\n"
+    ++ bytes "</Range>\n"
+unfolding joined nodeLines startLine idAttribute contentLines rangeLines valueLine opening closing attribute row writtenOf wholeText exponent digits digitsWithin
+id-line = refl
 
 -- an output of the text's length is long enough, one of a byte less is 17
 pub exact-fit : fitting 3 (bytes "abc") ≡ written (bytes "abc")

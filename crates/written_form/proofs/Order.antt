@@ -6,7 +6,8 @@ use Prim.Native.Nat.{ℕ}
 use Rattle.process_list.specs.declared.ProcessList.{ProcessList}
 use Rattle.room.specs.Room.{Room}
 use Rattle.valid.specs.Valid.{isValid, elementsOf}
-use Rattle.written_form.specs.Written.{joined, listLines, idRight, refused, fitting, writeOf}
+use Rattle.ids.specs.Ids.{idRight}
+use Rattle.written_form.specs.Written.{joined, listLines, mostIdBytes, refused, fitting, writeOf}
 
 module _ (l : ProcessList) (m : Room) (id : List ℕ) (out : ℕ) where
   -- 16 first, whatever the id and the output are
@@ -15,11 +16,11 @@ module _ (l : ProcessList) (m : Room) (id : List ℕ) (out : ℕ) where
   list-first v = simp v
 
   -- then 18, however short the output is
-  pub id-second : isValid l m ≡ true → idRight id ≡ false → writeOf l m id out ≡ refused 18
+  pub id-second : isValid l m ≡ true → idRight mostIdBytes id ≡ false → writeOf l m id out ≡ refused 18
   unfolding writeOf
   id-second v i = simp (v, i)
 
   -- and 17 where nothing else is to be refused
-  pub output-last : isValid l m ≡ true → idRight id ≡ true → writeOf l m id out ≡ fitting out (joined (listLines id (elementsOf l m)))
+  pub output-last : isValid l m ≡ true → idRight mostIdBytes id ≡ true → writeOf l m id out ≡ fitting out (joined (listLines id (elementsOf l m)))
   unfolding writeOf
   output-last v i = simp (v, i)

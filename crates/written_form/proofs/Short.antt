@@ -7,7 +7,7 @@ use Rattle.process_list.specs.declared.Interpolation.the-variants.{Trilinear, T
 use mathlib.Core.Path.{_≡_, refl}
 use mathlib.Core.Bool.{Bool, true, false, _&&_, _||_, false≢true}
 use mathlib.Core.List.{List, [], _∷_, _++_}
-use Prim.Native.Nat.{ℕ, zero, suc, _+_, _*_, _≤_, _<_, _^_}
+use Prim.Native.Nat.{ℕ, zero, suc, _+_, _*_, _≤_, _^_}
 use native.Mathlib.Omega.{arith}
 use borrow.Author.Tests.{leb-true, le-leb, eqb-true}
 use lib.Dec.{eqb, leb, lit≤}
@@ -26,11 +26,13 @@ use Rattle.room.specs.Room.{Room, roomLength}
 use Rattle.valid.specs.Valid.{every, isValid, sound, shapeRight, tableRight, cubeRight, depthsRight, carried, rulesHold, elementsOf}
 use Rattle.valid.proofs.Laws.{elements-length}
 use Rattle.valid.proofs.Elements.{both-true, Right, right-few, valid-parts}
-use Rattle.valid.proofs.Readings.{used-is}
+use Rattle.valid.proofs.Readings.{used-is, sound-id}
+use Rattle.ids.specs.Ids.{idRight, idAllowed}
+use Rattle.ids.proofs.Laws.{right-length, allowed-few}
 use Rattle.xml.specs.Bytes.{bytes}
-use Rattle.written_form.specs.Written.{joined, nameText, depthText, styleText, listLines, isIdByte, idRight}
+use Rattle.written_form.specs.Written.{joined, nameText, depthText, styleText, listLines, mostIdBytes}
 use Rattle.written_form.proofs.Tail.{spacedText, rowText, rowsText, dimsText, linesText, arrayText, valueText, rangeText, pairText, oneEndText, sopText, satText, contentText}
-use Rattle.written_form.proofs.Tail.{startText, endText, nodeText, nodesText, headText, listText, list-text}
+use Rattle.written_form.proofs.Tail.{nodeIdText, startText, endText, nodeText, nodesText, headText, listText, list-text}
 
 -- ---- numbers: at most 20 bytes each, and one byte to part them
 spaced-short : (ds : List Decimal) (t : List ℕ) → length (spacedText ds t) ≤ 21 * length ds + length t
@@ -185,19 +187,25 @@ style-short (Lut3d n Trilinear) = omega arith
 style-short (Lut3d n Tetrahedral) = omega arith
 style-short (OneEnd end) = omega arith
 
-start-short : (k : Kind) (i o : Depth) (t : List ℕ) → length (startText k i o t) ≤ 100 + length t
+node-id-short : (id t : List ℕ) → length (nodeIdText id t) ≤ 6 + length id + length t
+unfolding nodeIdText
+node-id-short [] t = omega arith
+node-id-short (b ∷ s) t = omega (arith, length-append (b ∷ s) (bytes "\"" ++ t))
+
+start-short : (k : Kind) (i o : Depth) (id t : List ℕ) → length (startText k i o id t) ≤ 100 + length id + length t
 unfolding startText
-start-short k i o t =
-    let e : List ℕ = styleText k ++ (bytes ">\n" ++ t) in
+start-short k i o id t =
+    let f : List ℕ = styleText k ++ (bytes ">\n" ++ t) in
+    let e : List ℕ = nodeIdText id f in
     let d : List ℕ = depthText o ++ (bytes "\"" ++ e) in
     let c : List ℕ = depthText i ++ (bytes "\" outBitDepth=\"" ++ d) in
     omega (
       arith,
       length-append (styleText k) (bytes ">\n" ++ t),
+      node-id-short id f,
       length-append (depthText o) (bytes "\"" ++ e),
       length-append (depthText i) (bytes "\" outBitDepth=\"" ++ d),
-      length-append
-          (nameText k) (bytes " inBitDepth=\"" ++ c),
+      length-append (nameText k) (bytes " inBitDepth=\"" ++ c),
       name-short k,
       style-short k,
       depth-short i,
@@ -208,14 +216,14 @@ end-short : (k : Kind) (t : List ℕ) → length (endText k t) ≤ 20 + length t
 unfolding endText
 end-short k t = omega (arith, length-append (nameText k) (bytes ">\n" ++ t), name-short k)
 
-node-short : (e : Element) (t : List ℕ) → shapeRight (e .kind) ≡ true → length (nodeText e t) ≤ 21 * length (e .numbers) + 66000 + length t
+node-short : (e : Element) (t : List ℕ) → shapeRight (e .kind) ≡ true → idAllowed (e .id) ≡ true → length (nodeText e t) ≤ 21 * length (e .numbers) + 66000 + length t
 unfolding nodeText
-node-short e t h =
+node-short e t h a =
     let z = endText (e .kind) t in
     let y = contentText (e .kind) (e .numbers) z in
-    omega (arith, start-short (e .kind) (e .input) (e .output) y, content-short (e .kind) (e .numbers) z h, end-short (e .kind) t)
+    omega (arith, start-short (e .kind) (e .input) (e .output) (e .id) y, allowed-few (e .id) a, content-short (e .kind) (e .numbers) z h, end-short (e .kind) t)
 
--- what soundness says: of the shape, of the count of numbers, of each number, of the rules on them, and of the depths
+-- what soundness says: of the shape, of the count of numbers, of each number, of the rules on them, and of the depths; of the id `sound-id` says it
 pub record Parts (kind : Kind) (input output : Depth) (ds : List Decimal) : Type 0 where
   pub shape : shapeRight kind ≡ true
   pub count : length ds ≡ numbersOf kind
@@ -230,7 +238,9 @@ sound-parts e h =
     let b = eqb (length (e .numbers)) (numbersOf (e .kind)) in
     let c = every carried (e .numbers) in
     let d = rulesHold (e .kind) (e .numbers) in
-    let o = both-true (a && b && c && d) (depthsRight (e .kind) (e .input) (e .output)) h in
+    let f = depthsRight (e .kind) (e .input) (e .output) in
+    let n = both-true (a && b && c && d && f) (idAllowed (e .id)) h in
+    let o = both-true (a && b && c && d) f (n .0) in
     let p = both-true (a && b && c) d (o .0) in
     let q = both-true (a && b) c (p .0) in
     let r = both-true a b (q .0) in
@@ -242,26 +252,20 @@ nodes-short [] t h = omega arith
 nodes-short (e ∷ es) t h =
     let p = both-true (sound e) (every sound es) h in
     let s = sound-parts e (p .0) in
-    omega (arith, node-short e (nodesText es t) (s .shape), nodes-short es t (p .1), length-append (e .numbers) (allNumbers es))
+    omega (arith, node-short e (nodesText es t) (s .shape) (sound-id e (p .0)), nodes-short es t (p .1), length-append (e .numbers) (allNumbers es))
 
 -- ---- the whole
 head-short : (id t : List ℕ) → length (headText id t) ≤ 100 + length id + length t
 unfolding headText
 head-short id t = omega (arith, length-append id (bytes "\" compCLFversion=\"3.0\">\n" ++ t))
 
-id-short : (id : List ℕ) → idRight id ≡ true → length id ≤ 64
-unfolding idRight
-id-short id h =
-    let p = both-true (leb 1 (length id) && leb (length id) 64) (every isIdByte id) h in
-    leb-true (length id) 64 (both-true (leb 1 (length id)) (leb (length id) 64) (p .0) .1)
-
 -- the text of 32 sound elements at most, with 262,144 numbers at most
-pub elements-short : (id : List ℕ) (es : List Element) → idRight id ≡ true → every sound es ≡ true → length es ≤ 32 → length (allNumbers es) ≤ 262144
+pub elements-short : (id : List ℕ) (es : List Element) → idRight mostIdBytes id ≡ true → every sound es ≡ true → length es ≤ 32 → length (allNumbers es) ≤ 262144
     → length (joined (listLines id es)) ≤ 16777216
 unfolding listText
 elements-short id es h s few n =
     let z : List ℕ = bytes "</ProcessList>\n" in
-    rw (← list-text id es) (omega (arith, head-short id (nodesText es z), id-short id h, nodes-short es z s))
+    rw (← list-text id es) (omega (arith, head-short id (nodesText es z), right-length mostIdBytes id h .1, nodes-short es z s))
 
 module _ (l : ProcessList) (m : Room) (v : isValid l m ≡ true) where
   -- what validity says of the list, and of its elements
@@ -271,7 +275,7 @@ module _ (l : ProcessList) (m : Room) (v : isValid l m ≡ true) where
   pub valid-sound : every sound (elementsOf l m) ≡ true
   valid-sound = valid-parts l m v .sounds
 
-  pub list-short : (id : List ℕ) → idRight id ≡ true → length (joined (listLines id (elementsOf l m))) ≤ 16777216
+  pub list-short : (id : List ℕ) → idRight mostIdBytes id ≡ true → length (joined (listLines id (elementsOf l m))) ≤ 16777216
   unfolding nodesOf
   list-short id h =
       let r = valid-list in

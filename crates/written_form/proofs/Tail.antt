@@ -15,7 +15,7 @@ use Rattle.process_list.specs.List.{Element, cubeEntries}
 use Rattle.xml.specs.Bytes.{bytes}
 use Rattle.written_form.specs.Written.{lineFeed, joined, opening, closing, attribute, row, valueLine, rowLines, dims, arrayLine, arrayLines, tableLines, cubeLines}
 use Rattle.written_form.specs.Written.{matrixRows, matrixColumns, one, three, rangeLines, oneEndLines, cdlLines, contentLines}
-use Rattle.written_form.specs.Written.{nameText, depthText, styleText, startLine, nodeLines, nodesLines, declaration, rootLine, listLines}
+use Rattle.written_form.specs.Written.{nameText, depthText, styleText, idAttribute, startLine, nodeLines, nodesLines, declaration, rootLine, listLines}
 
 -- ---- numbers
 
@@ -97,14 +97,18 @@ contentText (OneEnd end) ds t = oneEndText end ds t
 abbrev pub depthsText : Depth → Depth → List ℕ → List ℕ
 depthsText input output t = bytes " inBitDepth=\"" ++ (depthText input ++ (bytes "\" outBitDepth=\"" ++ (depthText output ++ (bytes "\"" ++ t))))
 
-unfoldable pub startText : Kind → Depth → Depth → List ℕ → List ℕ
-startText kind input output t = bytes "<" ++ (nameText kind ++ depthsText input output (styleText kind ++ (bytes ">\n" ++ t)))
+unfoldable pub nodeIdText : List ℕ → List ℕ → List ℕ
+nodeIdText [] t = t
+nodeIdText (b ∷ s) t = bytes " id=\"" ++ ((b ∷ s) ++ (bytes "\"" ++ t))
+
+unfoldable pub startText : Kind → Depth → Depth → List ℕ → List ℕ → List ℕ
+startText kind input output id t = bytes "<" ++ (nameText kind ++ depthsText input output (nodeIdText id (styleText kind ++ (bytes ">\n" ++ t))))
 
 unfoldable pub endText : Kind → List ℕ → List ℕ
 endText kind t = bytes "</" ++ (nameText kind ++ (bytes ">\n" ++ t))
 
 unfoldable pub nodeText : Element → List ℕ → List ℕ
-nodeText e t = startText (e .kind) (e .input) (e .output) (contentText (e .kind) (e .numbers) (endText (e .kind) t))
+nodeText e t = startText (e .kind) (e .input) (e .output) (e .id) (contentText (e .kind) (e .numbers) (endText (e .kind) t))
 
 unfoldable pub nodesText : List Element → List ℕ → List ℕ
 nodesText [] t = t
@@ -122,16 +126,16 @@ listText id es = headText id (nodesText es (bytes "</ProcessList>\n"))
 -- ---- the tail form is the text of the lines
 
 -- pieces one after the other, grouped from the left and from the right; where they are fewer, the first ones are empty
-pieces : (a b c d e f t : List ℕ) → a ++ b ++ c ++ d ++ e ++ f ++ t ≡ a ++ (b ++ (c ++ (d ++ (e ++ (f ++ t)))))
-pieces a b c d e f t = simp append-assoc
+pieces : (a b c d e f g t : List ℕ) → a ++ b ++ c ++ d ++ e ++ f ++ g ++ t ≡ a ++ (b ++ (c ++ (d ++ (e ++ (f ++ (g ++ t))))))
+pieces a b c d e f g t = simp append-assoc
 
 opening-text : (name t : List ℕ) → opening name ++ t ≡ bytes "<" ++ (name ++ (bytes ">" ++ t))
 unfolding opening
-opening-text name t = pieces [] [] [] (bytes "<") name (bytes ">") t
+opening-text name t = pieces [] [] [] [] (bytes "<") name (bytes ">") t
 
 closing-text : (name t : List ℕ) → closing name ++ t ≡ bytes "</" ++ (name ++ (bytes ">" ++ t))
 unfolding closing
-closing-text name t = pieces [] [] [] (bytes "</") name (bytes ">") t
+closing-text name t = pieces [] [] [] [] (bytes "</") name (bytes ">") t
 
 -- a line that is a plain tag
 opening-line : (name : List ℕ) (ls : List (List ℕ)) → joined (opening name ∷ ls) ≡ bytes "<" ++ (name ++ (bytes ">\n" ++ joined ls))
@@ -148,19 +152,19 @@ enclosed start content end ls = ap joined (append-assoc (start ∷ content) (end
 
 attribute-text : (name text t : List ℕ) → attribute name text ++ t ≡ bytes " " ++ (name ++ (bytes "=\"" ++ (text ++ (bytes "\"" ++ t))))
 unfolding attribute
-attribute-text name text t = pieces [] (bytes " ") name (bytes "=\"") text (bytes "\"") t
+attribute-text name text t = pieces [] [] (bytes " ") name (bytes "=\"") text (bytes "\"") t
 
 row-text : (ds : List Decimal) (t : List ℕ) → row ds ++ t ≡ rowText ds t
 unfolding rowText spacedText row
 row-text [] t = refl
 row-text (d ∷ []) t = refl
 row-text (d ∷ (e ∷ ds)) t =
-    pieces [] [] [] (writtenOf d) (bytes " ") (row (e ∷ ds)) t
+    pieces [] [] [] [] (writtenOf d) (bytes " ") (row (e ∷ ds)) t
     ∙ ap (λ (x : List ℕ). writtenOf d ++ (bytes " " ++ x)) (row-text (e ∷ ds) t)
 
 value-text : (name : List ℕ) (ds : List Decimal) (ls : List (List ℕ)) → joined (valueLine name ds ∷ ls) ≡ valueText name ds (joined ls)
 unfolding valueText valueLine joined
-value-text name ds ls = pieces [] [] [] (opening name) (row ds) (closing name) (lineFeed ∷ joined ls) ∙ (rw (opening-text, row-text, closing-text))
+value-text name ds ls = pieces [] [] [] [] (opening name) (row ds) (closing name) (lineFeed ∷ joined ls) ∙ (rw (opening-text, row-text, closing-text))
 
 rows-text : (n c : ℕ) (ds : List Decimal) (ls : List (List ℕ)) → joined (rowLines n c ds ++ ls) ≡ rowsText n c ds (joined ls)
 unfolding rowsText rowLines joined
@@ -173,13 +177,13 @@ unfolding dimsText dims
 dims-text [] t = refl
 dims-text (n ∷ []) t = refl
 dims-text (n ∷ (k ∷ ns)) t =
-    pieces [] [] [] (digits n) (bytes " ") (dims (k ∷ ns)) t
+    pieces [] [] [] [] (digits n) (bytes " ") (dims (k ∷ ns)) t
     ∙ ap (λ (x : List ℕ). digits n ++ (bytes " " ++ x)) (dims-text (k ∷ ns) t)
 
 array-line : (ns : List ℕ) (ls : List (List ℕ)) → joined (arrayLine ns ∷ ls) ≡ bytes "<Array dim=\"" ++ dimsText ns (bytes "\">\n" ++ joined ls)
 unfolding arrayLine joined
 array-line ns ls =
-    pieces [] [] [] (bytes "<Array") (attribute (bytes "dim") (dims ns)) (bytes ">") (lineFeed ∷ joined ls)
+    pieces [] [] [] [] (bytes "<Array") (attribute (bytes "dim") (dims ns)) (bytes ">") (lineFeed ∷ joined ls)
     ∙ (rw (attribute-text, dims-text))
 
 array-text : (ns : List ℕ) (n c : ℕ) (ds : List Decimal) (ls : List (List ℕ)) → joined (arrayLines ns n c ds ++ ls) ≡ arrayText ns n c ds (joined ls)
@@ -211,11 +215,16 @@ content-text (Cdl style) ds ls = cdl-text ds ls
 content-text (Lut3d points interpolation) ds ls = array-text (points ∷ points ∷ points ∷ 3 ∷ []) (cubeEntries points) 3 ds ls
 content-text (OneEnd end) ds ls = one-end-text end ds ls
 
-start-text : (k : Kind) (i o : Depth) (ls : List (List ℕ)) → joined (startLine k i o ∷ ls) ≡ startText k i o (joined ls)
+id-text : (id t : List ℕ) → idAttribute id ++ t ≡ nodeIdText id t
+unfolding idAttribute nodeIdText
+id-text [] t = refl
+id-text (b ∷ s) t = attribute-text (bytes "id") (b ∷ s) t
+
+start-text : (k : Kind) (i o : Depth) (id : List ℕ) (ls : List (List ℕ)) → joined (startLine k i o id ∷ ls) ≡ startText k i o id (joined ls)
 unfolding startText startLine joined
-start-text k i o ls =
-    pieces (bytes "<") (nameText k) (attribute (bytes "inBitDepth") (depthText i)) (attribute (bytes "outBitDepth") (depthText o)) (styleText k) (bytes ">") (lineFeed ∷ joined ls)
-    ∙ (rw (attribute-text, attribute-text))
+start-text k i o id ls =
+    pieces (bytes "<") (nameText k) (attribute (bytes "inBitDepth") (depthText i)) (attribute (bytes "outBitDepth") (depthText o)) (idAttribute id) (styleText k) (bytes ">") (lineFeed ∷ joined ls)
+    ∙ (rw (attribute-text, attribute-text, id-text))
 
 end-text : (k : Kind) (ls : List (List ℕ)) → joined (closing (nameText k) ∷ ls) ≡ endText k (joined ls)
 unfolding endText
@@ -224,7 +233,7 @@ end-text k ls = closing-line (nameText k) ls
 node-text : (e : Element) (ls : List (List ℕ)) → joined (nodeLines e ++ ls) ≡ nodeText e (joined ls)
 unfolding nodeText nodeLines
 node-text e ls =
-    enclosed (startLine (e .kind) (e .input) (e .output)) (contentLines (e .kind) (e .numbers)) (closing (nameText (e .kind))) ls
+    enclosed (startLine (e .kind) (e .input) (e .output) (e .id)) (contentLines (e .kind) (e .numbers)) (closing (nameText (e .kind))) ls
     ∙ (rw (start-text, content-text, end-text))
 
 nodes-text : (es : List Element) (ls : List (List ℕ)) → joined (nodesLines es ++ ls) ≡ nodesText es (joined ls)
@@ -235,7 +244,7 @@ nodes-text (e ∷ es) ls = rw (append-assoc, node-text, nodes-text es ls)
 root-line : (id : List ℕ) (ls : List (List ℕ)) → joined (rootLine id ∷ ls) ≡ bytes "<ProcessList id=\"" ++ (id ++ (bytes "\" compCLFversion=\"3.0\">\n" ++ joined ls))
 unfolding rootLine joined
 root-line id ls =
-    pieces [] [] (bytes "<ProcessList") (attribute (bytes "id") id) (attribute (bytes "compCLFversion") (bytes "3.0")) (bytes ">") (lineFeed ∷ joined ls)
+    pieces [] [] [] (bytes "<ProcessList") (attribute (bytes "id") id) (attribute (bytes "compCLFversion") (bytes "3.0")) (bytes ">") (lineFeed ∷ joined ls)
     ∙ (rw (attribute-text, attribute-text))
 
 declared : (ls : List (List ℕ)) → joined (declaration ∷ ls) ≡ declaration ++ (lineFeed ∷ joined ls)

@@ -1,11 +1,10 @@
 -- The written form (document 01): the lines of a list under an id, their text, and what writing answers. Definitions only.
--- Only the lines of a valid list are written (`writeOf`: 16 first). Each of its nodes has a shape that is carried, as many numbers as its kind, and each number is of our form (`sound` of `valid`):
+-- Only the lines of a valid list are written (`writeOf`: 16 first). Each of its nodes has a shape that is carried, as many numbers as its kind, each number of our form, and no id or a right one (`sound` of `valid`):
 -- so what is said below for every list of numbers, also of too few or of none, is written for just as many as the node's kind has.
-use mathlib.Core.Bool.{Bool, cond, _&&_, _||_}
+use mathlib.Core.Bool.{Bool, cond}
 use mathlib.Core.List.{List, [], _∷_, _++_}
 use Prim.Native.Nat.{ℕ, zero, suc}
-use Prim.Native.Char.{code}
-use lib.Dec.{eqb, leb, ltb}
+use lib.Dec.{ltb}
 use lib.ListN.{length, take, drop}
 use Rattle.decimal.specs.declared.Decimal.{Decimal}
 use Rattle.decimal_write.specs.Written.{digits, writtenOf}
@@ -24,8 +23,9 @@ use Rattle.process_list.specs.declared.Kind.the-variants.{Matrix, Lut1d, Range,
 use Rattle.process_list.specs.declared.ProcessList.{ProcessList}
 use Rattle.process_list.specs.List.{Element, cubeEntries}
 use Rattle.room.specs.Room.{Room}
-use Rattle.valid.specs.Valid.{every, isValid, elementsOf}
-use Rattle.xml.specs.Bytes.{bytes, isLetter, isDigit}
+use Rattle.valid.specs.Valid.{isValid, elementsOf}
+use Rattle.xml.specs.Bytes.{bytes}
+use Rattle.ids.specs.Ids.{idRight}
 use Rattle.refusals.specs.Refusals as Refusal
 
 -- ---- lines, and pieces of a line
@@ -174,7 +174,7 @@ abbrev pub interpolationText : Interpolation → List ℕ
 interpolationText Trilinear = bytes " interpolation=\"trilinear\""
 interpolationText Tetrahedral = bytes " interpolation=\"tetrahedral\""
 
--- what stands in a node's tag behind the depths. A Range with one end is carried with style Clamp alone
+-- what stands in a node's tag behind the depths and its id, last of all. A Range with one end is carried with style Clamp alone
 abbrev pub styleText : Kind → List ℕ
 styleText (Matrix wide) = []
 styleText (Lut1d entries columns) = []
@@ -183,18 +183,24 @@ styleText (Cdl style) = cdlStyleText style
 styleText (Lut3d points interpolation) = interpolationText interpolation
 styleText (OneEnd end) = rangeStyleText Clamp
 
--- 'attributes in the order in, out, style', and a LUT3D's method last
-unfoldable pub startLine : Kind → Depth → Depth → List ℕ
-startLine kind input output =
+-- W-203: a node's id 'is written after outBitDepth'; of a node without one nothing is written
+unfoldable pub idAttribute : List ℕ → List ℕ
+idAttribute [] = []
+idAttribute (b ∷ t) = attribute (bytes "id") (b ∷ t)
+
+-- 'attributes in the order in, out, style', the id behind the depths, and a LUT3D's method last
+unfoldable pub startLine : Kind → Depth → Depth → List ℕ → List ℕ
+startLine kind input output id =
     bytes "<" ++ nameText kind
     ++ attribute (bytes "inBitDepth") (depthText input)
     ++ attribute (bytes "outBitDepth") (depthText output)
+    ++ idAttribute id
     ++ styleText kind
     ++ bytes ">"
 
 -- 'one tag or value element a line, .. no indents': a node's start tag, what it holds, its end tag
 unfoldable pub nodeLines : Element → List (List ℕ)
-nodeLines e = startLine (e .kind) (e .input) (e .output) ∷ contentLines (e .kind) (e .numbers) ++ (closing (nameText (e .kind)) ∷ [])
+nodeLines e = startLine (e .kind) (e .input) (e .output) (e .id) ∷ contentLines (e .kind) (e .numbers) ++ (closing (nameText (e .kind)) ∷ [])
 
 -- the nodes, in list order
 unfoldable pub nodesLines : List Element → List (List ℕ)
@@ -218,15 +224,8 @@ listLines id es = declaration ∷ rootLine id ∷ nodesLines es ++ (closing (byt
 -- ---- what writing answers
 
 -- 18: 'id for writing not 1 to 64 of letters, digits, `-`, `_`, `.`'
-unfoldable pub isIdByte : ℕ → Bool
-isIdByte b = isLetter b || (isDigit b || (eqb b (code "_") || (eqb b (code "-") || eqb b (code "."))))
-
--- '1 to 64'
 abbrev pub mostIdBytes : ℕ
 mostIdBytes = 64
-
-unfoldable pub idRight : List ℕ → Bool
-idRight id = leb 1 (length id) && leb (length id) mostIdBytes && every isIdByte id
 
 -- a refusal with its number, or the text
 pub data Writing : Type 0 where
@@ -241,7 +240,7 @@ fitting out t = cond (ltb out (length t)) (refused Refusal.shortOutput) (written
 unfoldable pub writeOf : ProcessList → Room → List ℕ → ℕ → Writing
 writeOf l m id out =
     cond (isValid l m)
-    (cond (idRight id) (fitting out (joined (listLines id (elementsOf l m)))) (refused Refusal.wrongId))
+    (cond (idRight mostIdBytes id) (fitting out (joined (listLines id (elementsOf l m)))) (refused Refusal.wrongId))
     (refused Refusal.noReading)
 
 -- the refusal number, 0 for accepted; its place is 0 ('of 0, 4, 14 and 16 to 19, 0')

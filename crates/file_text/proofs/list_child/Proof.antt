@@ -7,10 +7,9 @@ use Rattle.file_text.proofs.list_child.Tie as tie
 returns : tie.Need-returns
 returns c =
     let if1 = c .before .before .if1 in
-    let text-element = c .before .text-element in
     let same = c .before .before .before .same in
     let part = c .before .before .before .before .before .part in
-    rw (← part .ensures, c .step-of .ensures) (child-description _ _ _ _ _ _ _ _ (sym (same .ensures) ∙ if1 .taken) (text-element .ensures))
+    rw (← part .ensures, c .once .ensures) (child-description _ _ _ _ _ _ _ (sym (same .ensures) ∙ if1 .taken) (c .before .text-element .ensures))
 
 returns-2 : tie.Need-returns-2
 returns-2 c =
@@ -20,7 +19,7 @@ returns-2 c =
     let if1 = c .before .before .before .before .before .if1 in
     let same = c .before .before .before .before .before .before .same in
     let part = c .before .before .before .before .before .before .before .before .part in
-    rw (← part .ensures, c .input-step .ensures) (child-input _ _ _ _ _ _ _ _ (sym (same .ensures) ∙ if1 .left) (sym (same2 .ensures) ∙ if2 .taken) (text-element2 .ensures))
+    rw (← part .ensures, c .once2 .ensures) (child-input _ _ _ _ _ _ _ (sym (same .ensures) ∙ if1 .left) (sym (same2 .ensures) ∙ if2 .taken) (text-element2 .ensures))
 
 returns-3 : tie.Need-returns-3
 returns-3 c =
@@ -32,8 +31,8 @@ returns-3 c =
     let if1 = c .before .before .before .before .before .before .before .before .if1 in
     let same = c .before .before .before .before .before .before .before .before .before .same in
     let part = c .before .before .before .before .before .before .before .before .before .before .before .part in
-    rw (← part .ensures, c .output-step .ensures)
-    (child-output _ _ _ _ _ _ _ _ (sym (same .ensures) ∙ if1 .left) (sym (same2 .ensures) ∙ if2 .left) (sym (same3 .ensures) ∙ if3 .taken) (text-element3 .ensures))
+    rw (← part .ensures, c .once3 .ensures)
+    (child-output _ _ _ _ _ _ _ (sym (same .ensures) ∙ if1 .left) (sym (same2 .ensures) ∙ if2 .left) (sym (same3 .ensures) ∙ if3 .taken) (text-element3 .ensures))
 
 returns-4 : tie.Need-returns-4
 returns-4 c =
@@ -47,8 +46,8 @@ returns-4 c =
     let if1 = c .before .before .before .before .before .before .before .before .before .before .before .if1 in
     let same = c .before .before .before .before .before .before .before .before .before .before .before .before .same in
     let part = c .before .before .before .before .before .before .before .before .before .before .before .before .before .before .part in
-    rw (← part .ensures, c .info-step .ensures)
-    (child-info _ _ _ _ _ _ _ _ (sym (same .ensures) ∙ if1 .left) (sym (same2 .ensures) ∙ if2 .left) (sym (same3 .ensures) ∙ if3 .left) (sym (same4 .ensures) ∙ if4 .taken) (info .ensures))
+    rw (← part .ensures, c .once4 .ensures)
+    (child-info _ _ _ _ _ _ _ (sym (same .ensures) ∙ if1 .left) (sym (same2 .ensures) ∙ if2 .left) (sym (same3 .ensures) ∙ if3 .left) (sym (same4 .ensures) ∙ if4 .taken) (info .ensures))
 
 same-length : tie.Need-same-length
 same-length c = (child-by-node (c .before .before .node-child .ensures)) .coefficients .size
@@ -69,7 +68,7 @@ returns-5 c =
     let if1 = c .before .before .before .before .before .before .before .before .before .before .before .before .before .before .before .if1 in
     let same = c .before .before .before .before .before .before .before .before .before .before .before .before .before .before .before .before .same in
     let part = c .before .before .before .before .before .before .before .before .before .before .before .before .before .before .before .before .before .before .part in
-    rw (← part .ensures) (child-node _ _ _ _ _ _ _ _ _ _ (sym (same .ensures) ∙ if1 .left) (sym (same2 .ensures) ∙ if2 .left) (sym (same3 .ensures) ∙ if3 .left) (sym (same4 .ensures) ∙ if4 .left)
+    rw (← part .ensures) (child-node _ _ _ _ _ _ _ _ _ (sym (same .ensures) ∙ if1 .left) (sym (same2 .ensures) ∙ if2 .left) (sym (same3 .ensures) ∙ if3 .left) (sym (same4 .ensures) ∙ if4 .left)
     (node-name .ensures) (node-child .ensures))
 
 pub list-child-spec : {M : Type 1} → statement M

@@ -18,10 +18,10 @@ returns : tie.Need-returns
 returns c = carried _ (ap nameOf (c .before .before .before .before .before .before .name .given .1)) (c .before .before .carried-child .ensures)
 
 returns-2 : tie.Need-returns-2
-returns-2 c = other 7 (ap (λ x. nodeFault (nameOf x)) (c .before .enum-told .given .1)) (λ z. omega arith) (ap (λ x. x .scan) (c .step-of .ensures)) refl
+returns-2 c = other 7 (ap (λ x. nodeFault (nameOf x)) (c .before .enum-told .given .1)) (λ z. omega arith) (ap (λ x. x .scan) (c .refused .ensures)) refl
 
 returns-3 : tie.Need-returns-3
-returns-3 c = other 5 (ap (λ x. nodeFault (nameOf x)) (c .before .enum-told2 .given .1)) (λ z. omega arith) (ap (λ x. x .scan) (c .step-of2 .ensures)) refl
+returns-3 c = other 5 (ap (λ x. nodeFault (nameOf x)) (c .before .enum-told2 .given .1)) (λ z. omega arith) (ap (λ x. x .scan) (c .refused2 .ensures)) refl
 
 pub node-child-spec : {M : Type 1} → statement M
 node-child-spec =

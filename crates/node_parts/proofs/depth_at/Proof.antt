@@ -3,21 +3,7 @@ use Rattle.node_parts.proofs.depth_at.Statement.{statement}
 use Rattle.node_parts.proofs.depth_at.Tie as tie
 
 returns : tie.Need-returns
-returns c =
-    let t = c .before .before .before in
-    rw (← t .before .before .text-of .ensures .text, ← t .before .part .ensures, ← t .depth-of .ensures, c .before .d .given .1)
-
-returns-2 : tie.Need-returns-2
-returns-2 c = rw (← c .before .before .before .before .text-of .ensures .text, ← c .before .before .before .part .ensures, ← c .before .before .depth-of .ensures, c .enum-told .given .1)
+returns c = rw (← c .before .text-of .ensures .text) (c .depth-in .ensures)
 
 pub depth-at-spec : {M : Type 1} → statement M
-depth-at-spec =
-    tie.close
-    (tie.spec
-    (λ c κs. search needs)
-    (λ c κs. search needs)
-    (λ c κs. search needs)
-    (λ c. search needs)
-    (λ c. search needs)
-    returns
-    returns-2)
+depth-at-spec = tie.close (tie.spec (λ c κs. search needs) (λ c κs. search needs) returns)

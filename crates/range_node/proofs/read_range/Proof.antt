@@ -40,7 +40,7 @@ returns-2 c =
 returns-3 : tie.Need-returns-3
 unfolding rulesOf
 returns-3 c =
-    let stored = c .before .before .before .before in
+    let stored = c .before .before .before .before .before in
     let next = stored .before .before .before .before .before .before .before in
     let read = next .before .before .before .before in
     let content = read .range-content in
@@ -55,8 +55,8 @@ returns-3 c =
     _ (allowed-is _ _ _ _ _ _ (style .before .style-is .ensures) (style .range-style .ensures) (out .before .before .depth-at .ensures) (out .depth-at2 .ensures)
     (tested .one-end-allowed .ensures))
     (content .ensures) _ (next .scan .given .1) (stored .store-found .ensures)
-    (made-is _ _ _ _ _ _ _ _ _ _ _ _ refl refl (style .before .style-is .ensures) (style .range-style .ensures) (out .before .before .depth-at .ensures) (out .depth-at2 .ensures)
-    (c .before .found-kind .ensures) (c .unplaced .ensures))
+    (made-is _ _ _ _ _ _ _ _ _ _ _ _ _ refl refl (style .before .style-is .ensures) (style .range-style .ensures) (out .before .before .depth-at .ensures) (out .depth-at2 .ensures)
+    (c .before .before .id-at .ensures) (c .before .found-kind .ensures) (c .unplaced .ensures))
 
 pub read-range-spec : {M : Type 1} → statement M
 read-range-spec =
@@ -87,6 +87,7 @@ read-range-spec =
     returns-2
     (λ c. search needs)
     (λ c. search needs)
+    (λ c κs. search needs)
     (λ c κs. search needs)
     (λ c κs. search needs)
     (λ c κs. search needs)

@@ -10,20 +10,20 @@ use lib.Ieee.{Float}
 use denote.Ref.{now}
 use Rattle.process_list.specs.declared.Node.{Node}
 use Rattle.process_list.specs.declared.ProcessList.{ProcessList}
-use Rattle.process_list.specs.List.{nodesOf, blankNode, unplaced}
+use Rattle.process_list.specs.List.{nodesOf}
 use Rattle.room.specs.Room.{Room, lent}
 use Rattle.running.specs.Running.{runNode, runNodes}
 use borrow.Author.Needs.{needs}
 use Rattle.running.proofs.run_all.Statement.{statement}
 use Rattle.running.proofs.run_all.Tie as tie
 
--- one node more
-runs-on : (m : Room) (list : ProcessList) (k : ℕ) (xs : List Float) {ys : List Float} → k < length (nodesOf list) → ys ≡ runNode m (getD (list .nodes) k blankNode) xs
+-- one node more; d is what a read behind the end would answer
+runs-on : (m : Room) (list : ProcessList) (k : ℕ) (d : Node) (xs : List Float) {ys : List Float} → k < length (nodesOf list) → ys ≡ runNode m (getD (list .nodes) k d) xs
     → runNodes m (drop (k + 1) (nodesOf list)) ys ≡ runNodes m (drop k (nodesOf list)) xs
 unfolding runNodes nodesOf
-runs-on m list k xs h e =
+runs-on m list k d xs h e =
     let l : k < list .count = omega (arith, length-take (list .count) (list .nodes), h) in
-    rw (add-one, drop-cons (take (list .count) (list .nodes)) k blankNode h, getD-take (list .count) (list .nodes) k blankNode l, e) refl
+    rw (add-one, drop-cons (take (list .count) (list .nodes)) k d h, getD-take (list .count) (list .nodes) k d l, e) refl
 
 -- no node left
 ended : (m : Room) (ns : List Node) (k : ℕ) {xs : List Float} → length ns ≤ k → xs ≡ runNodes m (drop k ns) xs
@@ -43,7 +43,6 @@ loop-holds : tie.Need-loop-holds Inv-loop μ-loop
 loop-holds c = (omega arith, refl, refl)
 
 loop-again : tie.Need-loop-again Inv-loop μ-loop
-unfolding blankNode unplaced
 loop-again c =
     let r = c .before .before in
     let t = r .before .before .before .before in
@@ -51,7 +50,7 @@ loop-again c =
     let a = h .before .before .args in (
       omega arith,
       r .run-one .kept .1 .1 .1 .0 ∙ t .loop .inv .1,
-      runs-on (lent (now (a .coefficients)) (now (a .powers))) (a .t1) (t .loop .k) (t .loop .pixels) (omega (arith, h .held .ensures .nodes)) (r .run-one .ensures) ∙ t .loop .inv .2,
+      runs-on (lent (now (a .coefficients)) (now (a .powers))) (a .t1) (t .loop .k) _ (t .loop .pixels) (omega (arith, h .held .ensures .nodes)) (r .run-one .ensures) ∙ t .loop .inv .2,
     )
 
 same-length : tie.Need-same-length Inv-loop μ-loop

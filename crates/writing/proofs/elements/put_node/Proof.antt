@@ -7,7 +7,7 @@ use Rattle.writing.proofs.elements.put_node.Statement.{statement}
 use Rattle.writing.proofs.elements.put_node.Tie as tie
 
 put-content-requires : tie.Need-put-content-requires
-put-content-requires c κs = c .before .before .before .before .before .before .pre
+put-content-requires c κs = c .before .before .before .before .before .before .before .before .pre
 
 returns : tie.Need-returns
 unfolding nodeText elementOf
@@ -18,4 +18,4 @@ returns c =
 pub put-node-spec : {M : Type 1} → statement M
 put-node-spec =
     tie.close
-    (tie.spec (λ c κs. search needs) put-content-requires (λ c κs. search needs) (λ c. search needs) returns)
+    (tie.spec (λ c. search needs) (λ c κs. search needs) put-content-requires (λ c κs. search needs) (λ c. search needs) returns)
