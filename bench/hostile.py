@@ -6,6 +6,8 @@ import sys
 LIST = b'<?xml version="1.0" encoding="UTF-8"?><ProcessList id="a" compCLFversion="3.0">'
 END = b'</ProcessList>'
 NODE = b'<ASC_CDL inBitDepth="32f" outBitDepth="32f"/>'
+NAMED = b'<ASC_CDL inBitDepth="32f" outBitDepth="32f" id="cam4"/>'
+LONG_NAME = b'<ASC_CDL inBitDepth="32f" outBitDepth="32f" id="abcdefghijklmnopqrstuvwxyz.12345"/>'
 INFO = LIST + b'<Info>'
 INFO_END = b'</Info>' + NODE + END
 EQUAL_PREFIX = b'<a' + b''.join(b' ' + b'p' * 30 + b'%02d="1"' % i for i in range(16)) + b'/>'
@@ -25,6 +27,8 @@ FILES = {
     'one_attribute_text': (INFO + b'<a b="', b'x', b'"/>' + INFO_END),
     'one_description': (LIST + b'<Description>', b'x', b'</Description>' + NODE + END),
     'many_nodes': (LIST, NODE, END),
+    'many_named_nodes': (LIST, NAMED, END),
+    'many_long_names': (LIST, LONG_NAME, END),
 }
 
 os.makedirs(sys.argv[1], exist_ok=True)
