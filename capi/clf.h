@@ -9,7 +9,7 @@
 extern "C" {
 #endif
 
-/* The refusal number, 0 for accepted, and its place in the file (for the refusals 10 and 11 the number of a node, from 1). */
+/* The refusal number, 0 for accepted, and its place in the file (for the refusals 10, 11 and 23 the number of a node, from 1). */
 struct clf_check {
     uint64_t number;
     uint64_t place;
