@@ -29,6 +29,7 @@ node attributes = bytes "<ASC_CDL" ++ bytes attributes ++ bytes "/>"
 abbrev pub at32f : String → List ℕ
 at32f attribute = bytes "<ASC_CDL inBitDepth=\"32f\" outBitDepth=\"32f\"" ++ bytes attribute ++ bytes "/>"
 
+-- a file of these nodes; its ProcessList has the id `cam4`
 abbrev pub fileOf : List ℕ → List ℕ
 fileOf content = bytes "<?xml version=\"1.0\" encoding=\"UTF-8\"?><ProcessList id=\"cam4\" compCLFversion=\"3.0\">" ++ content ++ bytes "</ProcessList>"
 
@@ -43,6 +44,7 @@ pub record Answer : Type 0 where
   pub place : ℕ
   pub ids : List (List ℕ)
 
+-- what reading answers: number, place and the ids, by 01's `read`
 abbrev pub outcome : Question → Answer
 outcome q = record {
   number = readingNumber (read (q .room) (q .file));
@@ -50,12 +52,15 @@ outcome q = record {
   ids = map (λ (e : Element). e .id) (nodesIn (read (q .room) (q .file)));
 }
 
+-- a file of these nodes, read into room for 40 numbers: four ASC_CDL
 abbrev pub in40 : List ℕ → Question
 in40 content = record { room = 40; file = fileOf content }
 
+-- accepted is number 0 at place 0, with these ids
 abbrev pub accepted : List (List ℕ) → Answer
 accepted ids = record { number = 0; place = 0; ids = ids }
 
+-- refused with this number at this place: no list, so no ids
 abbrev pub refused : ℕ → ℕ → Answer
 refused number place = record { number = number; place = place; ids = [] }
 
@@ -169,6 +174,7 @@ orderedAnswers =
     ∷ refused 24 234
     ∷ []
 
+-- all of these files
 unfoldable pub files : List Question
 files = named ++ wrong ++ passed ++ seen ++ ordered
 
@@ -194,15 +200,19 @@ textsAnswers = (99 ∷ 97 ∷ 109 ∷ 52 ∷ replicate 28 0) ∷ replicate 32 0 
 
 -- ---- lists: two ASC_CDL that change nothing, whose ids stand so in their 32 places, and what stands behind the last node
 
+-- an ASC_CDL, Fwd, from 32f to 32f, with these 32 places of its id
 abbrev pub cdlNode : List ℕ → Node
 cdlNode places = unplaced (Cdl Fwd) F32 F32 places
 
+-- Slope 1 1 1, Offset 0 0 0, Power 1 1 1, Saturation 1
 abbrev pub tenCoefficients : List ℤ
 tenCoefficients = pos 1 ∷ pos 1 ∷ pos 1 ∷ pos 0 ∷ pos 0 ∷ pos 0 ∷ pos 1 ∷ pos 1 ∷ pos 1 ∷ pos 1 ∷ []
 
+-- the room of two such nodes, with no number behind them
 abbrev pub twenty : Room
 twenty = lent (tenCoefficients ++ tenCoefficients) (replicate 20 (pos 0))
 
+-- two nodes with these ids, and what stands in the place behind them
 abbrev pub listWith : List ℕ → List ℕ → Node → ProcessList
 listWith a b behind = record { count = 2; nodes = placeFrom 0 (cdlNode a ∷ cdlNode b ∷ []) ++ (behind ∷ replicate 29 blankNode) }
 
@@ -210,6 +220,7 @@ listWith a b behind = record { count = 2; nodes = placeFrom 0 (cdlNode a ∷ cdl
 abbrev pub blankNamed : List ℕ → Node
 blankNamed places = record { kind = blankNode .kind; input = blankNode .input; output = blankNode .output; id = places; at = 0; newest = 0 }
 
+-- 16 of document 01: whether this list and that room are the reading of some file
 abbrev pub isReading : ProcessList → Bool
 isReading l = isValid l twenty
 
