@@ -1,21 +1,24 @@
--- Which numbers the faults of a text have: nodes. Assumes nothing.
-use mathlib.Core.Path.{refl}
+-- Which numbers the faults of a text have, and what stands at a 9 or a 25: nodes. Assumes nothing.
+use mathlib.Core.Path.{_≡_, refl, sym, ap, _∙_, subst}
 use mathlib.Core.Bool.{Bool, true, false, cond, _&&_, _||_}
 use mathlib.Core.List.{List, [], _∷_, _++_}
 use mathlib.Core.Option.{Option, none, some}
-use Prim.Native.Nat.{ℕ}
+use Prim.Native.Nat.{ℕ, suc, _≤_}
+use native.Mathlib.Omega.{arith}
 use lib.Dec.{eqb, leb, ltb}
 use lib.ListN.{length, set}
 use Rattle.decimal.specs.declared.Decimal.{Decimal}
 use Rattle.decimal.specs.declared.Token.{Token}
-use Rattle.decimal.specs.declared.Token.the-variants.{Number, Malformed}
+use Rattle.decimal.specs.declared.Token.the-variants.{Number, Malformed, OutOfBounds}
 use Rattle.decimal_read.specs.Number.{tokenOf}
+use Rattle.decimal_read.proofs.Told.{tells-apart}
 use Rattle.decimal_value.specs.Value.{notNegative, positive, isOne}
 use Rattle.process_list.specs.declared.RangeEnd.{RangeEnd}
 use Rattle.process_list.specs.declared.RangeEnd.the-variants.{Minimum, Maximum}
 use Rattle.process_list.specs.declared.Kind.{Kind}
 use Rattle.process_list.specs.List.{numbersOf}
-use Rattle.grammar.specs.Parse.{again, last}
+use Rattle.grammar.specs.Parse.{done, again, last}
+use Rattle.grammar.specs.Grammar.{judge}
 use Rattle.xml.specs.Bytes.{bytes, same, isSpace, lessThan}
 use Rattle.xml.specs.Xml.{Attribute, isNamed, textOf}
 use Rattle.xml.specs.Elements.{held}
@@ -26,42 +29,68 @@ use Rattle.clf.specs.Nodes.{matrix, lutNames, lutTexts, lut1d, cubeTexts, lut3d
 use Rattle.clf.specs.Nodes.{rangeHolder, rangeTexts, oneEndAllowedBy, rangeNode, range, notEmptyRules}
 use Rattle.clf.specs.Nodes.{sopName, sopRule, sopHolder, sopNode, satHolder, satNode, CdlState, noCdl, cdlFault, cdlBody, cdlHolder, cdlTexts, cdlNode, cdlRules, ascCdl, NodeName}
 use Rattle.clf.specs.Nodes.{isMatrix, isLut1d, isRange, isCdl, isLut3d, notCarried, noNode, nodeFault, nodeBody}
-use Rattle.claims.proofs.Faults.{fair-zero, fair-by, fair-cond, blames-ret, blames-bad, blames-cond, blames-look, blames-judge, blames-eat, blames-seq, blames-loop}
-use Rattle.claims.proofs.Blamed.{Well, Right, five, RightRules, text-well, startTag-well, held-well, onlyEnd-well, textElement-well}
+use Rattle.claims.proofs.Faults.{BlamesOn, fair-zero, fair-cond, blames-ret, blames-bad, blames-cond, blames-look, look-on, cond-on, seq-on, judge-on, blames-on, Begins, blames-judge, blames-eat, blames-seq, blames-loop}
+use Rattle.claims.proofs.Tokens.{token-some}
+use Rattle.claims.proofs.Blamed.{Textual, Well, Right, other, right, five, RightRules, text-well, startTag-well, held-well, onlyEnd-well, textElement-well}
 
 seven : Right 7
-seven = fair-by 7 refl
+seven = right 7 refl
 
 pub eight : Right 8
-eight = fair-by 8 refl
-
-nine : Right 9
-nine = fair-by 9 refl
+eight = right 8 refl
 
 twentyOne : Right 21
-twentyOne = fair-by 21 refl
+twentyOne = right 21 refl
 
 twentyTwo : Right 22
-twentyTwo = fair-by 22 refl
+twentyTwo = right 22 refl
 
 twentyFour : Right 24
-twentyFour = fair-by 24 refl
+twentyFour = right 24 refl
 
 -- ---- numbers
 
-token-right : (n : ℕ) (rule : Decimal → ℕ) → ((d : Decimal) → Right (rule d)) → (count : ℕ) (t : Token) → Right (faultOf n rule count t)
-token-right n rule h count (Number d) = fair-cond (leb n count) twentyTwo (h d)
-token-right n rule h count Malformed = nine
+module _ (n : ℕ) (rule : Decimal → ℕ) (h : (d : Decimal) → Right (rule d)) (count : ℕ) (r : List ℕ) where
+  -- a token w that stands where r begins, by what the number reader says of it
+  token-textual : (w u : List ℕ) → token .run r ≡ done (tt, w) u → 1 ≤ length w → (t : Token) → tokenOf w ≡ t → (k : ℕ) → faultOf n rule count t ≡ suc k → Textual (suc k) r
+  token-textual w u q i (Number d) e k z = fair-cond (leb n count) twentyTwo (h d) .is k z r
+  token-textual w u q i Malformed e k z = subst (λ (m : ℕ). Textual m r) z (record {
+    known = refl;
+    told = record { malformed = λ y. record { bytes = w; rest = u; stands = q; some = i; holds = (tells-apart w .malformed) .0 e }; outOfBounds = λ y. absurd (omega arith) };
+  })
+  token-textual w u q i OutOfBounds e k z = by (leb n count) z
+    where
+      long : Textual 25 r
+      long = record {
+        known = refl;
+        told = record { malformed = λ y. absurd (omega arith); outOfBounds = λ y. record { bytes = w; rest = u; stands = q; some = i; holds = (tells-apart w .outOfBounds) .0 e } };
+      }
+
+      by : (v : Bool) → cond v 22 25 ≡ suc k → Textual (suc k) r
+      by true y = twentyTwo .is k y r
+      by false y = subst (λ (m : ℕ). Textual m r) y long
+
+-- a byte that is neither white space nor `<` ends no token
+ends-none : (b : ℕ) → isSpace b ≡ false → eqb b lessThan ≡ false → endsToken b ≡ false
+ends-none b h k = rw (h, k)
 
 module _ (w : List ℕ) (n : ℕ) (rule : Decimal → ℕ) (h : (d : Decimal) → Right (rule d)) where
+  -- the token at a byte that ends none
+  token-well : (l : List Decimal) (b : ℕ) → endsToken b ≡ false → BlamesOn (Begins b) Textual (judge (λ t. faultOf n rule (length l) (tokenOf (t .1))) token)
+  unfolding token
+  token-well l b e =
+      judge-on (λ t. faultOf n rule (length l) (tokenOf (t .1)))
+      (λ s i t u q k z. token-textual n rule h (length l) s (t .1) u q (token-some b (i .0) e (t .1) u (sym (ap (λ (x : List ℕ). token .run x) (i .1)) ∙ q)) (tokenOf (t .1)) refl k z)
+      (text-well endsToken)
+
   numbers-well : Well (numbers w n rule)
-  unfolding numbers token
+  unfolding numbers
   numbers-well =
-      blames-loop (λ l. blames-look (λ b.
-      blames-cond (isSpace b) (blames-seq blames-eat (λ a. blames-ret (again l)))
-      (blames-cond (eqb b lessThan) (blames-seq (onlyEnd-well w (cond (ltb (length l) n) 22 0) (fair-cond (ltb (length l) n) twentyTwo fair-zero)) (λ a. blames-ret (last l)))
-      (blames-seq (blames-judge (λ t. faultOf n rule (length l) (tokenOf (t .1))) (λ t. token-right n rule h (length l) (tokenOf (t .1))) (text-well endsToken))
-      (λ t. blames-ret (again (l ++ saidBy (tokenOf (t .1)) ∷ []))))))) []
+      blames-loop (λ l. look-on (λ b.
+      cond-on (isSpace b) (λ z. blames-on (blames-seq blames-eat (λ a. blames-ret (again l))))
+      (λ z. cond-on (eqb b lessThan)
+      (λ y. blames-on (blames-seq (onlyEnd-well w (cond (ltb (length l) n) 22 0) (fair-cond (ltb (length l) n) twentyTwo fair-zero)) (λ a. blames-ret (last l))))
+      (λ y. seq-on (token-well l b (ends-none b z y)) (λ t. blames-ret (again (l ++ saidBy (tokenOf (t .1)) ∷ []))))))) []
 
   value-well : Well (valueElement w n rule)
   unfolding valueElement
@@ -93,7 +122,7 @@ node-rules names texts a b = record { names = a; texts = node-texts texts b; ope
 
 module _ (shape : List ℕ → Option Kind) where
   arrayOf-well : (o : Option Kind) → Well (arrayOf o)
-  arrayOf-well none = blames-bad 8 refl
+  arrayOf-well none = blames-bad 8 (other 8 refl)
   arrayOf-well (some k) = blames-seq (numbers-well (bytes "Array") (numbersOf k) anyNumber any-right) (λ l. blames-ret (k, l))
 
   array-rules : RightRules (arrayRules shape)
@@ -229,5 +258,5 @@ node-well isLut1d = lut1d-well
 node-well isRange = range-well
 node-well isCdl = cdl-well
 node-well isLut3d = lut3d-well
-node-well notCarried = blames-bad 7 refl
-node-well noNode = blames-bad 5 refl
+node-well notCarried = blames-bad 7 (other 7 refl)
+node-well noNode = blames-bad 5 (other 5 refl)

@@ -1,6 +1,7 @@
 pub mod Tail
 pub mod Faults
 pub mod Blamed
+pub mod Tokens
 pub mod BlamedNodes
 pub mod Always
 pub mod Numbers
@@ -17,6 +18,7 @@ pub mod Element
 pub mod Starts
 pub mod View
 pub mod Refusals
+pub mod Told
 pub mod Cut
 pub mod Found
 pub mod Closing

@@ -9,7 +9,7 @@ use lib.ListN.{length, length-append}
 use borrow.Author.Tests.{leb-false, ltb-false}
 use Rattle.decimal.specs.declared.Decimal.{Decimal}
 use Rattle.decimal.specs.declared.Token.{Token}
-use Rattle.decimal.specs.declared.Token.the-variants.{Number, Malformed}
+use Rattle.decimal.specs.declared.Token.the-variants.{Number, Malformed, OutOfBounds}
 use Rattle.decimal.specs.Decimal.{inRange}
 use Rattle.decimal_read.specs.Number.{tokenOf}
 use Rattle.decimal_write.specs.Written.{isNormal}
@@ -66,6 +66,11 @@ pub record Kept (rule : Decimal → ℕ) (d : Decimal) : Type 0 where
 -- a token that is not at fault, after `count` numbers of n
 token-kept : (n : ℕ) (rule : Decimal → ℕ) (count : ℕ) (l : List ℕ) (t : Token) → tokenOf l ≡ t → faultOf n rule count t ≡ 0 → (count < n) × Kept rule (saidBy t)
 token-kept n rule count l Malformed e q = absurd (omega arith)
+token-kept n rule count l OutOfBounds e q = absurd (go (leb n count) q)
+  where
+    go : (v : Bool) → _≡_ {A = ℕ} (cond v 22 25) 0 → ⊥
+    go true z = omega arith
+    go false z = omega arith
 token-kept n rule count l (Number d) e q = go (leb n count) refl q
   where
     go : (v : Bool) → leb n count ≡ v → cond v 22 (rule d) ≡ 0 → (count < n) × Kept rule d

@@ -23,8 +23,8 @@ use Rattle.clf.specs.List.{rootFault, toRoot, prologue, head, Document, listCon
 use Rattle.clf.specs.Reading.{Reading, accepted, faulty, mostBytes, readingNumber, nodesAmong, placeIn, readingBy, listReading, tailReading, textReading, readText, read}
 use Rattle.claims.specs.Refusals.{isTextFault, isListFault, Answered, whole, short, text, list}
 use Rattle.look.specs.Replacing.{start, element}
-use Rattle.claims.proofs.Faults.{fair-zero, fair-by, fair-cond, blames-ret, blames-bad, blames-cond, blames-strict, blames-blame, blames-kept, blames-word, blames-seq, blames-loop}
-use Rattle.claims.proofs.Blamed.{Textual, Well, Right, three, five, RightRules, startTag-well, endTag-well, strayEnd-well, between-well, textElement-well, info-well}
+use Rattle.claims.proofs.Faults.{fair-anywhere, fair-zero, fair-cond, blames-ret, blames-bad, blames-cond, blames-strict, blames-blame, blames-kept, blames-word, blames-seq, blames-loop}
+use Rattle.claims.proofs.Blamed.{Textual, Well, Right, other, right, three, five, RightRules, startTag-well, endTag-well, strayEnd-well, between-well, textElement-well, info-well}
 use Rattle.claims.proofs.BlamedNodes.{eight, name-right, node-well}
 use Rattle.claims.proofs.Element.{start-faults}
 use Rattle.claims.specs.Theorems.{AnswersNumbered}
@@ -56,7 +56,7 @@ list-rules = record {
   names = λ w. fair-zero;
   texts = λ w t.
       fair-cond (same w (bytes "id")) (fair-cond (eqb (length t) 0) eight fair-zero)
-      (fair-cond (same w (bytes "compCLFversion")) (fair-cond (same t (bytes "3.0")) fair-zero (fair-by 6 refl)) fair-zero);
+      (fair-cond (same w (bytes "compCLFversion")) (fair-cond (same t (bytes "3.0")) fair-zero (right 6 refl)) fair-zero);
   opened = λ l. fair-cond (isNamed (bytes "id") l && isNamed (bytes "compCLFversion") l) fair-zero eight;
   emptied = λ l. fair-cond (isNamed (bytes "id") l && isNamed (bytes "compCLFversion") l) fair-zero eight;
 }
@@ -68,7 +68,7 @@ prologue-well =
 
 head-well : Well head
 unfolding head
-head-well = blames-seq (blames-seq (blames-blame (blames-word declaration 3 three)) (λ u. prologue-well)) (λ u. startTag-well listRules list-rules)
+head-well = blames-seq (blames-seq (blames-blame (blames-word declaration 3 (fair-anywhere three))) (λ u. prologue-well)) (λ u. startTag-well listRules list-rules)
 
 content-well : (tag : Tag) → Well (listContent tag)
 content-well tag =
@@ -82,30 +82,30 @@ document-well = blames-seq (blames-kept head-well) (λ h. blames-seq (content-we
 -- ---- behind it
 
 part-well : Well (between strayEnd (λ w. 5) (λ w. bad {A = Unit {0}} 5))
-part-well = between-well (λ w. 5) strayEnd-well (λ w. five) (λ w. blames-bad 5 refl)
+part-well = between-well (λ w. 5) strayEnd-well (λ w. five) (λ w. blames-bad 5 (other 5 refl))
 
 abbrev tails : Unit {0} → List ℕ → Out (Unit {0})
 tails = loopP (λ (st : Unit {0}). tailPart)
 
-tail-turn : (n : ℕ) → ((s : List ℕ) (k : ℕ) (r : List ℕ) → length s < n → tails tt s ≡ fault k r → Textual k)
+tail-turn : (n : ℕ) → ((s : List ℕ) (k : ℕ) (r : List ℕ) → length s < n → tails tt s ≡ fault k r → Textual k r)
     → (b : ℕ) (s : List ℕ) (k : ℕ) (r : List ℕ) → length s < n
-    → (o : Out (Part (Unit {0}))) → (between strayEnd (λ w. 5) (λ w. bad {A = Unit {0}} 5)) .run (b ∷ s) ≡ o → turnOut tails (onward o) (b ∷ s) ≡ fault k r → Textual k
+    → (o : Out (Part (Unit {0}))) → (between strayEnd (λ w. 5) (λ w. bad {A = Unit {0}} 5)) .run (b ∷ s) ≡ o → turnOut tails (onward o) (b ∷ s) ≡ fault k r → Textual k r
 tail-turn n ih b s k r h (done p u) q z = by (ltb (length u) (length (b ∷ s))) refl z
   where
-    by : (t : Bool) → ltb (length u) (length (b ∷ s)) ≡ t → cond t (tails tt u) cut ≡ fault k r → Textual k
+    by : (t : Bool) → ltb (length u) (length (b ∷ s)) ≡ t → cond t (tails tt u) cut ≡ fault k r → Textual k r
     by true g y = let l : length u < length (b ∷ s) = ltb-true (length u) (length (b ∷ s)) g in ih u k r (omega arith) y
     by false g y = nope cc
-tail-turn n ih b s k r h (fault j u) q z = let y : j ≡ k = cc in subst Textual y (part-well .number (b ∷ s) j u q)
+tail-turn n ih b s k r h (fault j u) q z = let y : j ≡ k = cc in let x : u ≡ r = cc in subst (λ (l : List ℕ). Textual k l) x (subst (λ (m : ℕ). Textual m u) y (part-well .number (b ∷ s) j u q))
 tail-turn n ih b s k r h cut q z = nope cc
 
-tail-all : (n : ℕ) (s : List ℕ) (k : ℕ) (r : List ℕ) → length s < n → tails tt s ≡ fault k r → Textual k
+tail-all : (n : ℕ) (s : List ℕ) (k : ℕ) (r : List ℕ) → length s < n → tails tt s ≡ fault k r → Textual k r
 tail-all zero s k r h e = absurd (omega arith)
 tail-all (suc n) [] k r h e = let z = sym (loop-step (λ (st : Unit {0}). tailPart) tt []) ∙ e in nope cc
 tail-all (suc n) (b ∷ s) k r h e =
     tail-turn n (tail-all n) b s k r (omega arith) ((between strayEnd (λ w. 5) (λ w. bad {A = Unit {0}} 5)) .run (b ∷ s)) refl
     (sym (loop-step (λ (st : Unit {0}). tailPart) tt (b ∷ s)) ∙ e)
 
-tail-well : (s : List ℕ) (k : ℕ) (r : List ℕ) → tail s ≡ fault k r → Textual k
+pub tail-well : (s : List ℕ) (k : ℕ) (r : List ℕ) → tail s ≡ fault k r → Textual k r
 unfolding tail
 tail-well s k r e = tail-all (suc (length s)) s k r (omega arith) e
 
@@ -125,12 +125,12 @@ by-list n room l = by-verdict n l (verdict room l)
 
 by-tail : (room : ℕ) (s : List ℕ) (d : Document) (u : List ℕ) (o : Out (Unit {0})) → tail u ≡ o → Answered (length s) (tailReading room s d o)
 by-tail room s d u (done a r) q = by-list (length s) room (nodesAmong (d .parts))
-by-tail room s d u (fault k r) q = text k (placeIn s r) (tail-well u k r q) (omega arith)
+by-tail room s d u (fault k r) q = text k (placeIn s r) (tail-well u k r q .known) (omega arith)
 by-tail room s d u cut q = short
 
 by-document : (room : ℕ) (s : List ℕ) (o : Out Document) → document .run s ≡ o → Answered (length s) (textReading room s o)
 by-document room s (done d r) q = by-tail room s d r (tail r) refl
-by-document room s (fault k r) q = text k (placeIn s r) (document-well .number s k r q) (omega arith)
+by-document room s (fault k r) q = text k (placeIn s r) (document-well .number s k r q .known) (omega arith)
 by-document room s cut q = short
 
 -- THE NUMBERS OF A READING: 1 is given at the length and nowhere else, and no other number than those of documents 01 and 02 is given
@@ -138,19 +138,26 @@ pub answered : AnswersNumbered
 unfolding readText
 answered room s = by-document room s (document .run s) refl
 
--- the numbers of an element alone: those of a text, and 20 at its first byte
-pub element-faults : (e : List ℕ) (k : ℕ) (r : List ℕ) → element .run e ≡ fault k r → (isTextFault k ≡ true) ⊎ (k ≡ 20)
+-- the faults of an element alone: those of a text, and 20 at its first byte
+pub element-well : (e : List ℕ) (k : ℕ) (r : List ℕ) → element .run e ≡ fault k r → Textual k r ⊎ (k ≡ 20)
 unfolding element
-element-faults e k r q = go (start .run e) refl q
+element-well e k r q = go (start .run e) refl q
   where
-    by : (n : NodeName) (u : List ℕ) (j : ℕ) → nodeFault n ≡ j → thenOut (judgement j n u e) (λ m. (nodeBody m) .run) ≡ fault k r → (isTextFault k ≡ true) ⊎ (k ≡ 20)
+    by : (n : NodeName) (u : List ℕ) (j : ℕ) → nodeFault n ≡ j → thenOut (judgement j n u e) (λ m. (nodeBody m) .run) ≡ fault k r → Textual k r ⊎ (k ≡ 20)
     by n u zero f z = inl (node-well n .number u k r z)
-    by n u (suc j) f z = let y : suc j ≡ k = cc in inl (subst Textual y (name-right n .is j f))
+    by n u (suc j) f z = let y : suc j ≡ k = cc in let x : e ≡ r = cc in inl (subst (λ (l : List ℕ). Textual k l) x (subst (λ (m : ℕ). Textual m e) y (name-right n .is j f e)))
 
-    go : (o : Out NodeName) → start .run e ≡ o → thenOut (judgeOut nodeFault o e) (λ m. (nodeBody m) .run) ≡ fault k r → (isTextFault k ≡ true) ⊎ (k ≡ 20)
+    go : (o : Out NodeName) → start .run e ≡ o → thenOut (judgeOut nodeFault o e) (λ m. (nodeBody m) .run) ≡ fault k r → Textual k r ⊎ (k ≡ 20)
     go (done n u) f z = by n u (nodeFault n) refl z
     go (fault j u) f z = inr (let y : j ≡ k = cc in sym y ∙ start-faults e j u f)
     go cut f z = nope cc
+
+pub element-faults : (e : List ℕ) (k : ℕ) (r : List ℕ) → element .run e ≡ fault k r → (isTextFault k ≡ true) ⊎ (k ≡ 20)
+element-faults e k r q = go (element-well e k r q)
+  where
+    go : Textual k r ⊎ (k ≡ 20) → (isTextFault k ≡ true) ⊎ (k ≡ 20)
+    go (inl t) = inl (t .known)
+    go (inr z) = inr z
 
 -- ---- the number is 0 for an accepted file alone
 

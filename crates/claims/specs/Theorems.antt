@@ -3,15 +3,15 @@ use mathlib.Core.Path.{_≡_}
 use mathlib.Core.Bool.{true}
 use mathlib.Core.List.{List}
 use Prim.Native.Nat.{ℕ}
-use lib.ListN.{length}
+use lib.ListN.{length, drop}
 use Rattle.process_list.specs.List.{Element, placed, allNumbers, listOf}
 use Rattle.room.specs.Room.{Room, roomLength, filledWith}
 use Rattle.valid.specs.Valid.{isValid}
-use Rattle.clf.specs.Reading.{accepted, read, readText}
+use Rattle.clf.specs.Reading.{accepted, readingNumber, readingPlace, read, readText}
 use Rattle.look.specs.Look.{Look, roomLengthOf}
-use Rattle.look.specs.Replacing.{Call}
+use Rattle.look.specs.Replacing.{refused, Call, call}
 use Rattle.claims.specs.Cut.{Longer}
-use Rattle.claims.specs.Refusals.{Answered}
+use Rattle.claims.specs.Refusals.{Answered, ToldApart}
 use Rattle.claims.specs.Rules.{Allowed}
 use Rattle.claims.specs.TriedFile.{Small}
 use Rattle.claims.specs.LookRuns.{fresh, SameLook}
@@ -23,6 +23,13 @@ CutLaw = (room : ℕ) (s : List ℕ) → Longer room s
 -- demand 1, 'the refusal number that document 01 names': which numbers and places a reading can answer (`proofs/Refusals`: `answered`)
 abbrev pub AnswersNumbered : Type 0
 AnswersNumbered = (room : ℕ) (s : List ℕ) → Answered (length s) (readText room s)
+
+-- 02, W-204, 'every caller passes it on': where reading answers 9 or 25, such a token stands at the place; and where a replacing call does, in its element (`proofs/Told`: `told-reading`, `told-call`)
+abbrev pub ReadingsToldApart : Type 0
+ReadingsToldApart = (room : ℕ) (s : List ℕ) → ToldApart (readingNumber (read room s)) (drop (readingPlace (read room s)) s)
+
+abbrev pub CallsToldApart : Type 0
+CallsToldApart = (room : ℕ) (kept : List ℕ) (es : List Element) (c : Call) (n p : ℕ) → call room kept es c ≡ refused n p → ToldApart n (drop p (c .element))
 
 -- demand 2, 'accepted exactly when the carried part of CLF 3.0 allows it and the room holds it': what is accepted keeps the rules (`proofs/Rules`: `accepted-rules`).
 -- The other way, that every list which keeps them is read from some file, is `ExactlyAllowed` of `reads_back`

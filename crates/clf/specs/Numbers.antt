@@ -1,4 +1,4 @@
--- The numbers of value elements and Arrays (document 01, The file we carry, Numbers, Refusal numbers 9, 22, 21, 7).
+-- The numbers of value elements and Arrays (document 01, The file we carry, Numbers, Refusal numbers 9, 22, 21, 7; document 02, W-204, 25).
 use mathlib.Core.Bool.{Bool, true, false, cond, _||_}
 use mathlib.Core.List.{List, [], _∷_, _++_}
 use Prim.Native.Nat.{ℕ}
@@ -6,7 +6,7 @@ use lib.Dec.{eqb, leb, ltb}
 use lib.ListN.{length}
 use Rattle.decimal.specs.declared.Decimal.{Decimal}
 use Rattle.decimal.specs.declared.Token.{Token}
-use Rattle.decimal.specs.declared.Token.the-variants.{Number, Malformed}
+use Rattle.decimal.specs.declared.Token.the-variants.{Number, Malformed, OutOfBounds}
 use Rattle.decimal.specs.Decimal as Decimals
 use Rattle.decimal_read.specs.Number.{tokenOf}
 use Rattle.decimal_value.specs.Value.{notNegative, positive, isOne}
@@ -28,11 +28,14 @@ token = text endsToken
 abbrev pub saidBy : Token → Decimal
 saidBy (Number d) = d
 saidBy Malformed = Decimals.zero
+saidBy OutOfBounds = Decimals.zero
 
--- what a token is at fault of, after so many numbers of n: 9 if it is no number, 22 if it is one too many, else what the rule says of the number
+-- what a token is at fault of, after so many numbers of n. 9 if it is no number, whatever else it breaks. 22 if it is of the right form and one too many: the rules are on the numbers that the element
+-- asks for, and of 22 and 25 at one place the lowest is given. 25 if it is one of these and out of bounds (02, W-204), whatever the rule. Else what the rule says of the number
 abbrev pub faultOf : ℕ → (Decimal → ℕ) → ℕ → Token → ℕ
 faultOf n rule count (Number d) = cond (leb n count) Refusal.wrongCount (rule d)
 faultOf n rule count Malformed = Refusal.noNumber
+faultOf n rule count OutOfBounds = cond (leb n count) Refusal.wrongCount Refusal.outOfBounds
 
 -- 'A token is judged at its end', and placed at its first byte; at the end tag too few numbers are 22
 abbrev pub numberByte : List ℕ → ℕ → (Decimal → ℕ) → List Decimal → ℕ → G (Turn (List Decimal) (List Decimal))

@@ -10,7 +10,7 @@ use lib.Dec.{leb, eqb}
 use lib.IntN.{pos, _+ℤ_}
 use lib.ListN.{length}
 use Rattle.decimal.specs.declared.Decimal.{Decimal}
-use Rattle.decimal.specs.declared.Token.the-variants.{Number, Malformed}
+use Rattle.decimal.specs.declared.Token.the-variants.{Number, OutOfBounds}
 use Rattle.decimal.specs.Decimal.{size, inRange}
 use Rattle.decimal_read.specs.Number.{Form, behindSign, digitsOf, behindDigits, fractionOf, behindFraction, isExponent, formOf, append, withSign, scale, trailing, tokenBy, tokenOf}
 use Rattle.decimal_read.specs.Number as Read
@@ -52,7 +52,7 @@ judged-held : (k : ℕ) (f : Form) (d : Decimal) → Small (f .whole ++ f .fract
 unfolding tokenBy
 judged-held k f d small = go (leb k 64) (inRange (Read.normal f)) refl
   where
-    go : (a b : Bool) → inRange (Read.normal f) ≡ b → cond (a && b) (Number (Read.normal f)) Malformed ≡ Number d → (inRange d ≡ true) × (isNormal d ≡ true)
+    go : (a b : Bool) → inRange (Read.normal f) ≡ b → cond (a && b) (Number (Read.normal f)) OutOfBounds ≡ Number d → (inRange d ≡ true) × (isNormal d ≡ true)
     go true true r e = let g : Read.normal f ≡ d = cc in (subst (λ (x : Decimal). inRange x ≡ true) g r, subst (λ (x : Decimal). isNormal x ≡ true) g (form-normal f small))
     go true false r e = absurd (let z : _≡_ {A = ℕ} 0 1 = cc in omega arith)
     go false b r e = absurd (let z : _≡_ {A = ℕ} 0 1 = cc in omega arith)

@@ -1,11 +1,11 @@
--- The number examples of document 01, and of its rule on forms and limits, in one table: each token and what it says. Assumes nothing.
+-- The number examples of document 01, of its rule on forms and limits, and of 02's on a typo and a long number (W-204), in one table: each token and what it says. Assumes nothing.
 use lib.ListN.{replicate}
 use mathlib.Core.Path.{_≡_, refl}
 use mathlib.Core.List.{List, [], _∷_, _++_, map}
 use Prim.Native.Nat.{ℕ}
 use lib.IntN.{ℤ, pos, negsuc}
 use Rattle.decimal.specs.declared.Token.{Token}
-use Rattle.decimal.specs.declared.Token.the-variants.{Number, Malformed}
+use Rattle.decimal.specs.declared.Token.the-variants.{Number, Malformed, OutOfBounds}
 use Rattle.decimal_read.specs.Number.{isDigit, isMark, isMinus, behindSign, digitsOf, behindDigits, fractionOf, behindFraction, isEmpty, isExponent, exponentMinus, exponentDigits}
 use Rattle.decimal_read.specs.Number.{formOf, append, withSign, digitsNumber, scale, zeros, trailing, normal, tokenBy, tokenOf}
 
@@ -56,6 +56,36 @@ tokens =
     (replicate 63 48 ++ 49 ∷ []) ∷
     -- 64 zeros and a 1: 65 bytes
     (replicate 64 48 ++ 49 ∷ []) ∷
+    -- 0.5x
+    (48 ∷ 46 ∷ 53 ∷ 120 ∷ []) ∷
+    -- 12345678901234567
+    (49 ∷ 50 ∷ 51 ∷ 52 ∷ 53 ∷ 54 ∷ 55 ∷ 56 ∷ 57 ∷ 48 ∷ 49 ∷ 50 ∷ 51 ∷ 52 ∷ 53 ∷ 54 ∷ 55 ∷ []) ∷
+    -- 999999999999999
+    (57 ∷ 57 ∷ 57 ∷ 57 ∷ 57 ∷ 57 ∷ 57 ∷ 57 ∷ 57 ∷ 57 ∷ 57 ∷ 57 ∷ 57 ∷ 57 ∷ 57 ∷ []) ∷
+    -- 1e100
+    (49 ∷ 101 ∷ 49 ∷ 48 ∷ 48 ∷ []) ∷
+    -- 1e99
+    (49 ∷ 101 ∷ 57 ∷ 57 ∷ []) ∷
+    -- 1e-22
+    (49 ∷ 101 ∷ 45 ∷ 50 ∷ 50 ∷ []) ∷
+    -- 1e-23
+    (49 ∷ 101 ∷ 45 ∷ 50 ∷ 51 ∷ []) ∷
+    -- 0.1e-22
+    (48 ∷ 46 ∷ 49 ∷ 101 ∷ 45 ∷ 50 ∷ 50 ∷ []) ∷
+    -- 64 zeros
+    (replicate 64 48) ∷
+    -- 65 zeros
+    (replicate 65 48) ∷
+    -- 65 zeros and an x
+    (replicate 65 48 ++ 120 ∷ []) ∷
+    -- -1E+5
+    (45 ∷ 49 ∷ 69 ∷ 43 ∷ 53 ∷ []) ∷
+    -- 10E+22
+    (49 ∷ 48 ∷ 69 ∷ 43 ∷ 50 ∷ 50 ∷ []) ∷
+    -- 1/
+    (49 ∷ 47 ∷ []) ∷
+    -- 1:
+    (49 ∷ 58 ∷ []) ∷
     []
 
 pub answers : List Token
@@ -63,23 +93,38 @@ answers =
     number (pos 5) (negsuc 0) ∷
     number (pos 0) (pos 0) ∷
     number (pos 1) (pos 22) ∷
-    Malformed ∷
+    OutOfBounds ∷
     number (pos 1) (pos 22) ∷
     number (pos 1) (pos 15) ∷
-    Malformed ∷
+    OutOfBounds ∷
     Malformed ∷
     number (pos 1) (pos 0) ∷
     number (pos 5) (negsuc 0) ∷
     number (pos 1) (pos 5) ∷
     number (pos 1) (pos 0) ∷
     Malformed ∷
-    Malformed ∷
+    OutOfBounds ∷
     number (pos 1) (negsuc 21) ∷
     number (pos 0) (pos 0) ∷
     number (negsuc 124) (negsuc 3) ∷
     Malformed ∷
     Malformed ∷
     number (pos 1) (pos 0) ∷
+    OutOfBounds ∷
+    Malformed ∷
+    OutOfBounds ∷
+    number (pos 999999999999999) (pos 0) ∷
+    Malformed ∷
+    OutOfBounds ∷
+    number (pos 1) (negsuc 21) ∷
+    OutOfBounds ∷
+    OutOfBounds ∷
+    number (pos 0) (pos 0) ∷
+    OutOfBounds ∷
+    Malformed ∷
+    number (negsuc 0) (pos 5) ∷
+    OutOfBounds ∷
+    Malformed ∷
     Malformed ∷
     []
 

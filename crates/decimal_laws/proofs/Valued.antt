@@ -1,4 +1,4 @@
--- (a) The value of an accepted token is its coefficient times 10 to its power. Assumes nothing.
+-- (a) The value of an accepted token is its coefficient times 10 to its power, and likewise of one out of bounds. Assumes nothing.
 use mathlib.Core.Path.{_≡_, refl, sym, ap, _∙_, subst}
 use mathlib.Core.Bool.{Bool, true, false, cond}
 use mathlib.Core.List.{List, _++_}
@@ -12,14 +12,18 @@ use lib.IntN.{ℤ, pos, negsuc, _+ℤ_}
 use lib.Pow.{pow-add}
 use Rattle.decimal.specs.Decimal as D
 use Rattle.decimal.specs.declared.Decimal.{Decimal}
-use Rattle.decimal.specs.declared.Token.the-variants.{Number}
+use Rattle.decimal.specs.declared.Token.the-variants.{Number, OutOfBounds}
 use Rattle.decimal_read.specs.Number.{Form, digitsNumber, scale, trailing, withSign, normal, formOf, tokenOf}
 use Rattle.decimal_read.proofs.Zeros.{Stripped}
 use Rattle.decimal_read.proofs.Stands.{Small}
 use Rattle.decimal_read.proofs.Ranged.{size-with}
 use Rattle.decimal_read.proofs.Settled.{own-pair, normal-zero, normal-other}
 use Rattle.decimal_laws.specs.Value.{up, down, Same, isNegative, said, held}
-use Rattle.decimal_laws.proofs.Accepted.{Accepted, accepted, form-small}
+use Rattle.decimal_read.specs.Told.{Accepted, Beyond}
+use Rattle.decimal_read.specs.RightForm.{saidBy}
+use Rattle.decimal_read.proofs.RightForms.{right-form}
+use Rattle.decimal_read.proofs.Told.{tells-apart}
+use Rattle.decimal_laws.proofs.Accepted.{accepted, form-small}
 
 -- moving z zeros into the power
 shift : (p : ℤ) (z : ℕ) → z + up p + down (p +ℤ pos z) ≡ up (p +ℤ pos z) + down p
@@ -74,4 +78,11 @@ module _ (f : Form) (small : Small (f .whole ++ f .fraction)) where
 pub value : (t : List ℕ) (d : Decimal) → tokenOf t ≡ Number d → (f : Form) × (formOf t ≡ some f) × Same (said f) (held d)
 value t d e =
     let a : Accepted t d = accepted t d e in
-    (a .form, a .has, subst (λ (x : Decimal). Same (said (a .form)) (held x)) (sym (a .is)) (normal-same (a .form) (form-small t (a .form) (a .has))))
+    let f : Form = saidBy t (a .right) in
+    (f, right-form t (a .right), subst (λ (x : Decimal). Same (said f) (held x)) (sym (a .is)) (normal-same f (form-small t f (right-form t (a .right)))))
+
+-- and one out of bounds says the coefficient times 10 to the power of the pair that is beyond the limits, if it is not the token that is too long
+pub beyond : (t : List ℕ) → tokenOf t ≡ OutOfBounds → (b : Beyond t) × Same (said (saidBy t (b .right))) (held (normal (saidBy t (b .right))))
+beyond t e =
+    let b : Beyond t = (tells-apart t .outOfBounds) .0 e in
+    (b, normal-same (saidBy t (b .right)) (form-small t (saidBy t (b .right)) (right-form t (b .right))))

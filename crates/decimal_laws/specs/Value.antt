@@ -2,15 +2,11 @@
 -- power of ten. The theorems over these definitions are proofs/Accepted, Valued and Unique.
 use mathlib.Core.Path.{_≡_}
 use mathlib.Core.Bool.{Bool, true, false}
-use mathlib.Core.List.{List}
-use mathlib.Core.Logic.{_⊎_}
-use mathlib.Core.Option.{none, some}
-use Prim.Native.Nat.{ℕ, suc, _*_, _^_, _%_, _<_}
+use Prim.Native.Nat.{ℕ, suc, _*_, _^_, _%_}
 use lib.IntN.{ℤ, pos, negsuc}
-use lib.ListN.{length}
 use Rattle.decimal.specs.Decimal.{size, inRange}
 use Rattle.decimal.specs.declared.Decimal.{Decimal}
-use Rattle.decimal_read.specs.Number.{Form, digitsNumber, scale, normal, formOf}
+use Rattle.decimal_read.specs.Number.{Form, digitsNumber, scale}
 
 -- the rational number n times 10 to the power, below zero where `negative` says so
 pub record Scaled : Type 0 where
@@ -49,7 +45,3 @@ pub record Normal (d : Decimal) : Type 0 where
   pub within : inRange d ≡ true
   pub zero : size (d .coefficient) ≡ 0 → d ≡ record { coefficient = pos 0; power = pos 0 }
   pub ends : (size (d .coefficient) ≡ 0 → ⊥) → size (d .coefficient) % 10 ≡ 0 → ⊥
-
--- a token is refused: it has no form, or is longer than 64 bytes, or its normal form is out of range
-abbrev pub Refused : List ℕ → Type 0
-Refused t = (formOf t ≡ none) ⊎ (64 < length t) ⊎ ((f : Form) × (formOf t ≡ some f) × (inRange (normal f) ≡ false))

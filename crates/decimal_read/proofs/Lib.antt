@@ -3,6 +3,8 @@ pub mod Loops
 pub mod Parts
 pub mod Ranged
 pub mod Read
+pub mod RightForms
 pub mod Settled
 pub mod Stands
+pub mod Told
 pub mod Zeros

@@ -10,7 +10,7 @@ use lib.Dec.{leb}
 use lib.ListN.{length, drop, getD}
 use Rattle.decimal.specs.Decimal as D
 use Rattle.decimal.specs.declared.Token.{Token}
-use Rattle.decimal.specs.declared.Token.the-variants.{Number, Malformed}
+use Rattle.decimal.specs.declared.Token.the-variants.{Number, Malformed, OutOfBounds}
 use Rattle.scanning.specs.Steps.{here, past}
 use Rattle.decimal_read.specs.declared.Held.{Held}
 use Rattle.decimal_read.specs.declared.Run.{Run}
@@ -94,7 +94,7 @@ module _ (t : List ℕ) (at : ℕ) where
 -- ── The last step ──
 
 module _ (s : Bool) (n : ℕ) (h : Held) (b u d : ℕ) where
-  pub settled-long : 64 < n → Malformed ≡ settled s n h b u d
+  pub settled-long : 64 < n → OutOfBounds ≡ settled s n h b u d
   unfolding settled
   settled-long l = rw (lt-leb n 64 l)
 

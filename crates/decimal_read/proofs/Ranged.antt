@@ -13,7 +13,7 @@ use mir.ValLaws.{toZ-ofZ, toZ-pos}
 use Rattle.decimal.specs.Decimal.{size, inRange}
 use Rattle.decimal.specs.declared.Decimal.{Decimal}
 use Rattle.decimal.specs.declared.Token.{Token}
-use Rattle.decimal.specs.declared.Token.the-variants.{Number, Malformed}
+use Rattle.decimal.specs.declared.Token.the-variants.{Number, OutOfBounds}
 use Rattle.decimal_read.specs.Number.{withSign}
 use Rattle.decimal_read.specs.Steps.{ranged}
 
@@ -81,7 +81,7 @@ module _ (n : ℕ) (h : n ≤ 44) where
 -- ── The limits ──
 
 abbrev pub accepted : Decimal → Token
-accepted d = cond (inRange d) (Number d) Malformed
+accepted d = cond (inRange d) (Number d) OutOfBounds
 
 pub size-with : (t : Bool) (n : ℕ) → size (withSign t n) ≡ n
 unfolding withSign
@@ -110,7 +110,7 @@ size-small a b h k = go (ltb a b) refl
     go true e = omega (arith, size-lt a b (ltb-true a b e), ltb-true a b e)
     go false e = omega (arith, size-ge a b (ltb-false a b e), ltb-false a b e)
 
-pub refused : (d : Decimal) → inRange d ≡ false → Malformed ≡ accepted d
+pub refused : (d : Decimal) → inRange d ≡ false → OutOfBounds ≡ accepted d
 refused d h = rw h
 
 pub taken : (d : Decimal) → inRange d ≡ true → Number d ≡ accepted d
@@ -126,7 +126,7 @@ module _ (s : Bool) (c a b : ℕ) where
   d : Decimal
   d = record { coefficient = withSign s c; power = subℕ a b }
 
-  top : c < 10 ^ 15 → b ≤ 22 + a → (t : Bool) → ltb (44 + b) (22 + a) ≡ t → cond t Malformed (Number (record { coefficient = withSign s c; power = pos (22 + a - b) -ℤ pos 22 })) ≡ accepted d
+  top : c < 10 ^ 15 → b ≤ 22 + a → (t : Bool) → ltb (44 + b) (22 + a) ≡ t → cond t OutOfBounds (Number (record { coefficient = withSign s c; power = pos (22 + a - b) -ℤ pos 22 })) ≡ accepted d
   unfolding d
   top h k true e = let l : 44 + b < 22 + a = ltb-true (44 + b) (22 + a) e in refused d (fits s c (subℕ a b) h ∙ lt-leb (size (subℕ a b)) 22 (omega (arith, size-ge a b (omega arith))))
   top h k false e =
@@ -134,7 +134,7 @@ module _ (s : Bool) (c a b : ℕ) where
       ∙ taken d (fits s c (subℕ a b) h ∙ le-leb (size (subℕ a b)) 22 (size-small a b k l))
 
   bottom : c < 10 ^ 15 → (t : Bool) → ltb (22 + a) b ≡ t
-      → cond t Malformed (cond (ltb (44 + b) (22 + a)) Malformed (Number (record { coefficient = withSign s c; power = pos (22 + a - b) -ℤ pos 22 }))) ≡ accepted d
+      → cond t OutOfBounds (cond (ltb (44 + b) (22 + a)) OutOfBounds (Number (record { coefficient = withSign s c; power = pos (22 + a - b) -ℤ pos 22 }))) ≡ accepted d
   unfolding d
   bottom h true e = let l : 22 + a < b = ltb-true (22 + a) b e in refused d (fits s c (subℕ a b) h ∙ lt-leb (size (subℕ a b)) 22 (omega (arith, size-lt a b (omega arith))))
   bottom h false e = top h (ltb-false (22 + a) b e) (ltb (44 + b) (22 + a)) refl
@@ -144,7 +144,7 @@ module _ (s : Bool) (c a b : ℕ) where
   ranged-is = go (leb (10 ^ 15) c) refl
     where
       go : (t : Bool) → leb (10 ^ 15) c ≡ t
-          → cond t Malformed (cond (ltb (22 + a) b) Malformed (cond (ltb (44 + b) (22 + a)) Malformed (Number (record { coefficient = withSign s c; power = pos (22 + a - b) -ℤ pos 22 })))) ≡ accepted
+          → cond t OutOfBounds (cond (ltb (22 + a) b) OutOfBounds (cond (ltb (44 + b) (22 + a)) OutOfBounds (Number (record { coefficient = withSign s c; power = pos (22 + a - b) -ℤ pos 22 })))) ≡ accepted
           d
       go true e = refused d (big s c (subℕ a b) (leb-true (10 ^ 15) c e))
       go false e = bottom (leb-false (10 ^ 15) c e) (ltb (22 + a) b) refl

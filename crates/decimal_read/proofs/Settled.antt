@@ -13,7 +13,7 @@ use lib.ListN.{length}
 use lib.Pow.{pow-add}
 use Rattle.decimal.specs.Decimal as D
 use Rattle.decimal.specs.declared.Token.{Token}
-use Rattle.decimal.specs.declared.Token.the-variants.{Number, Malformed}
+use Rattle.decimal.specs.declared.Token.the-variants.{Number, OutOfBounds}
 use Rattle.decimal_read.specs.declared.Held.{Held}
 use Rattle.decimal_read.specs.Number.{Form, digitsNumber, scale, zeros, trailing, normal, withSign, tokenBy}
 use Rattle.decimal_read.specs.Steps.{zerosOf, coefficientOf, ranged, settled}
@@ -61,7 +61,7 @@ lost-is : coefficientOf (10 ^ 18 + 1) ≡ 10 ^ 18 + 1
 unfolding coefficientOf zerosOf zeros
 lost-is = refl
 
-too-large : (s : Bool) (c a b : ℕ) → 10 ^ 15 ≤ c → ranged s c a b ≡ Malformed
+too-large : (s : Bool) (c a b : ℕ) → 10 ^ 15 ≤ c → ranged s c a b ≡ OutOfBounds
 unfolding ranged
 too-large s c a b h = rw (le-leb (10 ^ 15) c h)
 
@@ -106,6 +106,6 @@ module _ (f : Form) (h : Held) (up down : ℕ) (small : Small (f .whole ++ f .fr
   unfolding settled tokenBy
   settled-is n = go (leb n 64)
     where
-      go : (t : Bool) → cond t (cond (eqb (h .value) 0) (Number D.zero) reached) Malformed ≡ cond (t && D.inRange (normal f)) (Number (normal f)) Malformed
+      go : (t : Bool) → cond t (cond (eqb (h .value) 0) (Number D.zero) reached) OutOfBounds ≡ cond (t && D.inRange (normal f)) (Number (normal f)) OutOfBounds
       go true = core (eqb (h .value) 0) refl
       go false = refl

@@ -1,2 +1,4 @@
 pub mod Number
+pub mod RightForm
 pub mod Steps
+pub mod Told

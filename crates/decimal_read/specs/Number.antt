@@ -1,7 +1,8 @@
 -- The number token of document 01 (Numbers): 'A token of at most 64 bytes: maybe a sign, digits with or without a point (a digit on one
 -- side at least), then maybe e or E, maybe a sign, and one or two digits. It is held as a whole coefficient and a power of ten, trailing
 -- zeros moved into the power; zero is 0 and 0, and minus zero is zero. Coefficient below 10^15 in size, power from -22 to 22.'
--- In order below: the form of a token, what a form says, the normal form of that number, and which tokens are accepted.
+-- In order below: the form of a token, what a form says, the normal form of that number, and which tokens are accepted; of those that are not,
+-- which are no numbers and which are out of bounds (document 02, W-204).
 use Prim.Native.Nat.{ℕ, zero, suc, _+_, _-_, _*_, _^_, _/_, _%_}
 use Prim.Native.Char.{code}
 use mathlib.Core.Bool.{Bool, true, false, cond, _&&_, _||_}
@@ -14,7 +15,7 @@ use Rattle.decimal.specs.Decimal.{inRange}
 use Rattle.decimal.specs.Decimal as D
 use Rattle.decimal.specs.declared.Decimal.{Decimal}
 use Rattle.decimal.specs.declared.Token.{Token}
-use Rattle.decimal.specs.declared.Token.the-variants.{Number, Malformed}
+use Rattle.decimal.specs.declared.Token.the-variants.{Number, Malformed, OutOfBounds}
 
 -- ── The bytes ──
 
@@ -132,11 +133,12 @@ normal f =
 
 -- ── The token ──
 
--- what a token of n bytes says that has no form, and one that has the form f: 'at most 64 bytes', and the limits, judged on the normal form
+-- what a token of n bytes says. One without a form 'is no number' (9). One that has the form f says its normal form if that keeps the limits and the token is 'of at most
+-- 64 bytes'; else it is 'a token of the right form that is over 64 bytes or outside coefficient or power' (25; 02, W-204)
 unfoldable pub tokenBy : ℕ → Option Form → Token
 tokenBy n none = Malformed
-tokenBy n (some f) = cond (leb n 64 && inRange (normal f)) (Number (normal f)) Malformed
+tokenBy n (some f) = cond (leb n 64 && inRange (normal f)) (Number (normal f)) OutOfBounds
 
--- what a token says: a number, or that it is no number of our form
+-- what a token says: a number, that it is no number of our form, or that it is one out of bounds
 unfoldable pub tokenOf : List ℕ → Token
 tokenOf token = tokenBy (length token) (formOf token)

@@ -8,7 +8,7 @@ use lib.IntN.{pos, _-ℤ_}
 use lib.ListN.{length, drop}
 use Rattle.decimal.specs.Decimal as D
 use Rattle.decimal.specs.declared.Token.{Token}
-use Rattle.decimal.specs.declared.Token.the-variants.{Number, Malformed}
+use Rattle.decimal.specs.declared.Token.the-variants.{Number, Malformed, OutOfBounds}
 use Rattle.decimal_read.specs.Number.{isMark, isEmpty, isMinus, behindSign, digitsOf, behindDigits, fractionOf, behindFraction, append, withSign, zeros}
 use Rattle.decimal_read.specs.declared.Held.{Held}
 use Rattle.decimal_read.specs.declared.Run.{Run}
@@ -76,9 +76,9 @@ coefficientOf v = v / 10 ^ zerosOf v
 -- a coefficient times 10 to the above, over 10 to the below + 22
 unfoldable pub ranged : Bool → ℕ → ℕ → ℕ → Token
 ranged negative c above below =
-    cond (leb (10 ^ 15) c) Malformed
-    (cond (ltb above below) Malformed
-    (cond (ltb (44 + below) above) Malformed
+    cond (leb (10 ^ 15) c) OutOfBounds
+    (cond (ltb above below) OutOfBounds
+    (cond (ltb (44 + below) above) OutOfBounds
     (Number (record { coefficient = withSign negative c; power = pos (above - below) -ℤ pos 22 }))))
 
 -- the digits h, `behind` of them behind the point, times 10 to the up, over 10 to the down
@@ -87,7 +87,7 @@ settled negative size h behind up down =
     cond (leb size 64)
     (cond (eqb (h .value) 0) (Number D.zero)
     (ranged negative (coefficientOf (h .value)) (22 + h .dropped + zerosOf (h .value) + up) (behind + down)))
-    Malformed
+    OutOfBounds
 
 unfoldable pub raised : Bool → ℕ → Held → ℕ → Exponent → Token
 raised negative size h behind (Up e) = settled negative size h behind e 0

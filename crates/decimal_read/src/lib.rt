@@ -7,6 +7,7 @@ ghost use Prim.Native.Nat.{_+_, _-_, _≤_, _<_, _^_};
 ghost use lib.ListN.{length, drop};
 ghost use lib.IntN.{pos, _-ℤ_};
 ghost use Rattle.decimal_read.specs.Number.{isDigit, isMark, isMinus, behindSign, withSign, tokenOf};
+ghost use Rattle.decimal_read.specs.Told.{TellsApart};
 ghost use Rattle.decimal_read.specs.Steps.{heldWith, RunOf, FractionOf, exponentOf, exponentAt, zerosOf, coefficientOf, ranged, settled, raised};
 
 // What the digits read so far say. Below 10^18, `value` is their number. From then on a digit 0 is counted in `dropped`, and any other
@@ -230,19 +231,19 @@ fn lowered(power: usize) -> i8
     p - 22
 }
 
-// The coefficient times 10 to the above, over 10 to the below + 22, if both are in range.
+// The coefficient times 10 to the above, over 10 to the below + 22: a number if both are in range, else out of bounds.
 fn range(negative: bool, c: u64, above: usize, below: usize) -> Token
     requires { ⌜ below < 2 ^ 63 ⌝ }
     ensures { λ r. ⌜ r ≡ ranged negative c above below ⌝ }
 {
     if 1000000000000000 <= c {
-        return Token::Malformed;
+        return Token::OutOfBounds;
     }
     if above < below {
-        return Token::Malformed;
+        return Token::OutOfBounds;
     }
     if 44 + below < above {
-        return Token::Malformed;
+        return Token::OutOfBounds;
     }
     Token::Number(Decimal {
         coefficient: signed(negative, c),
@@ -256,7 +257,7 @@ fn settle(negative: bool, size: usize, h: Held, behind: usize, up: u8, down: u8)
     ensures { λ r. ⌜ r ≡ settled negative size h behind up down ⌝ }
 {
     if 64 < size {
-        return Token::Malformed;
+        return Token::OutOfBounds;
     }
     if h.value == 0 {
         return Token::Number(Decimal {
@@ -284,9 +285,9 @@ fn raise(negative: bool, size: usize, h: Held, behind: usize, e: Exponent) -> To
     }
 }
 
-// What a token says: a number of document 01's form within its limits, or none.
+// What a token says: a number of document 01's form within its limits, no number, or one of the form that is out of bounds.
 pub fn number(token: &[u8]) -> Token
-    ensures { λ r. ⌜ r ≡ tokenOf (now (token .entry)) ⌝ }
+    ensures { λ r. ⌜ (r ≡ tokenOf (now (token .entry))) × TellsApart (now (token .entry)) r ⌝ }
 {
     let from = behind_sign(token, 0);
     let whole = run_at(

@@ -4,3 +4,4 @@ pub mod Table
 pub mod Cubes
 pub mod Ends
 pub mod Names
+pub mod Bounds

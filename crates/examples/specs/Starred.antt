@@ -1,4 +1,4 @@
--- The starred examples of document 01 (Examples for both sides of a line): questions, what the definitions answer, and what 01 says.
+-- The starred examples of document 01 (Examples for both sides of a line): questions, what the definitions answer, and what 01 says, or, where it changes 01, document 02.
 use mathlib.Core.Bool.{true, false}
 use mathlib.Core.List.{List, [], _∷_, map}
 use Prim.Native.Nat.{ℕ}
@@ -7,7 +7,7 @@ use lib.IntN.{ℤ, pos, negsuc}
 use lib.Ieee.{Float}
 use Rattle.decimal.specs.declared.Decimal.{Decimal}
 use Rattle.decimal.specs.declared.Token.{Token}
-use Rattle.decimal.specs.declared.Token.the-variants.{Number, Malformed}
+use Rattle.decimal.specs.declared.Token.the-variants.{Number, Malformed, OutOfBounds}
 use Rattle.decimal.specs.Decimal.{zero}
 use Rattle.decimal_read.specs.Number.{tokenOf}
 use Rattle.decimal_value.specs.Value.{valueOf}
@@ -39,6 +39,7 @@ pub data Outcome : Type 0 where
 abbrev pub ofToken : Token → Outcome
 ofToken (Number d) = number (d .coefficient) (d .power)
 ofToken Malformed = refusal (faultOf 1 anyNumber 0 Malformed)
+ofToken OutOfBounds = refusal (faultOf 1 anyNumber 0 OutOfBounds)
 
 -- three components a pixel
 abbrev pub greyPixel : Float → List Float
@@ -64,6 +65,7 @@ outcome (grey es x) = ofRun es (greyPixel x)
 abbrev pub ofNumber : Token → Decimal
 ofNumber (Number d) = d
 ofNumber Malformed = zero
+ofNumber OutOfBounds = zero
 
 -- the number that a text says, and its f64
 abbrev pub decimal : String → Decimal
@@ -116,16 +118,16 @@ questions =
     ∷ grey (clamp ∷ gain ∷ []) (f64 "0.75")
     ∷ []
 
--- what 01 says
+-- what 01 says, and of `1e23` and `1234567890123456`, which 'become 25', 02 (W-204)
 unfoldable pub answers : List Outcome
 answers =
     number (pos 5) (negsuc 0)
     ∷ number (pos 0) (pos 0)
     ∷ number (pos 1) (pos 22)
-    ∷ refusal 9
+    ∷ refusal 25
     ∷ number (pos 1) (pos 22)
     ∷ number (pos 1) (pos 15)
-    ∷ refusal 9
+    ∷ refusal 25
     ∷ slice 0 (greyPixel (f64 "0.25"))
     ∷ slice 0 (greyPixel (f64 "0.625"))
     ∷ slice 0 (greyPixel (f64 "1"))

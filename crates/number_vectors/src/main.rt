@@ -1,5 +1,5 @@
 // Runs the number reader over the tokens of the file `tokens`, one a line. It writes a line for each token, `coefficient:power` or the
-// refusal number 9, and then how many tokens there were and how many of them are numbers.
+// refusal number, 9 or 25, and then how many tokens there were and how many of them are numbers.
 use decimal::Token;
 use libc::STDOUT_FILENO;
 ghost use Prim.Native.Nat.{_≤_};
@@ -30,6 +30,10 @@ fn print_token(t: Token) -> u64
         }
         Token::Malformed => {
             io::write_all(STDOUT_FILENO, b"9\n");
+            0
+        }
+        Token::OutOfBounds => {
+            io::write_all(STDOUT_FILENO, b"25\n");
             0
         }
     }

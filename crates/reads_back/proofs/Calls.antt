@@ -5,7 +5,7 @@ use mathlib.Core.List.{List, [], _∷_, map}
 use Prim.Native.Nat.{ℕ, _-_, _≤_}
 use native.Mathlib.Omega.{arith}
 use borrow.Author.Tests.{ltb-false, le-leb}
-use lib.Dec.{ltb}
+use lib.Dec.{eqb, ltb}
 use lib.Ieee.{Float}
 use lib.ListN.{length, take, drop}
 use lib.Seq.{take-at}
@@ -13,7 +13,7 @@ use Rattle.grammar.specs.Laws.{nope}
 use Rattle.process_list.specs.declared.ProcessList.{ProcessList}
 use Rattle.process_list.specs.declared.Node.{Node}
 use Rattle.process_list.specs.File.{fileNode, keeping}
-use Rattle.process_list.specs.List.{Element, nodesOf}
+use Rattle.process_list.specs.List.{Element, nodesOf, mostNumbers}
 use Rattle.process_list.proofs.Files.{file-nodes, file-keeping}
 use Rattle.room.specs.Room.{Room, roomLength}
 use Rattle.ids.specs.Ids.{idRight}
@@ -21,7 +21,7 @@ use Rattle.valid.specs.Valid.{isValid, elementsOf}
 use Rattle.valid.proofs.Readings.{valid-file, elements-file}
 use Rattle.tags.specs.Code.{partIn}
 use Rattle.clf.specs.Description.{bytesOf, partAsked, descriptionPart}
-use Rattle.clf.specs.Reading.{Reading, accepted, faulty, unfit, readingNumber, descriptionAsked, read}
+use Rattle.clf.specs.Reading.{Reading, accepted, faulty, unfit, readingNumber, readingPlace, readAlone, isNumbered, askedFor, descriptionAsked, read}
 use Rattle.reading.specs.declared.Answer.{Answer}
 use Rattle.reading.specs.declared.Checked.{Checked}
 use Rattle.reading.specs.Code.{checkedOf, ReadsInto}
@@ -32,7 +32,10 @@ use Rattle.look.specs.Replacing as Replacing
 use Rattle.replacing.specs.Code.{lookOf, Replaced}
 use Rattle.replacing.specs.Code as Replaces
 use Rattle.claims.specs.LookRuns.{readInto}
+use Rattle.claims.specs.Refusals.{ToldApart}
+use Rattle.claims.proofs.Blamed.{elsewhere}
 use Rattle.claims.proofs.Calls.{isCallFault, call-number}
+use Rattle.claims.proofs.Told.{told-reading, told-call}
 use Rattle.pixel_run.specs.Finite.{firstNotFinite}
 use Rattle.running.specs.declared.Ran.{Ran}
 use Rattle.running.specs.Running.{preparedOf, rowsOf, runNode, runNodes, notThrees, notFinite, ran, ranOf, pixelsOf}
@@ -223,6 +226,22 @@ call-not : (room : ℕ) (kept : List ℕ) (es : List Element) (c : Call) (a : Re
 call-not room kept es c (Replacing.replaced new) e z = omega arith
 call-not room kept es c (Replacing.refused n p) e z = let f : false ≡ true = sym (ap isCallFault z) ∙ call-number room kept es c n p e in nope cc
 
+-- 9 and 25 are told apart by every call: 16 is neither
+told-in : (x : Look) (c : Call) → ToldApart (Replaces.replacingNumber (callIn x c)) (drop (Replaces.replacingPlace (callIn x c)) (c .element))
+unfolding callIn
+told-in x c = by-valid (isValid (x .list) (x .room))
+  where
+    a : Replacing.Replacing
+    a = call (roomLength (x .room)) (keptOf x) (elementsOf (x .list) (x .room)) c
+
+    by-call : (b : Replacing.Replacing) → a ≡ b → ToldApart (Replaces.replacingNumber b) (drop (Replaces.replacingPlace b) (c .element))
+    by-call (Replacing.replaced es) e = elsewhere (eqb 0) refl refl 0 refl (drop 0 (c .element))
+    by-call (Replacing.refused n p) e = told-call (roomLength (x .room)) (keptOf x) (elementsOf (x .list) (x .room)) c n p e
+
+    by-valid : (v : Bool) → ToldApart (Replaces.replacingNumber (cond v a (Replacing.refused 16 0))) (drop (Replaces.replacingPlace (cond v a (Replacing.refused 16 0))) (c .element))
+    by-valid true = by-call a refl
+    by-valid false = elsewhere (eqb 16) refl refl 16 refl (drop 0 (c .element))
+
 pub replace-refuses : (l : ProcessList) (m₀ : Room) → HasPlaces (lookOf l m₀) → (c : Call) (r : Answer) (m₁ : Room) → Replaced l m₀ c r m₁ → ReplaceRefuses l m₀ c r m₁
 unfolding Replaces.replacingAnswer callIn
 replace-refuses l m₀ p c r m₁ h =
@@ -234,6 +253,7 @@ replace-refuses l m₀ p c r m₁ h =
       refuses = refuses x p (r .number)
           (λ v z. call-not (roomLength m₀) (keptOf x) (elementsOf l m₀) c a refl (ap (λ (b : Bool). Replaces.replacingNumber (cond b a (Replacing.refused 16 0))) (sym v) ∙ sym q ∙ z))
           (λ v. q ∙ ap (λ (b : Bool). Replaces.replacingNumber (cond b a (Replacing.refused 16 0))) v);
+      told = subst (λ (y : Answer). ToldApart (y .number) (drop (y .place) (c .element))) (sym (h .answer)) (told-in x c);
     }
 
 -- ---- the file check beside reading
@@ -246,6 +266,7 @@ checked-read file n c a m₀ m₁ e q h =
       read = h;
       number = ap (λ (x : Checked). x .number) k ∙ sym (ap (λ (x : Answer). x .number) (h .answer));
       place = ap (λ (x : Checked). x .place) k ∙ sym (ap (λ (x : Answer). x .place) (h .answer));
+      told = subst (λ (x : Answer). ToldApart (x .number) (drop (x .place) file)) (sym (h .answer)) (told-reading (roomLength m₀) file);
     }
 
 -- ---- a Description beside its number
@@ -254,8 +275,27 @@ none-asked k file (accepted l) z = absurd (z refl)
 none-asked k file (faulty j p) z = refl
 none-asked k file (unfit j p) z = refl
 
+-- 19 is neither 9 nor 25
+told-asked : (k : ℕ) (file : List ℕ) (x : Reading) → ToldApart (readingNumber x) (drop (readingPlace x) file) → ToldApart (readingNumber (askedFor k x)) (drop (readingPlace (askedFor k x)) file)
+told-asked k file (accepted l) t = go (isNumbered k (length l))
+  where
+    go : (b : Bool) → ToldApart (readingNumber (cond b (accepted l) (faulty 19 0))) (drop (readingPlace (cond b (accepted l) (faulty 19 0))) file)
+    go true = t
+    go false = elsewhere (eqb 19) refl refl 19 refl (drop 0 file)
+told-asked k file (faulty j p) t = t
+told-asked k file (unfit j p) t = t
+
+told-description : (k : ℕ) (file : List ℕ) → ToldApart (readingNumber (descriptionAsked k file)) (drop (readingPlace (descriptionAsked k file)) file)
+unfolding descriptionAsked
+told-description k file = told-asked k file (readAlone file) (told-reading mostNumbers file)
+
 pub describes : (file : List ℕ) (k : ℕ) (c : Checked) (n : ℕ) → c ≡ checkedOf (descriptionAsked k file) → n ≡ length (bytesOf (descriptionPart k file) file)
     → Describes file k (record { checked = c; length = n })
 unfolding descriptionPart
 describes file k c n e q =
-    record { checked = e; bytes = q; none = λ z. q ∙ none-asked k file (descriptionAsked k file) (λ y. z (ap (λ (x : Checked). x .number) e ∙ y)) }
+    record {
+      checked = e;
+      bytes = q;
+      none = λ z. q ∙ none-asked k file (descriptionAsked k file) (λ y. z (ap (λ (x : Checked). x .number) e ∙ y));
+      told = subst (λ (x : Checked). ToldApart (x .number) (drop (x .place) file)) (sym e) (told-description k file);
+    }

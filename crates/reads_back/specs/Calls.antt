@@ -5,7 +5,7 @@ use mathlib.Core.Bool.{Bool, true}
 use mathlib.Core.List.{List}
 use Prim.Native.Nat.{ℕ, _≤_}
 use lib.Ieee.{Float}
-use lib.ListN.{length, take}
+use lib.ListN.{length, take, drop}
 use Rattle.process_list.specs.File.{fileList}
 use Rattle.process_list.specs.declared.ProcessList.{ProcessList}
 use Rattle.process_list.specs.List.{allNumbers}
@@ -18,6 +18,7 @@ use Rattle.reading.specs.Code.{checkedOf, ReadsInto}
 use Rattle.look.specs.Look.{Look, asRead, withKept}
 use Rattle.look.specs.Replacing.{Call}
 use Rattle.replacing.specs.Code.{lookOf, Replaced}
+use Rattle.claims.specs.Refusals.{ToldApart}
 use Rattle.running.specs.declared.Ran.{Ran}
 use Rattle.running.specs.Running.{ranOf, pixelsOf}
 use Rattle.written_form.specs.Written.{outputOf}
@@ -82,15 +83,20 @@ pub record RunRefuses (x : Look) (r : Ran) (pixels₀ pixels₁ : List Float) : 
 pub record ReplaceRefuses (l : ProcessList) (m₀ : Room) (c : Call) (r : Answer) (m₁ : Room) : Type 0 where
   pub leaves : Replaced l m₀ c r m₁
   pub refuses : Refuses16 (lookOf l m₀) (r .number)
+  -- 9 and 25 told apart (02, W-204): such a token stands at the place, in the element
+  pub told : ToldApart (r .number) (drop (r .place) (c .element))
 
--- ---- the file check says what reading says
+-- ---- the file check says what reading says, and both pass on what the number reader says
 pub record CheckedAndRead (file : List ℕ) (r : CheckedRead) (m₀ m₁ : Room) : Type 0 where
   pub read : ReadsInto (read (roomLength m₀) file) (r .answer) m₀ m₁
   pub number : r .checked .number ≡ r .answer .number
   pub place : r .checked .place ≡ r .answer .place
+  -- 9 and 25 told apart (02, W-204): such a token stands at the place, in the file
+  pub told : ToldApart (r .answer .number) (drop (r .answer .place) file)
 
 -- ---- a Description: 'empty when there is none or the call is refused; its number .. is a second question'
 pub record Describes (file : List ℕ) (k : ℕ) (r : Described) : Type 0 where
   pub checked : r .checked ≡ checkedOf (descriptionAsked k file)
   pub bytes : r .length ≡ length (bytesOf (descriptionPart k file) file)
   pub none : (r .checked .number ≡ 0 → ⊥) → r .length ≡ 0
+  pub told : ToldApart (r .checked .number) (drop (r .checked .place) file)

@@ -33,7 +33,7 @@ notCarried = 7
 abbrev pub wrongAttribute : ℕ
 wrongAttribute = 8
 
--- 'token is no number of our form'
+-- 'token is no number of our form'; 02, W-204: '9 stays for a token that is no number'
 abbrev pub noNumber : ℕ
 noNumber = 9
 
@@ -96,6 +96,10 @@ idSeen = 23
 -- 'an id that is not 1 to 32 bytes of letters, digits, `-`, `_`, `.`' (02, W-203)
 abbrev pub wrongNodeId : ℕ
 wrongNodeId = 24
+
+-- 'a token of the right form that is over 64 bytes or outside coefficient or power' (02, W-204)
+abbrev pub outOfBounds : ℕ
+outOfBounds = 25
 
 -- 'late' (02, W-208)
 abbrev pub late : ℕ

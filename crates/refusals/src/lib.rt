@@ -24,7 +24,7 @@ pub const NOT_CARRIED: u8 = 7;
 // attribute missing or of a wrong text, `dim` included
 pub const WRONG_ATTRIBUTE: u8 = 8;
 
-// token is no number of our form
+// token is no number of our form; one of the right form is OUT_OF_BOUNDS (02, W-204)
 pub const NO_NUMBER: u8 = 9;
 
 // inBitDepth differs from the previous outBitDepth
@@ -71,6 +71,9 @@ pub const ID_SEEN: u8 = 23;
 
 // a node's id that is not 1 to 32 bytes of letters, digits, `-`, `_`, `.` (02, W-203)
 pub const WRONG_NODE_ID: u8 = 24;
+
+// a token of the right form that is over 64 bytes or outside coefficient or power (02, W-204)
+pub const OUT_OF_BOUNDS: u8 = 25;
 
 // late (02, W-208): a numbered replacement whose number is not larger than the one kept at its node
 pub const LATE: u8 = 28;

@@ -4,15 +4,17 @@ use mathlib.Core.Bool.{Bool, true, false, cond, _||_}
 use mathlib.Core.List.{List}
 use Prim.Native.Nat.{ℕ, zero, suc, _≤_, _<_}
 use native.Mathlib.Omega.{arith}
-use lib.ListN.{drop}
+use lib.ListN.{length, drop, length-drop}
 use lib.Dec.{eqb, leb}
 use borrow.Author.Tests.{eq-eqb, ne-eqb, le-leb, lt-leb, leb-false}
 use Rattle.decimal.specs.declared.Decimal.{Decimal}
 use Rattle.decimal.specs.declared.Token.{Token}
-use Rattle.decimal.specs.declared.Token.the-variants.{Number, Malformed}
+use Rattle.decimal.specs.declared.Token.the-variants.{Number, Malformed, OutOfBounds}
 use Rattle.decimal_read.specs.Number.{tokenOf}
+use Rattle.decimal_read.specs.RightForm.{RightForm}
+use Rattle.decimal_read.proofs.Told.{tells-apart}
 use Rattle.decimal_value.specs.Value.{notNegative, positive, isOne}
-use Rattle.grammar.specs.Parse.{Out, done, thenOut, retP, judgedTo, judgeOut}
+use Rattle.grammar.specs.Parse.{Out, done, fault, thenOut, retP, judgedTo, judgeOut}
 use Rattle.grammar.specs.Laws.{nope}
 use Rattle.xml.specs.Bytes.{isSpace}
 use Rattle.xml.specs.Xml.{text}
@@ -20,7 +22,8 @@ use Rattle.xml.specs.Code.{part, Reads, Failed}
 use Rattle.xml.specs.declared.Scan.{Scan}
 use Rattle.xml.specs.declared.Scan.the-variants.{At, Fault, Cut}
 use Rattle.clf.specs.Numbers.{endsToken, token, saidBy, faultOf}
-use Rattle.values.specs.Code.{ruleOf, Ended, TokenBytes, TokenReads, judgedAs}
+use Rattle.values.specs.Code.{ruleOf, Ended, TokenBytes, numberToken, tokenOut, TokenInside, TokenReads, judgedAs}
+use Rattle.values.specs.declared.TokenRead.{TokenRead}
 use Rattle.values.specs.declared.Rule.{Rule}
 use Rattle.values.specs.declared.Rule.the-variants as Rules
 use Rattle.values.specs.declared.TokenRead.the-variants as Reading
@@ -109,28 +112,69 @@ module _ (n count : ℕ) (rule : Decimal → ℕ) (s : List ℕ) (at : ℕ) wher
       go true e z = nope (omega arith)
       go false e z = leb-false n count e
 
+  -- the answer is a fault at the token's first byte, if the definition's is
+  fault-at : (x : TokenRead) (k : ℕ) → TokenInside n count s at x → tokenOut s x ≡ fault k (drop at s) → x ≡ Reading.Fault k at
+  fault-at (Reading.Number d e) k i q = nope cc
+  fault-at (Reading.Fault j p) k i q =
+      let a : j ≡ k = cc in
+      let b : drop p s ≡ drop at s = cc in
+      let c : p ≡ at = omega (arith, ap length b, length-drop p s, length-drop at s, i) in
+      ap (λ (m : ℕ). Reading.Fault m p) a ∙ ap (Reading.Fault k) c
+  fault-at Reading.Cut k i q = nope cc
+
+  module _ (x : TokenRead) (out : tokenOut s x ≡ (numberToken n rule count) .run (drop at s)) (inside : TokenInside n count s at x) where
+    -- what the definition says of the token that stands there
+    told-by : (w rest : List ℕ) → token .run (drop at s) ≡ done (tt, w) rest → (t : Token) → tokenOf w ≡ t → (k : ℕ) → faultOf n rule count t ≡ suc k → x ≡ Reading.Fault (suc k) at
+    told-by w rest q t e k z =
+        fault-at x (suc k) inside
+        (out ∙ ap judging q ∙ ap (λ (j : ℕ). thenOut {A = (Unit {0}) × List ℕ} (judgedTo j (tt, w) rest (drop at s)) (λ t. retP (saidBy (tokenOf (t .1))))) (ap (faultOf n rule count) e ∙ z))
+
+    told-surplus : (w rest : List ℕ) → token .run (drop at s) ≡ done (tt, w) rest → n ≤ count → RightForm w → (t : Token) → tokenOf w ≡ t → x ≡ Reading.Fault 22 at
+    told-surplus w rest q h r (Number d) e = told-by w rest q (Number d) e 21 (ap (λ (v : Bool). cond v 22 (rule d)) (le-leb n count h))
+    told-surplus w rest q h r Malformed e = absurd ((tells-apart w .malformed) .0 e r)
+    told-surplus w rest q h r OutOfBounds e = told-by w rest q OutOfBounds e 21 (ap (λ (v : Bool). cond v 22 25) (le-leb n count h))
+
+    token-reads : TokenReads n rule count s at x
+    token-reads = record {
+      out = out;
+      inside = inside;
+      told = λ w rest q. record {
+        malformed = λ r. told-by w rest q Malformed ((tells-apart w .malformed) .1 r) 8 refl;
+        surplus = λ r h. told-surplus w rest q h r (tokenOf w) refl;
+        outOfBounds = λ b h. told-by w rest q OutOfBounds ((tells-apart w .outOfBounds) .1 b) 24 (ap (λ (v : Bool). cond v 22 25) (lt-leb n count h));
+      };
+    }
+
+  -- a token whose fault is known
+  judged : (e : ℕ) (t : Token) (k : ℕ) → TokenBytes s at (At e) → t ≡ tokenOf (part s at e) → faultOf n rule count t ≡ k → judging (token .run (drop at s)) ≡ ruling (part s at e) k e
+  judged e t k v q z =
+      ap judging (sym (v .reads .out)) ∙ ap (λ (t : Token). ruling (part s at e) (faultOf n rule count t) e) (sym q) ∙ ap (λ (k : ℕ). ruling (part s at e) k e) z
+
+  token-refused : (e : ℕ) (t : Token) (k : ℕ) → TokenBytes s at (At e) → t ≡ tokenOf (part s at e) → faultOf n rule count t ≡ suc k → TokenReads n rule count s at (Reading.Fault (suc k) at)
+  token-refused e t k v q z = token-reads (Reading.Fault (suc k) at) (sym (judged e t (suc k) v q z)) (omega arith, omega (arith, v .reads .inside))
+
   pub token-number : (e : ℕ) (d : Decimal) → TokenBytes s at (At e) → Number d ≡ tokenOf (part s at e)
       → TokenReads n rule count s at (judgedAs (faultOf n rule count (Number d)) d at e)
   token-number e d v q = go (faultOf n rule count (Number d)) refl
     where
-      judged : judging (token .run (drop at s)) ≡ ruling (part s at e) (faultOf n rule count (Number d)) e
-      judged = ap judging (sym (v .reads .out)) ∙ ap (λ (t : Token). ruling (part s at e) (faultOf n rule count t) e) (sym q)
-
       go : (k : ℕ) → faultOf n rule count (Number d) ≡ k → TokenReads n rule count s at (judgedAs k d at e)
-      go zero z = record {
-        out = ap (λ (t : Token). done (saidBy t) (drop e s)) q ∙ sym (judged ∙ ap (λ (k : ℕ). ruling (part s at e) k e) z);
-        inside = (in-n d z, omega (arith, v .reads .inside), v .reads .inside .1, v .ended);
-      }
-      go (suc k) z = record { out = sym (judged ∙ ap (λ (k : ℕ). ruling (part s at e) k e) z); inside = (omega arith, omega (arith, v .reads .inside)) }
+      go zero z =
+          token-reads (Reading.Number d e) (ap (λ (t : Token). done (saidBy t) (drop e s)) q ∙ sym (judged e (Number d) 0 v q z))
+          (in-n d z, omega (arith, v .reads .inside), v .reads .inside .1, v .ended)
+      go (suc k) z = token-refused e (Number d) k v q z
 
   pub token-malformed : (e : ℕ) → TokenBytes s at (At e) → Malformed ≡ tokenOf (part s at e) → TokenReads n rule count s at (Reading.Fault 9 at)
-  token-malformed e v q = record {
-    out = sym (ap judging (sym (v .reads .out)) ∙ ap (λ (t : Token). ruling (part s at e) (faultOf n rule count t) e) (sym q));
-    inside = (omega arith, omega (arith, v .reads .inside));
-  }
+  token-malformed e v q = token-refused e Malformed 8 v q refl
+
+  pub token-beyond : (e k : ℕ) → TokenBytes s at (At e) → OutOfBounds ≡ tokenOf (part s at e) → k ≡ cond (leb n count) 22 25 → TokenReads n rule count s at (Reading.Fault k at)
+  token-beyond e k v q z = rw z (go (leb n count) refl)
+    where
+      go : (t : Bool) → leb n count ≡ t → TokenReads n rule count s at (Reading.Fault (cond t 22 25) at)
+      go true h = token-refused e OutOfBounds 21 v q (ap (λ (t : Bool). cond t 22 25) h)
+      go false h = token-refused e OutOfBounds 24 v q (ap (λ (t : Bool). cond t 22 25) h)
 
   pub token-fault : (k p : ℕ) → TokenBytes s at (Fault k p) → TokenReads n rule count s at (Reading.Fault k p)
-  token-fault k p v = record { out = ap judging (v .reads .out); inside = v .reads .inside }
+  token-fault k p v = token-reads (Reading.Fault k p) (ap judging (v .reads .out)) (v .reads .inside)
 
   pub token-cut : TokenBytes s at Cut → TokenReads n rule count s at Reading.Cut
-  token-cut v = record { out = ap judging (v .reads .out); inside = tt }
+  token-cut v = token-reads Reading.Cut (ap judging (v .reads .out)) tt

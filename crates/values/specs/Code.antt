@@ -6,6 +6,8 @@ use Prim.Native.Nat.{ℕ, zero, suc, _≤_, _<_}
 use lib.ListN.{length, drop, getD}
 use Rattle.decimal.specs.declared.Decimal.{Decimal}
 use Rattle.decimal_read.specs.Number.{tokenOf}
+use Rattle.decimal_read.specs.RightForm.{RightForm}
+use Rattle.decimal_read.specs.Told.{Beyond}
 use Rattle.grammar.specs.Parse.{Out, done, fault, cut, Parser}
 use Rattle.grammar.specs.Grammar.{G, ret, judge, seq}
 use Rattle.xml.specs.declared.Scan.{Scan}
@@ -52,10 +54,18 @@ TokenInside n count s at (Reading.Number d e) = (count < n) × (at ≤ e) × (e 
 TokenInside n count s at (Reading.Fault k p) = (at ≤ p) × (p ≤ length s)
 TokenInside n count s at Reading.Cut = Unit
 
+-- what is answered for the token w that stands at `at`, after `count` numbers of n (02, W-204, 'every caller passes it on'): 9 if its form is wrong; 22 if it is of the right form and one too many; 25 if it
+-- is asked for and out of bounds, whatever the rule
+pub record TokenTold (n count at : ℕ) (w : List ℕ) (r : TokenRead) : Type 0 where
+  pub malformed : (RightForm w → ⊥) → r ≡ Reading.Fault 9 at
+  pub surplus : RightForm w → n ≤ count → r ≡ Reading.Fault 22 at
+  pub outOfBounds : Beyond w → count < n → r ≡ Reading.Fault 25 at
+
 -- a token read from `at` on, after `count` numbers of n
 pub record TokenReads (n : ℕ) (rule : Decimal → ℕ) (count : ℕ) (s : List ℕ) (at : ℕ) (r : TokenRead) : Type 0 where
   pub out : tokenOut s r ≡ (numberToken n rule count) .run (drop at s)
   pub inside : TokenInside n count s at r
+  pub told : (w rest : List ℕ) → token .run (drop at s) ≡ done (tt, w) rest → TokenTold n count at w r
 
 -- the answer for the number d of a token from `at` to e, by its fault; 0 is none
 abbrev pub judgedAs : ℕ → Decimal → ℕ → ℕ → TokenRead

@@ -3,7 +3,7 @@ ghost use mathlib.Core.Path.{_≡_};
 ghost use mathlib.Core.Bool.{cond};
 ghost use mathlib.Core.List.{[], _∷_};
 ghost use Prim.Native.Nat.{_+_};
-ghost use lib.Dec.{ltb};
+ghost use lib.Dec.{leb, ltb};
 ghost use Rattle.decimal.specs.declared.Token.the-variants as Tokens;
 ghost use Rattle.decimal_value.specs.Value.{isOne};
 ghost use Rattle.room.specs.Room.{lent};
@@ -106,6 +106,16 @@ fn judged(d: Decimal, at: usize, e: usize, n: usize, rule: Rule, count: usize) -
     TokenRead::Number(d, e)
 }
 
+// The fault of a token of the right form that is out of bounds, after `count` numbers of n.
+fn beyond_bounds(n: usize, count: usize) -> u8
+    ensures { λ r. ⌜ r ≡ cond (leb n count) 22 25 ⌝ }
+{
+    if count < n {
+        return refusals::OUT_OF_BOUNDS;
+    }
+    refusals::WRONG_COUNT
+}
+
 // The token at `at`, after `count` numbers of n.
 fn token_read(s: &[u8], at: usize, n: usize, rule: Rule, count: usize) -> TokenRead
     ensures { λ r. ⌜ TokenReads n (ruleOf rule) count (now (s .entry)) at r ⌝ }
@@ -117,6 +127,7 @@ fn token_read(s: &[u8], at: usize, n: usize, rule: Rule, count: usize) -> TokenR
             match t {
                 Token::Number(d) => judged(d, at, e, n, rule, count),
                 Token::Malformed => TokenRead::Fault(refusals::NO_NUMBER, at),
+                Token::OutOfBounds => TokenRead::Fault(beyond_bounds(n, count), at),
             }
         }
         Scan::Fault(k, p) => TokenRead::Fault(k, p),

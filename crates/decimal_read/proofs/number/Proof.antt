@@ -1,5 +1,6 @@
 -- Assumes nothing.
 use Rattle.decimal_read.proofs.Read.{read-none, read-some}
+use Rattle.decimal_read.proofs.Told.{told}
 use borrow.Author.Needs.{needs}
 use Rattle.decimal_read.proofs.number.Statement.{statement}
 use Rattle.decimal_read.proofs.number.Tie as tie
@@ -12,8 +13,8 @@ number-spec =
     (λ c κs. search needs)
     (λ c κs. search needs)
     (λ c. search needs)
-    (λ c. search read-none)
+    (λ c. told _ _ (search read-none))
     (λ c κs. search needs)
     (λ c κs. search needs)
     (λ c κs. search needs)
-    (λ c. search read-some))
+    (λ c. told _ _ (search read-some)))
