@@ -79,6 +79,29 @@ static void reads(void)
     expect("and its room is zeroed", all_zero(coefficients, powers, 0, 16));
 }
 
+/* A typo in the last value is 9 and a number that is too large 25, both at its first byte; the room is zeroed. */
+static void tokens(void)
+{
+    char file[sizeof EXAMPLE];
+    const size_t length = strlen(EXAMPLE);
+    const size_t place = (size_t)(strstr(EXAMPLE, "5e-1") - EXAMPLE);
+    int64_t coefficients[4] = {77, 77, 77, 77};
+    int8_t powers[4] = {7, 7, 7, 7};
+    double pixels[3] = {0.5, 0.5, 0.5};
+    memcpy(file, EXAMPLE, sizeof EXAMPLE);
+    memcpy(file + place, "5e-x", 4);
+    checks("a typo is 9", file, length, 9, place);
+    memcpy(file + place, "5e99", 4);
+    checks("a number that is too large is 25", file, length, 25, place);
+    const struct clf_read r = clf_read_file((const uint8_t *)file, length, coefficients, 4, powers, 4);
+    expect("reading it is 25", r.number == 25 && r.place == place && r.nodes == 0 && r.numbers == 0);
+    expect("and its room is zeroed", all_zero(coefficients, powers, 0, 4));
+    const struct clf_check c = clf_apply((const uint8_t *)file, length, coefficients, 4, powers, 4, pixels, 3);
+    expect("applying it is 25", c.number == 25 && c.place == place && pixels[0] == 0.5 && pixels[1] == 0.5 && pixels[2] == 0.5);
+    memcpy(file + place, "5e22", 4);
+    checks("the largest power is held", file, length, 0, 0);
+}
+
 /* Every beginning of the example is 1 at its length, but for those that lack only white space behind the root. */
 static void beginnings(void)
 {
@@ -160,6 +183,7 @@ int main(void)
     checks("no declaration", "x", 1, 3, 0);
     checks("another root", "<?xml version=\"1.0\" encoding=\"UTF-8\"?><a>", 41, 5, 38);
     reads();
+    tokens();
     applies();
     beginnings();
     sizes();
