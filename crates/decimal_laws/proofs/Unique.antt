@@ -18,7 +18,7 @@ use Rattle.decimal_read.proofs.Stands.{Small}
 use Rattle.decimal_read.proofs.Ranged.{sub-lt, sub-ge, size-with}
 use Rattle.decimal_read.proofs.Settled.{own-pair, normal-zero, normal-other}
 use Rattle.decimal_laws.specs.Value.{up, down, Same, said, Normal}
-use Rattle.decimal_read.specs.RightForm.{saidBy}
+use Rattle.decimal_read.specs.RightForm.{formSaid}
 use Rattle.decimal_read.specs.Told.{Accepted}
 use Rattle.decimal_read.proofs.RightForms.{right-form}
 use Rattle.decimal_laws.proofs.Accepted.{accepted, form-small}
@@ -87,8 +87,8 @@ pub one-number : (t u : List ℕ) (d e : Decimal) (f g : Form) → tokenOf t ≡
 one-number t u d e f g p q v w s =
     let a : Accepted t d = accepted t d p in
     let b : Accepted u e = accepted u e q in
-    let k : normal (saidBy t (a .right)) ≡ normal f = ap normal (Option·some-injective (saidBy t (a .right)) f (sym (right-form t (a .right)) ∙ v)) in
-    let l : normal (saidBy u (b .right)) ≡ normal g = ap normal (Option·some-injective (saidBy u (b .right)) g (sym (right-form u (b .right)) ∙ w)) in
+    let k : normal (formSaid t (a .right)) ≡ normal f = ap normal (Option·some-injective (formSaid t (a .right)) f (sym (right-form t (a .right)) ∙ v)) in
+    let l : normal (formSaid u (b .right)) ≡ normal g = ap normal (Option·some-injective (formSaid u (b .right)) g (sym (right-form u (b .right)) ∙ w)) in
     a .is ∙ k ∙ one-normal f g (form-small t f v) (form-small u g w) s ∙ sym (b .is ∙ l)
 
 -- ── What is accepted is in normal form ──
@@ -119,4 +119,4 @@ form-normal f small h = go (eqb (digitsNumber f) 0) refl
 pub in-normal : (t : List ℕ) (d : Decimal) → tokenOf t ≡ Number d → Normal d
 in-normal t d e =
     let a : Accepted t d = accepted t d e in
-    subst Normal (sym (a .is)) (form-normal (saidBy t (a .right)) (form-small t (saidBy t (a .right)) (right-form t (a .right))) (ap D.inRange (sym (a .is)) ∙ a .within))
+    subst Normal (sym (a .is)) (form-normal (formSaid t (a .right)) (form-small t (formSaid t (a .right)) (right-form t (a .right))) (ap D.inRange (sym (a .is)) ∙ a .within))

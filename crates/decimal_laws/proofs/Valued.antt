@@ -20,7 +20,7 @@ use Rattle.decimal_read.proofs.Ranged.{size-with}
 use Rattle.decimal_read.proofs.Settled.{own-pair, normal-zero, normal-other}
 use Rattle.decimal_laws.specs.Value.{up, down, Same, isNegative, said, held}
 use Rattle.decimal_read.specs.Told.{Accepted, Beyond}
-use Rattle.decimal_read.specs.RightForm.{saidBy}
+use Rattle.decimal_read.specs.RightForm.{formSaid}
 use Rattle.decimal_read.proofs.RightForms.{right-form}
 use Rattle.decimal_read.proofs.Told.{tells-apart}
 use Rattle.decimal_laws.proofs.Accepted.{accepted, form-small}
@@ -78,11 +78,11 @@ module _ (f : Form) (small : Small (f .whole ++ f .fraction)) where
 pub value : (t : List ℕ) (d : Decimal) → tokenOf t ≡ Number d → (f : Form) × (formOf t ≡ some f) × Same (said f) (held d)
 value t d e =
     let a : Accepted t d = accepted t d e in
-    let f : Form = saidBy t (a .right) in
+    let f : Form = formSaid t (a .right) in
     (f, right-form t (a .right), subst (λ (x : Decimal). Same (said f) (held x)) (sym (a .is)) (normal-same f (form-small t f (right-form t (a .right)))))
 
 -- and one out of bounds says the coefficient times 10 to the power of the pair that is beyond the limits, if it is not the token that is too long
-pub beyond : (t : List ℕ) → tokenOf t ≡ OutOfBounds → (b : Beyond t) × Same (said (saidBy t (b .right))) (held (normal (saidBy t (b .right))))
+pub beyond : (t : List ℕ) → tokenOf t ≡ OutOfBounds → (b : Beyond t) × Same (said (formSaid t (b .right))) (held (normal (formSaid t (b .right))))
 beyond t e =
     let b : Beyond t = (tells-apart t .outOfBounds) .0 e in
-    (b, normal-same (saidBy t (b .right)) (form-small t (saidBy t (b .right)) (right-form t (b .right))))
+    (b, normal-same (formSaid t (b .right)) (form-small t (formSaid t (b .right)) (right-form t (b .right))))

@@ -11,7 +11,7 @@ use lib.Dec.{leb, eqb}
 use lib.ListN.{length, length-map}
 use Rattle.decimal_read.specs.Number.{isDigit, isMark, isMinus, behindSign, digitsOf, behindDigits, fractionOf, behindFraction, isEmpty, isExponent, exponentMinus, exponentDigits, Form, formOf}
 use Rattle.decimal_read.specs.RightForm.{Digits, Sign, unsigned, minus, plus, Mantissa, whole, pointed, Exponential, unscaled, scaled, RightForm}
-use Rattle.decimal_read.specs.RightForm.{numerals, isNegative, wholeSaid, fractionSaid, downSaid, exponentSaid, saidBy}
+use Rattle.decimal_read.specs.RightForm.{numerals, isNegative, wholeSaid, fractionSaid, downSaid, exponentSaid, formSaid}
 
 -- ── Tests that are both true ──
 
@@ -404,7 +404,7 @@ module _ (t : List ℕ) (r : RightForm t) where
   behind-all : behindFraction (behindDigits (behindSign t)) ≡ r .exponent
   behind-all = ap (λ (l : List ℕ). behindFraction (behindDigits l)) behind-sign ∙ standing .rest
 
-  parts-said : partsOf t ≡ saidBy t r
+  parts-said : partsOf t ≡ formSaid t r
   parts-said =
       let a : isMinus t ≡ isNegative (r .sign) (r .signed) = ap isMinus (r .is) ∙ sign-says (r .sign) rest-of (r .signed) (standing .bare) in
       let b : digitsOf (behindSign t) ≡ wholeSaid (r .mantissa) (r .digits) = ap digitsOf behind-sign ∙ standing .whole in
@@ -413,5 +413,5 @@ module _ (t : List ℕ) (r : RightForm t) where
       let e : exponentDigits (behindFraction (behindDigits (behindSign t))) ≡ exponentSaid (r .exponent) (r .ends) = ap exponentDigits behind-all ∙ ending .says in
       λ i. record { negative = a i; whole = b i; fraction = c i; down = d i; exponent = e i }
 
-  pub right-form : formOf t ≡ some (saidBy t r)
+  pub right-form : formOf t ≡ some (formSaid t r)
   right-form = form-is t ∙ ap (λ (v : Bool). cond v (some (partsOf t)) none) to-test ∙ ap some parts-said

@@ -14,7 +14,7 @@ use Rattle.decimal.specs.declared.Decimal.{Decimal}
 use Rattle.decimal.specs.declared.Token.{Token}
 use Rattle.decimal.specs.declared.Token.the-variants.{Number, Malformed, OutOfBounds}
 use Rattle.decimal_read.specs.Number.{Form, formOf, normal, tokenBy, tokenOf}
-use Rattle.decimal_read.specs.RightForm.{RightForm, saidBy}
+use Rattle.decimal_read.specs.RightForm.{RightForm, formSaid}
 use Rattle.decimal_read.specs.Told.{Accepted, Beyond, TellsApart}
 use Rattle.decimal_read.proofs.RightForms.{form-right, right-form}
 
@@ -65,12 +65,12 @@ module _ (t : List ℕ) where
   }
     where
       wrong : {X : Type 0} → RightForm t → X
-      wrong r = absurd (Option·none-ne-some (saidBy t r) (sym q ∙ right-form t r))
+      wrong r = absurd (Option·none-ne-some (formSaid t r) (sym q ∙ right-form t r))
 
   module _ (f : Form) (q : formOf t ≡ some f) where
     -- every way to part the token into pieces says the form that the reader finds
-    only : (r : RightForm t) → normal f ≡ normal (saidBy t r)
-    only r = ap normal (Option·some-injective f (saidBy t r) (sym q ∙ right-form t r))
+    only : (r : RightForm t) → normal f ≡ normal (formSaid t r)
+    only r = ap normal (Option·some-injective f (formSaid t r) (sym q ∙ right-form t r))
 
     right : RightForm t
     right = form-right t f q

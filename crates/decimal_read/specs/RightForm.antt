@@ -73,8 +73,8 @@ exponentSaid l (unscaled e) = []
 exponentSaid l (scaled mark sign digits m s d low high e) = numerals digits
 
 -- all of it, as `normal` takes it
-abbrev pub saidBy : (t : List ℕ) → RightForm t → Form
-saidBy t r = record {
+abbrev pub formSaid : (t : List ℕ) → RightForm t → Form
+formSaid t r = record {
   negative = isNegative (r .sign) (r .signed);
   whole = wholeSaid (r .mantissa) (r .digits);
   fraction = fractionSaid (r .mantissa) (r .digits);

@@ -26,14 +26,16 @@ inArray text = opening ++ bytes "<Matrix inBitDepth=\"8i\" outBitDepth=\"8i\"><A
 abbrev pub inSlope : String → List ℕ
 inSlope text = opening ++ bytes "<ASC_CDL inBitDepth=\"32f\" outBitDepth=\"32f\"><SOPNode><Slope>" ++ bytes text
 
--- number and place of reading into room for 40 numbers
+-- a refusal number, 0 for accepted, and its place
 pub record Answer : Type 0 where
   pub number : ℕ
   pub place : ℕ
 
+-- what reading a file into room for 40 numbers answers
 abbrev pub outcome : List ℕ → Answer
 outcome file = record { number = readingNumber (read 40 file); place = readingPlace (read 40 file) }
 
+-- this number at this place
 abbrev pub answer : ℕ → ℕ → Answer
 answer number place = record { number = number; place = place }
 
@@ -169,6 +171,7 @@ large = inArray (bytes "1e23 ")
 abbrev pub typo : List ℕ
 typo = inArray (bytes "0.5x ")
 
+-- what the check program prints for each
 unfoldable pub lines : List (List ℕ)
 lines = checkText large ∷ checkText typo ∷ []
 
@@ -187,6 +190,7 @@ checks =
 unfoldable pub checksAnswers : List FileCheck
 checksAnswers = checkSaying 25 137 ∷ checkSaying 9 137 ∷ checkSaying 25 137 ∷ checkSaying 25 137 ∷ []
 
+-- for C: reading, which gives no nodes
 unfoldable pub reads : List FileRead
 reads = fileReadOf (read 40 large) ∷ []
 

@@ -98,7 +98,7 @@ pub record NumbersRead (n : ℕ) (p : Parser (List Decimal)) (s : List ℕ) (at 
   pub counted : Counted n r xs
   pub room : m₁ ≡ roomAfter base r xs m₀
 
--- the same before the room is cleared at a fault: the numbers read before it stand there
+-- the same before the room is cleared: at a fault some numbers, whichever, stand there from `base` on, and nothing else has changed
 pub record NumbersStored (n : ℕ) (p : Parser (List Decimal)) (s : List ℕ) (at base : ℕ) (r : Scan) (m₀ m₁ : Room) : Type 0 where
   pub xs : List Decimal
   pub out : scanOut (λ e. xs) s r ≡ p (drop at s)
