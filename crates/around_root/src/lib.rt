@@ -1,3 +1,5 @@
+#![tactic(auto)]
+
 // What may stand around ProcessList: the declaration, white space and comments before the root and behind it.
 ghost use Rattle.std.specs.Prelude.{◌≡◌, ◌<◌, length};
 ghost use Rattle.xml.specs.Code.{Reads, ReadsFrom, no_value};

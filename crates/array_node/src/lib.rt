@@ -1,3 +1,5 @@
+#![tactic(auto)]
+
 // Matrix, LUT1D and LUT3D: Descriptions, then one Array, whose numbers go into the table room from `base` on.
 ghost use Rattle.std.specs.Prelude.{◌≡◌, cond, ◌+◌, ◌≤◌, length};
 ghost use Rattle.xml.specs.Bytes.{bytes};
@@ -20,7 +22,7 @@ use values::Rule;
 use xml::Scan;
 
 // The three nodes that hold an Array.
-#[derive(Drop)]
+#[derive(Clone, Copy)]
 pub enum TableNode {
     Matrix,
     Lut1d,
@@ -28,7 +30,7 @@ pub enum TableNode {
 }
 
 // The same behind the start tag, which says a LUT3D's method.
-#[derive(Drop)]
+#[derive(Clone, Copy)]
 enum TableKind {
     Matrix,
     Lut1d,
@@ -36,7 +38,7 @@ enum TableKind {
 }
 
 // The content of such a node so far: its Array's shape, if the Array was there.
-#[derive(Drop)]
+#[derive(Clone, Copy)]
 pub struct ArrayStep {
     pub scan: Scan,
     pub found: bool,
@@ -44,13 +46,13 @@ pub struct ArrayStep {
 }
 
 // An Array, and the shape that its `dim` says.
-#[derive(Drop)]
+#[derive(Clone, Copy)]
 pub struct TableStep {
     pub scan: Scan,
     pub kind: Kind,
 }
 
-#[derive(Drop)]
+#[derive(Clone, Copy)]
 pub enum KindRead {
     Is(Kind),
     Other,

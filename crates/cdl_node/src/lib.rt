@@ -1,3 +1,5 @@
+#![tactic(auto)]
+
 // ASC_CDL: Descriptions, then an optional SOPNode, then an optional SatNode.
 ghost use Rattle.std.specs.Prelude.{◌≡◌, cond, ◌||◌, List, [], ◌+◌, ◌≤◌, ltb, length};
 ghost use Rattle.decimal.specs.declared.Decimal as Decimals;
@@ -22,14 +24,14 @@ use values::Rule;
 use xml::Scan;
 
 // The part of an ASC_CDL that is read: its SOPNode or its SatNode.
-#[derive(Drop)]
+#[derive(Clone, Copy)]
 enum CdlPart {
     Sop,
     Sat,
 }
 
 // The content of an ASC_CDL so far: whether its SOPNode and SatNode were there.
-#[derive(Drop)]
+#[derive(Clone, Copy)]
 pub struct CdlStep {
     pub scan: Scan,
     pub sop: bool,

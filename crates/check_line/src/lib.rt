@@ -1,3 +1,5 @@
+#![tactic(auto)]
+
 // The line that the check program prints (document 01, The written form): `accepted N nodes M numbers`, `refusal K at P`, or
 // `too long` for more than 65,536 bytes of input.
 ghost use Rattle.std.specs.Prelude.{◌≡◌, ◌++◌};
@@ -9,7 +11,7 @@ use reading::Answer;
 use text_out::{put, put_digits};
 
 // A line's bytes, then zeros, and how many bytes it has.
-#[derive(Drop)]
+#[derive(Clone, Copy)]
 pub struct Line {
     pub bytes: [u8; 80],
     pub length: usize,

@@ -1,1 +1,3 @@
+#![tactic(auto)]
+
 // No code: the definition of the carried file (specs/).

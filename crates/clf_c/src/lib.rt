@@ -1,3 +1,5 @@
+#![tactic(auto)]
+
 // The functions for C: the file check on plain bytes, reading into lent room, and running pixels through a file's list. See capi/clf.h.
 ghost use Rattle.std.specs.Prelude.{◌≡◌, false};
 ghost use Rattle.room.specs.Room.{lent};
@@ -7,7 +9,7 @@ ghost use Rattle.clf_c.specs.Applying.{slice_refused, Applies};
 
 // What the file check answers: the refusal number, 0 for accepted, and its place.
 #[repr(C)]
-#[derive(Drop)]
+#[derive(Clone, Copy)]
 pub struct FileCheck {
     pub number: u64,
     pub place: u64,
@@ -15,7 +17,7 @@ pub struct FileCheck {
 
 // What reading answers: the refusal number and its place, and how many nodes and numbers the list has.
 #[repr(C)]
-#[derive(Drop)]
+#[derive(Clone, Copy)]
 pub struct FileRead {
     pub number: u64,
     pub place: u64,

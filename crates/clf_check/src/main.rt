@@ -1,3 +1,5 @@
+#![tactic(auto)]
+
 // The check program: reads a file from standard input and prints whether it is accepted, or its refusal number and place.
 use libc::{STDIN_FILENO, STDOUT_FILENO};
 

@@ -12,7 +12,7 @@ use tags::part;
 
 // What the commands work on beside the table room's memory: the list, and the length of the room. The room ends with the shorter of its two
 // slices, so that one of them, cut, makes a room of this length.
-#[derive(Drop)]
+#[derive(Clone, Copy)]
 pub struct State {
     pub list: ProcessList,
     pub room: usize,

@@ -1,3 +1,5 @@
+#![tactic(auto)]
+
 // The line protocol: each line of standard input is a command, answered by one line on standard output (tests/PROTOCOL.md). A line
 // that is longer than the buffer is answered `too long`.
 
@@ -14,7 +16,7 @@ use tags::part;
 
 // A line of the input: it stands in the buffer from `start` up to `stop`, or is dropped since it was too long; `some` is false where there is
 // none, at the end of the input. The next line starts at `next`, and the buffer holds the bytes before `end`.
-#[derive(Drop)]
+#[derive(Clone, Copy)]
 struct Line {
     start: usize,
     stop: usize,
@@ -25,7 +27,7 @@ struct Line {
 }
 
 // The beginning of a line: how many bytes of it stand at the start of the buffer, and whether it is too long and its bytes are dropped.
-#[derive(Drop)]
+#[derive(Clone, Copy)]
 struct Kept {
     held: usize,
     dropped: bool,

@@ -7,7 +7,7 @@ use shell_text::words::{bits, number};
 use tags::part;
 
 // What the words of a line are: so many numbers, which stand in the room; one of them is malformed; or they are more than the room has.
-#[derive(Drop)]
+#[derive(Clone, Copy)]
 enum WordsRead {
     Numbers(usize),
     Malformed,

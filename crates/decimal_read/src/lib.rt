@@ -1,3 +1,5 @@
+#![tactic(auto)]
+
 // The reader of a number token (document 01, Numbers), in one pass over its bytes: maybe a sign, digits with or without a point, maybe
 // an exponent. `number` is the reader; every other function is a step of it.
 ghost use Rattle.std.specs.Prelude.{◌≡◌, ◌+◌, ◌-◌, ◌≤◌, ◌<◌, ◌^◌, length, drop, pos, ◌-ℤ◌};
@@ -9,14 +11,14 @@ use decimal::{Decimal, Token};
 
 // What the digits read so far say. Below 10^18, `value` is their number. From then on a digit 0 is counted in `dropped`, and any other
 // digit makes `value` 10^18 + 1, a number out of range.
-#[derive(Drop)]
+#[derive(Clone, Copy)]
 struct Held {
     value: u64,
     dropped: usize,
 }
 
 // A run of digits: what they say behind the digits before, how many they are, and the place behind them.
-#[derive(Drop)]
+#[derive(Clone, Copy)]
 struct Run {
     held: Held,
     count: usize,
@@ -24,7 +26,7 @@ struct Run {
 }
 
 // The exponent: so many powers of ten up or down, or bytes that are no exponent.
-#[derive(Drop)]
+#[derive(Clone, Copy)]
 enum Exponent {
     Up(u8),
     Down(u8),
@@ -32,7 +34,7 @@ enum Exponent {
 }
 
 // A number without the zeros at its end, and how many there were.
-#[derive(Drop)]
+#[derive(Clone, Copy)]
 struct Stripped {
     coefficient: u64,
     zeros: usize,

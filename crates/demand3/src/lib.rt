@@ -1,3 +1,5 @@
+#![tactic(auto)]
+
 // Demand 3 of the code: a file is read, then any run of replacing calls is made, numbered ones among them, each on list and room as the last one left them. What is promised of the whole run
 // is the contract here.
 ghost use Rattle.room.specs.Room.{lent};
@@ -7,7 +9,7 @@ ghost use Rattle.demand3.specs.Demand as Demand;
 use process_list::ProcessList;
 
 // What reading answered, and the list as the last call left it.
-#[derive(Drop)]
+#[derive(Clone, Copy)]
 pub struct RunRead {
     pub number: u8,
     pub place: usize,

@@ -1,3 +1,5 @@
+#![tactic(auto)]
+
 // Where the Description of a node stands in a file: the first child inside the node, if it is one.
 ghost use Rattle.std.specs.Prelude.{◌≡◌, ◌≤◌, true, length, drop};
 ghost use Rattle.tags.specs.Code.{part_in};
@@ -9,7 +11,7 @@ use tags::TagEnd;
 use xml::Scan;
 
 // A part of a file: the place of its first byte, and how many bytes it has.
-#[derive(Drop)]
+#[derive(Clone, Copy)]
 pub struct Part {
     pub start: usize,
     pub length: usize,

@@ -1,3 +1,5 @@
+#![tactic(auto)]
+
 // The element of a replacing call (document 01, Replacing): its start, by the seven node names, and the node behind its name.
 ghost use Rattle.std.specs.Prelude.{◌≡◌};
 ghost use Rattle.room.specs.Room.{lent};
@@ -11,7 +13,7 @@ use nodes::{CarriedNode, NodeName};
 use xml::Scan;
 
 // How the start of an element reads, and the node that it names.
-#[derive(Drop)]
+#[derive(Clone, Copy)]
 struct StartStep {
     pub scan: Scan,
     pub name: NodeName,

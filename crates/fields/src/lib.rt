@@ -1,16 +1,18 @@
+#![tactic(auto)]
+
 // Fields of a line of text: words parted by spaces, and the number that a word says.
 ghost use Rattle.std.specs.Prelude.{◌≡◌, ◌≤◌};
 ghost use Rattle.fields.specs.Fields.{start_from, end_from, field_from, with_digit, word_number};
 
 // Where a field stands in its line: from `start` up to `end`.
-#[derive(Drop)]
+#[derive(Clone, Copy)]
 pub struct Field {
     pub start: usize,
     pub end: usize,
 }
 
 // What a word says as a number: one larger than a usize holds counts as the largest of them.
-#[derive(Drop)]
+#[derive(Clone, Copy)]
 pub enum Parsed {
     Number(usize),
     Malformed,

@@ -7,6 +7,7 @@ use native.Mathlib.Omega.{arith}
 use lib.ListN.{set}
 use borrow.Author.Tests.{lt-ltb, le-ltb}
 use types.Run.{OneOf}
+use borrow.Enum.Refused.{Among, opened}
 use denote.Enum.Declared.{tag_of}
 use Rattle.process_list.specs.declared.Node.{Node}
 use Rattle.process_list.specs.declared.ProcessList.{ProcessList}
@@ -27,13 +28,17 @@ module _ (list : ProcessList) (x : FoundChild) (n : Node) where
   unfolding Lists.appended
   list_full e h = sym (ap (λ (y : FoundChild). list_with list y n) e ∙ rw (le-ltb _ _ h))
 
+any_other : (list : ProcessList) (x : FoundChild) (n : Node) → OneOf (1 ∷ 2 ∷ 3 ∷ 4 ∷ []) (tag_of the_type x) → list ≡ list_with list x n
+any_other list Found.Node n (inl q) = absurd (omega arith)
+any_other list Found.Node n (inr (inl q)) = absurd (omega arith)
+any_other list Found.Node n (inr (inr (inl q))) = absurd (omega arith)
+any_other list Found.Node n (inr (inr (inr q))) = absurd (omega arith)
+any_other list Found.InputDescriptor n h = refl
+any_other list Found.OutputDescriptor n h = refl
+any_other list Found.Info n h = refl
+any_other list Found.Other n h = refl
+
+
 -- any child but a node
-pub list_same : (list : ProcessList) (x : FoundChild) (n : Node) → OneOf (1 ∷ 2 ∷ 3 ∷ 4 ∷ []) (tag_of the_type x) → list ≡ list_with list x n
-list_same list Found.Node n (inl q) = absurd (omega arith)
-list_same list Found.Node n (inr (inl q)) = absurd (omega arith)
-list_same list Found.Node n (inr (inr (inl q))) = absurd (omega arith)
-list_same list Found.Node n (inr (inr (inr q))) = absurd (omega arith)
-list_same list Found.InputDescriptor n h = refl
-list_same list Found.OutputDescriptor n h = refl
-list_same list Found.Info n h = refl
-list_same list Found.Other n h = refl
+pub list_same : (list : ProcessList) (x : FoundChild) (n : Node) → Among (1 ∷ 2 ∷ 3 ∷ 4 ∷ []) (tag_of the_type x) → list ≡ list_with list x n
+list_same list x n h = any_other list x n (opened h)

@@ -1,3 +1,5 @@
+#![tactic(auto)]
+
 // The text of a CLF file: the declaration, ProcessList with its children, and what may stand around it.
 ghost use Rattle.std.specs.Prelude.{◌≡◌, ◌+◌, ◌<◌, length, drop};
 ghost use Rattle.room.specs.Room.{lent};
@@ -16,7 +18,7 @@ use xml::Scan;
 // ProcessList so far: its nodes, the first 32 of them; whether there were more; how many numbers they have, counted no further than
 // one more than may be; which of the children that may not repeat have been there; and where the `<` of the node that is wanted stands,
 // 0 where it has not been.
-#[derive(Drop)]
+#[derive(Clone, Copy)]
 pub struct ListState {
     pub list: ProcessList,
     pub over: bool,
@@ -28,14 +30,14 @@ pub struct ListState {
 }
 
 // How the text reads, and what it has held so far.
-#[derive(Drop)]
+#[derive(Clone, Copy)]
 pub struct ListStep {
     pub scan: Scan,
     pub state: ListState,
 }
 
 // What is kept beside the list while its children are read: all of `ListState` but the list itself, which is large and stays where it is.
-#[derive(Drop)]
+#[derive(Clone, Copy)]
 struct Progress {
     over: bool,
     used: usize,
@@ -46,7 +48,7 @@ struct Progress {
 }
 
 // A child of ProcessList, by what it changes: a node, one of those that may not repeat, or any other, which changes nothing.
-#[derive(Drop)]
+#[derive(Clone, Copy)]
 enum FoundChild {
     Node,
     InputDescriptor,
@@ -56,7 +58,7 @@ enum FoundChild {
 }
 
 // How a child reads, which one it is, and its node, a blank one where it is none.
-#[derive(Drop)]
+#[derive(Clone, Copy)]
 struct ChildStep {
     scan: Scan,
     child: FoundChild,

@@ -1,3 +1,5 @@
+#![tactic(auto)]
+
 // Reads each file that the file `index` names, into room for the count of numbers that stands behind its name there, and prints a line
 // for each: its name, the refusal number and place, how many nodes its list has, and how many numbers.
 ghost use Rattle.std.specs.Prelude.{◌≤◌, ◌<◌};

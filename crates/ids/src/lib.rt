@@ -1,3 +1,5 @@
+#![tactic(auto)]
+
 // Ids: which texts are ids, and how a node holds its own (document 02, W-203): 32 places, the bytes of the id, then zeros.
 ghost use Rattle.std.specs.Prelude.{◌≡◌, ◌&&◌, length};
 ghost use Rattle.xml.specs.Bytes as Bytes;

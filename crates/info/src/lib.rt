@@ -1,3 +1,5 @@
+#![tactic(auto)]
+
 // Text-only elements and Info: what is passed over.
 ghost use Rattle.std.specs.Prelude.{◌<◌, length};
 ghost use Rattle.xml.specs.Elements as Elements;
@@ -8,7 +10,7 @@ use tags::TagEnd;
 use xml::Scan;
 
 // What stands inside Info, by its first bytes: text, an `&` form or a comment, which are passed; an end tag; or a child.
-#[derive(Drop)]
+#[derive(Clone, Copy)]
 enum Piece {
     Passed(Scan),
     End,

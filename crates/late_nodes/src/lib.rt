@@ -1,3 +1,5 @@
+#![tactic(auto)]
+
 // Late nodes (document 02, W-208), of the code: what the numbers of replacing calls promise, of one call and of a run of them.
 ghost use Rattle.room.specs.Room.{lent};
 ghost use Rattle.replacing.specs.Code.{look_of};

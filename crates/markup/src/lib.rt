@@ -1,3 +1,5 @@
+#![tactic(auto)]
+
 // Tags and what stands between them: end tags, what begins between elements, and what may not stand behind text or numbers.
 ghost use Rattle.std.specs.Prelude.{◌≡◌, ◌+◌, ◌<◌, length};
 ghost use Rattle.xml.specs.Xml as Xml;
@@ -10,7 +12,7 @@ ghost use Rattle.markup.specs.Next.{NextReads};
 use xml::Scan;
 
 // What stands between elements: white space or a comment up to a place; a start tag, whose name ends at a place; an end tag; or none of these.
-#[derive(Drop)]
+#[derive(Clone, Copy)]
 pub enum Item {
     Misc(usize),
     StartTag(usize),
@@ -20,7 +22,7 @@ pub enum Item {
 }
 
 // The next tag behind white space and comments: a start tag, by its `<` and its name's end; an end tag, by its `<`; or what stands there and is at fault or cut short.
-#[derive(Drop)]
+#[derive(Clone, Copy)]
 pub enum NextTag {
     Start(usize, usize),
     End(usize),

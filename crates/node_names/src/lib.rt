@@ -1,3 +1,5 @@
+#![tactic(auto)]
+
 // The names of nodes and of bit depths, as the written form and the console's answers have them.
 ghost use Rattle.std.specs.Prelude.{◌++◌};
 ghost use Rattle.text_out.specs.Output.{Puts};

@@ -1,3 +1,5 @@
+#![tactic(auto)]
+
 // What the nodes share: depths, the record of a node, what is left of one at a fault, and small rooms.
 ghost use Rattle.std.specs.Prelude.{◌≡◌};
 ghost use Rattle.xml.specs.Bytes.{same, bytes};
@@ -16,7 +18,7 @@ use tags::{Attributes, DepthRead, Span};
 use xml::Scan;
 
 // A node: how it reads, and what the list holds of it but for the position.
-#[derive(Drop)]
+#[derive(Clone, Copy)]
 pub struct NodeStep {
     pub scan: Scan,
     pub node: Node,

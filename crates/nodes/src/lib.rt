@@ -1,3 +1,5 @@
+#![tactic(auto)]
+
 // A node by its name.
 ghost use Rattle.std.specs.Prelude.{◌≡◌};
 ghost use Rattle.room.specs.Room.{lent};
@@ -9,7 +11,7 @@ use array_node::TableNode;
 use node_parts::NodeStep;
 
 // The nodes that are carried.
-#[derive(Drop)]
+#[derive(Clone, Copy)]
 pub enum CarriedNode {
     Matrix,
     Lut1d,
@@ -19,7 +21,7 @@ pub enum CarriedNode {
 }
 
 // A node's name: of a node that is carried, of one that CLF knows and is not carried, or no node's.
-#[derive(Drop)]
+#[derive(Clone, Copy)]
 pub enum NodeName {
     Carried(CarriedNode),
     NotCarried,

@@ -1,3 +1,5 @@
+#![tactic(auto)]
+
 // Runs the number reader over the tokens of the file `tokens`, one a line. It writes a line for each token, `coefficient:power` or the
 // refusal number, 9 or 25, and then how many tokens there were and how many of them are numbers.
 ghost use Rattle.std.specs.Prelude.{◌≤◌};
@@ -5,7 +7,7 @@ ghost use Rattle.std.specs.Prelude.{◌≤◌};
 use decimal::Token;
 use libc::STDOUT_FILENO;
 
-#[derive(Drop)]
+#[derive(Clone, Copy)]
 struct Counts {
     tokens: u64,
     numbers: u64,

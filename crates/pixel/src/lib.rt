@@ -1,3 +1,5 @@
+#![tactic(auto)]
+
 // What a pixel goes through in a Range, a Matrix and an ASC_CDL (document 01, 'What a pixel goes through'), and in a Range with one end (document 02, W-202).
 ghost use Rattle.std.specs.Prelude.{◌≡◌, true, T};
 ghost use Rattle.std.specs.Float.Ieee.{lt, le};
@@ -16,7 +18,7 @@ ghost use Rattle.pixel.specs.Cdl as Cdl;
 use process_list::RangeEnd;
 
 // A pixel travels as one record of three f64: its code values.
-#[derive(Drop)]
+#[derive(Clone, Copy)]
 pub struct Pixel {
     pub r: f64,
     pub g: f64,
@@ -24,15 +26,15 @@ pub struct Pixel {
 }
 
 // A code value counts in a node's depth.
-#[derive(Drop)]
+#[derive(Clone, Copy)]
 pub struct CodeValue(pub f64);
 
 // A fraction runs from black to full scale.
-#[derive(Drop)]
+#[derive(Clone, Copy)]
 pub struct Fraction(pub f64);
 
 // A pixel's three components as fractions.
-#[derive(Drop)]
+#[derive(Clone, Copy)]
 pub struct Fractions {
     pub r: Fraction,
     pub g: Fraction,

@@ -1,3 +1,5 @@
+#![tactic(auto)]
+
 // What a pixel goes through in a LUT3D (document 02, W-201), whose entries are numbers of the table room.
 ghost use Rattle.std.specs.Prelude.{◌≡◌, [], ◌∷◌, ◌≤◌, ◌<◌};
 ghost use Rattle.room.specs.Room.{lent};
@@ -11,7 +13,7 @@ use pixel::{CodeValue, Fractions, Pixel};
 use pixel_lut::AxisPlace;
 use process_list::Interpolation;
 
-#[derive(Drop)]
+#[derive(Clone, Copy)]
 pub enum Axis {
     Red,
     Green,
@@ -19,7 +21,7 @@ pub enum Axis {
 }
 
 // A corner of a cell, by its index on each axis. Behind the last index there is no entry; a corner that is used has one.
-#[derive(Drop)]
+#[derive(Clone, Copy)]
 pub struct Corner {
     pub red: usize,
     pub green: usize,
@@ -27,7 +29,7 @@ pub struct Corner {
 }
 
 // The cell of the table in which a pixel lies: its place on each axis.
-#[derive(Drop)]
+#[derive(Clone, Copy)]
 struct Cell {
     red: AxisPlace,
     green: AxisPlace,
@@ -35,7 +37,7 @@ struct Cell {
 }
 
 // The three axes in the order in which they are taken.
-#[derive(Drop)]
+#[derive(Clone, Copy)]
 struct Order {
     first: Axis,
     second: Axis,
@@ -43,14 +45,14 @@ struct Order {
 }
 
 // A step along an axis: how far, and the corner to which it leads. With part 0 there is no step, and it is the corner before.
-#[derive(Drop)]
+#[derive(Clone, Copy)]
 struct Leg {
     part: f64,
     to: Corner,
 }
 
 // The walk of the tetrahedral method from the low corner on.
-#[derive(Drop)]
+#[derive(Clone, Copy)]
 struct Walk {
     low: Corner,
     first: Leg,
@@ -59,7 +61,7 @@ struct Walk {
 }
 
 // How far a walk has come on one component: the sum, the entry of the last corner, and the smallest and the largest entry so far.
-#[derive(Drop)]
+#[derive(Clone, Copy)]
 struct Sum {
     sum: f64,
     before: f64,

@@ -1,3 +1,5 @@
+#![tactic(auto)]
+
 // What a pixel goes through in a LUT1D (document 01, 'What a pixel goes through'), whose entries are numbers of the table room.
 ghost use Rattle.std.specs.Prelude.{◌≡◌, ◌+◌, ◌*◌, ◌<◌, ◌≤◌, true, T, nat_le};
 ghost use Rattle.std.specs.Float.Ieee.{le};
@@ -10,7 +12,7 @@ ghost use Rattle.pixel_lut.specs.Table as Table;
 use pixel::{CodeValue, Fraction, Fractions, Pixel};
 
 // Where a fraction falls on an axis of entries: `index`, the last entry at or before it, and `part`, how far behind that entry it lies, 0 at the entry itself.
-#[derive(Drop)]
+#[derive(Clone, Copy)]
 pub struct AxisPlace {
     pub index: usize,
     pub part: f64,

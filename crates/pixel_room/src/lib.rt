@@ -1,3 +1,5 @@
+#![tactic(auto)]
+
 // The numbers of the table room as f64: one of them, and the three rows of a Matrix.
 ghost use Rattle.std.specs.Prelude.{◌≡◌, ◌+◌, ◌<◌};
 ghost use Rattle.room.specs.Room.{lent, room_length};

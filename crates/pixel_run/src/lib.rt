@@ -1,3 +1,5 @@
+#![tactic(auto)]
+
 // One prepared node over the pixels of a lent slice, and refusal 15 (document 01, 'What a pixel goes through'; a Range with one end: document 02, W-202).
 ghost use Rattle.std.specs.Prelude.{◌≡◌, false, ◌+◌, ◌<◌, T, length};
 ghost use Rattle.std.specs.Float.Ieee.{le, is_nan};
@@ -21,7 +23,7 @@ use process_list::{Interpolation, RangeEnd};
 
 // A prepared node: Range with its four numbers, CDL with its ten, Matrix, LUT1D and LUT3D with where theirs stand. A Range with one end has its limit alone.
 // clamp: a Range's style is Clamp, an ASC_CDL's is Fwd. wide: a Matrix is 3x4.
-#[derive(Drop)]
+#[derive(Clone, Copy)]
 pub enum Prepared {
     Range {
         min_in: f64,

@@ -1,3 +1,5 @@
+#![tactic(auto)]
+
 // Range: Descriptions, then four values in any order, or one pair of them alone (02, W-202).
 ghost use Rattle.std.specs.Prelude.{◌≡◌, Bool, true, cond, not, ◌&&◌, ◌||◌, ◌+◌, ◌≤◌, length, set};
 ghost use Rattle.process_list.specs.declared.RangeStyle.TheVariants.{Clamp, NoClamp};
@@ -18,7 +20,7 @@ use values::Rule;
 use xml::Scan;
 
 // The content of a Range so far: which of its four values were there.
-#[derive(Drop)]
+#[derive(Clone, Copy)]
 pub struct RangeStep {
     pub scan: Scan,
     pub found: [bool; 4],

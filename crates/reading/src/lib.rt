@@ -1,3 +1,5 @@
+#![tactic(auto)]
+
 // Reading a CLF file: its list and its numbers, its check without room, and a node's Description.
 ghost use Rattle.std.specs.Prelude.{◌≡◌, ltb, length};
 ghost use Rattle.room.specs.Room.{room_length, lent};
@@ -12,7 +14,7 @@ use process_list::{ProcessList, Verdict};
 use xml::Scan;
 
 // What reading answers: the refusal number with its place, and the list.
-#[derive(Drop)]
+#[derive(Clone, Copy)]
 pub struct Answer {
     pub number: u8,
     pub place: usize,
@@ -20,14 +22,14 @@ pub struct Answer {
 }
 
 // What the file check answers.
-#[derive(Drop)]
+#[derive(Clone, Copy)]
 pub struct Checked {
     pub number: u8,
     pub place: usize,
 }
 
 // Whether a file is accepted, or the refusal number with its place.
-#[derive(Drop)]
+#[derive(Clone, Copy)]
 pub enum Judged {
     Accepted,
     Refused(u8, usize),

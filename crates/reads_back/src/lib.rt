@@ -1,3 +1,5 @@
+#![tactic(auto)]
+
 // What is promised of the code together, each as a contract here: a list written out and read back (demand 2), refusal 16 of every function that gives it,
 // the file check beside reading, a Description beside its number.
 ghost use Rattle.look.specs.Replacing.{plain_call, numbered_call};
@@ -11,7 +13,7 @@ use running::Ran;
 use writing::Written;
 
 // What writing answered, and what reading the text answered.
-#[derive(Drop)]
+#[derive(Clone, Copy)]
 pub struct WrittenRead {
     pub wrote: Written,
     pub answer: Answer,
@@ -98,7 +100,7 @@ pub fn replace_numbered_reading(
 }
 
 // What the file check said, and what reading then answered.
-#[derive(Drop)]
+#[derive(Clone, Copy)]
 pub struct CheckedRead {
     pub checked: Checked,
     pub answer: Answer,
@@ -115,7 +117,7 @@ pub fn check_and_read(file: &[u8], coefficients: &mut [i64], powers: &mut [i8]) 
 }
 
 // A Description's number and place, and how many bytes it has.
-#[derive(Drop)]
+#[derive(Clone, Copy)]
 pub struct Described {
     pub checked: Checked,
     pub length: usize,

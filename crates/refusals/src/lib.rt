@@ -1,3 +1,5 @@
+#![tactic(auto)]
+
 // The refusal numbers of document 01 (Refusal numbers) and document 02 (from 23 on), each with its words there. 0 is accepted, and no fault.
 
 // bytes end inside something unfinished or before the root

@@ -1,3 +1,5 @@
+#![tactic(auto)]
+
 // Any run of replacing calls, numbered and unnumbered, each on list and room as the last one left them. What the whole run answers and leaves is the contract here; what follows of it for
 // files and for the order of arrival are the contracts of the crates above.
 ghost use Rattle.std.specs.Prelude.{◌≡◌, min};

@@ -1,3 +1,5 @@
+#![tactic(auto)]
+
 // Replacing a node of a look by an element (document 01, Replacing): 16, 19, 4 (the element alone), then the element's own fault, then 10, 23 (document 02, W-203), 13. A numbered replacement (W-208)
 // may be late: 28, between 19 and 4.
 // The element is read twice: first alone, so that a refusal changes nothing, then into the room.

@@ -1,3 +1,5 @@
+#![tactic(auto)]
+
 // Running pixels through a list (document 01, 'What a pixel goes through'): refusals 16, 14 and 15, then every node over the lent slice.
 ghost use Rattle.std.specs.Prelude.{◌≡◌, true};
 ghost use Rattle.process_list.specs.List as List;
@@ -8,7 +10,7 @@ use pixel_run::Prepared;
 use process_list::{Kind, Node, ProcessList};
 
 // What running answers: a refusal number, 0 for accepted, and its place.
-#[derive(Drop)]
+#[derive(Clone, Copy)]
 pub struct Ran {
     pub number: u8,
     pub place: usize,

@@ -1,3 +1,5 @@
+#![tactic(auto)]
+
 // Start tags: their attributes, and what a tag asks of them.
 ghost use Rattle.std.specs.Prelude.{◌≡◌, cond, ◌&&◌, ◌||◌, ◌+◌, ◌-◌, ◌*◌, ◌≤◌, ◌<◌, min, length, drop};
 ghost use Rattle.xml.specs.Bytes as Bytes;
@@ -15,7 +17,7 @@ use process_list::{Depth, Interpolation};
 use xml::Scan;
 
 // The tags, by what they ask.
-#[derive(Drop)]
+#[derive(Clone, Copy)]
 pub enum TagKind {
     // nothing
     Plain,
@@ -36,7 +38,7 @@ pub enum TagKind {
 }
 
 // The attributes of a tag so far: where the name and the text of each stand.
-#[derive(Drop)]
+#[derive(Clone, Copy)]
 pub struct Attributes {
     pub count: usize,
     pub name_start: [usize; 16],
@@ -46,7 +48,7 @@ pub struct Attributes {
 }
 
 // How a start tag ends: open or empty, with the next place.
-#[derive(Drop)]
+#[derive(Clone, Copy)]
 pub enum TagEnd {
     Open(usize),
     Empty(usize),
@@ -54,14 +56,14 @@ pub enum TagEnd {
     Cut,
 }
 
-#[derive(Drop)]
+#[derive(Clone, Copy)]
 pub struct StartTag {
     pub end: TagEnd,
     pub attributes: Attributes,
 }
 
 // An attribute: where its name ends, and where its text stands.
-#[derive(Drop)]
+#[derive(Clone, Copy)]
 pub enum AttributeRead {
     At {
         name_end: usize,
@@ -73,42 +75,42 @@ pub enum AttributeRead {
 }
 
 // A part of the bytes.
-#[derive(Drop)]
+#[derive(Clone, Copy)]
 pub struct Span {
     pub start: usize,
     pub end: usize,
 }
 
 // Where a node's depths and its id stand.
-#[derive(Drop)]
+#[derive(Clone, Copy)]
 pub struct NodeTexts {
     pub input: Span,
     pub output: Span,
     pub id: Span,
 }
 
-#[derive(Drop)]
+#[derive(Clone, Copy)]
 pub enum DepthRead {
     Is(Depth),
     Other,
 }
 
 // The digits that a text begins with: their number, counted no further than 65,537, and the place behind them.
-#[derive(Drop)]
+#[derive(Clone, Copy)]
 struct Digits {
     value: usize,
     end: usize,
 }
 
 // The shape of a LUT1D's Array by its `dim`.
-#[derive(Drop)]
+#[derive(Clone, Copy)]
 pub enum ShapeRead {
     Is { entries: usize, columns: usize },
     Other,
 }
 
 // The entries of a LUT3D on each axis by its Array's `dim`.
-#[derive(Drop)]
+#[derive(Clone, Copy)]
 pub enum PointsRead {
     Is(usize),
     Other,

@@ -1,3 +1,5 @@
+#![tactic(auto)]
+
 // Text into a lent output, piece by piece: each piece stands from index `at` on, as far as the output goes, and the answer is the index
 // behind it. What does not fit is only counted, so an output without room gives a text's length.
 ghost use Rattle.std.specs.Prelude.{◌≡◌, ◌∷◌, ◌++◌, ◌+◌};

@@ -1,6 +1,6 @@
 -- What refusal 16 comes to: a list and a room are valid exactly if they are what a reading of elements without fault leaves.
 -- `made` has it one way, `parts` the other. Assumes nothing.
-use mathlib.Core.Path.{◌≡◌, refl, sym, ap, ◌∙◌}
+use mathlib.Core.Path.{◌≡◌, refl, sym, ap, ◌∙◌, subst}
 use mathlib.Core.Bool.{Bool, true, false, ◌&&◌}
 use mathlib.Core.List.{List, [], ◌∷◌, ◌++◌, map, map-append, append_assoc}
 use Prim.Native.Nat.{ℕ, zero, suc, ◌+◌, ◌-◌, ◌≤◌}
@@ -197,9 +197,10 @@ module _ (m : Room) where
   elements-back x (e ∷ es) h =
       let p = every-cons sound e es h in
       let w = sound-whole-numbers e p.0 in
-      let a : x ++ (e.numbers ++ all_numbers es) ≡ x ++ e.numbers ++ all_numbers es = sym (append_assoc x e.numbers (all_numbers es)) in
+      let a : x ++ all_numbers (e ∷ es) ≡ x ++ e.numbers ++ all_numbers es = sym (append_assoc x e.numbers (all_numbers es)) in
       let l : length x + numbers_of (node_of e).kind ≡ length (x ++ e.numbers) = rw (head-kind, length-append) (omega arith) in
-      rw (a, l, element-back x e (all_numbers es) p.0, elements-back (x ++ e.numbers) es p.1) refl
+      let P : List Decimal → Type 0 = λ ys. map (element_of (filled_with ys m)) (place_from (length x) (map node_of (e ∷ es))) ≡ e ∷ es in
+      subst P (sym a) (rw (l, element-back x e (all_numbers es) p.0, elements-back (x ++ e.numbers) es p.1) refl)
 
   module _ (es : List Element) (s : every sound es ≡ true) (v : verdict (room_length m) es ≡ Accepted) where
     fine : Fine (room_length m) (map node_of es)

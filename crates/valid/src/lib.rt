@@ -1,3 +1,5 @@
+#![tactic(auto)]
+
 // Refusal 16 (document 01): whether a list and a room are an accepted reading of some file into that room.
 ghost use Rattle.std.specs.Prelude.{◌≡◌, ◌&&◌, ◌+◌, ◌≤◌, ◌<◌, length, drop};
 ghost use Rattle.process_list.specs.List as List;

@@ -1,3 +1,5 @@
+#![tactic(auto)]
+
 // The numbers of value elements and Arrays, stored in the table room as they are read.
 ghost use Rattle.std.specs.Prelude.{◌≡◌, cond, [], ◌∷◌, ◌+◌, leb, ltb};
 ghost use Rattle.decimal.specs.declared.Token.TheVariants as Tokens;
@@ -11,7 +13,7 @@ use tags::TagKind;
 use xml::Scan;
 
 // The rule on each number of an element.
-#[derive(Drop)]
+#[derive(Clone, Copy)]
 pub enum Rule {
     Any,
     NotNegative,
@@ -19,7 +21,7 @@ pub enum Rule {
 }
 
 // A token: the number that it says and its end, or its fault.
-#[derive(Drop)]
+#[derive(Clone, Copy)]
 enum TokenRead {
     Number(Decimal, usize),
     Fault(u8, usize),

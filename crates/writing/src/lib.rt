@@ -1,3 +1,5 @@
+#![tactic(auto)]
+
 // Writing a list (document 01, The written form): 16, 18, 17, then the list's text into a lent output.
 ghost use Rattle.std.specs.Prelude.{◌≡◌, true, length};
 ghost use Rattle.text_out.specs.Output.{counted};
@@ -13,7 +15,7 @@ mod numbers;
 use process_list::ProcessList;
 
 // What writing answers: a refusal number, 0 for accepted, and how many bytes the text has, 0 where it is refused. The place is always 0.
-#[derive(Drop)]
+#[derive(Clone, Copy)]
 pub struct Written {
     pub number: u8,
     pub length: usize,

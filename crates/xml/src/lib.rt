@@ -1,3 +1,5 @@
+#![tactic(auto)]
+
 // XML as document 01 carries it: names, `&` forms, texts, comments. Each function reads a slice from a place on and answers
 // what the grammar of its name in specs/ finds there: the next place, a fault with its number and place, or that the bytes end.
 
@@ -8,7 +10,7 @@ ghost use Rattle.xml.specs.Xml as Xml;
 ghost use Rattle.xml.specs.Code.{Reads, ReadsFrom, NameOr, part, no_value, blamed_scan};
 ghost use Rattle.xml.specs.Among.{among};
 
-#[derive(Drop)]
+#[derive(Clone, Copy)]
 pub enum Scan {
     At(usize),
     Fault(u8, usize),

@@ -1,9 +1,0 @@
--- Assumes nothing.
-use Rattle.decimal_read.specs.Number.{is_digit}
-use borrow.Author.Tests.{le-leb, lt-leb}
-use Rattle.decimal_read.proofs.is_digit.Statement.{statement}
-use Rattle.decimal_read.proofs.is_digit.Tie as tie
-
-pub is-digit-spec : {M : Type 1} → statement M
-unfolding is_digit
-is-digit-spec = tie.close (tie.spec (λ c. simp (le-leb _ _ c.if1.true)) (λ c. simp (lt-leb _ _ c.if1.false)))

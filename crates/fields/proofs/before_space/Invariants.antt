@@ -1,0 +1,14 @@
+use mathlib.Core.Path.{◌≡◌}
+use Prim.Native.Nat.{◌-◌}
+use lib.ListN.{length, drop}
+use Rattle.scanning.specs.Steps.{scan, one-turn, from-here}
+use Rattle.fields.specs.Fields.{before_space}
+use Rattle.fields.specs.Laws.{before_space-laws}
+use borrow.Author.Rules.{rules}
+use Rattle.fields.proofs.before_space.Given as goal
+
+abbrev pub invariant-loop-i : goal.invariant-loop-i
+invariant-loop-i l = before_space l.at (drop l.at l.line) ≡ before_space l.i (drop l.i l.line)
+
+abbrev pub decreases-loop-i : goal.decreases-loop-i
+decreases-loop-i l = length l.line - l.i

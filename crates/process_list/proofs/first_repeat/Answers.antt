@@ -1,0 +1,26 @@
+use mathlib.Core.Path.{◌≡◌, sym, ◌∙◌}
+use Prim.Native.Nat.{◌-◌}
+use native.Mathlib.Omega.{arith}
+use borrow.Author.Rules.{rules}
+use Rattle.process_list.specs.List.{nodes_of, first_repeat}
+use Rattle.process_list.proofs.Seen.{seen_from, seen_start, seen_here, seen-turn, seen_none}
+use Rattle.process_list.proofs.first_repeat.Goals as goal
+
+-- The nodes from index k on are still to be asked. Assumes nothing.
+pub loop-k-init : goal.loop-k-init
+loop-k-init c = seen_start _
+
+pub is_seen-requires : goal.is_seen-requires
+is_seen-requires c = omega arith
+
+pub returns-then-is_seen : goal.returns-then-is_seen
+returns-then-is_seen c =
+    sym (c.loop-k.invariant ∙ seen_here _ c.loop-k.k (omega arith) (sym c.is_seen.ensures ∙ c.if-is_seen.true))
+
+pub loop-k-preserved : goal.loop-k-preserved
+loop-k-preserved c =
+    c.loop-k.invariant ∙ seen-turn _ c.loop-k.k (omega arith) (sym c.is_seen.ensures ∙ c.if-is_seen.false)
+
+pub returns : goal.returns
+returns c =
+    sym (c.loop-k.invariant ∙ seen_none c.args.list c.loop-k.k (omega arith))

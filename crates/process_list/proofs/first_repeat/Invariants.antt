@@ -1,0 +1,13 @@
+use mathlib.Core.Path.{◌≡◌, sym, ◌∙◌}
+use Prim.Native.Nat.{◌-◌}
+use native.Mathlib.Omega.{arith}
+use borrow.Author.Rules.{rules}
+use Rattle.process_list.specs.List.{nodes_of, first_repeat}
+use Rattle.process_list.proofs.Seen.{seen_from, seen_start, seen_here, seen-turn, seen_none}
+use Rattle.process_list.proofs.first_repeat.Given as goal
+
+abbrev pub invariant-loop-k : goal.invariant-loop-k
+invariant-loop-k l = first_repeat (nodes_of l.list) ≡ seen_from l.list l.k
+
+abbrev pub decreases-loop-k : goal.decreases-loop-k
+decreases-loop-k l = l.count - l.k

@@ -1,0 +1,40 @@
+use Prim.Native.Nat.{◌-◌}
+use native.Mathlib.Omega.{arith}
+use lib.ListN.{length}
+use lib.Dec.{eqb}
+use borrow.Author.Tests.{eq-eqb, ne_eqb}
+use Rattle.xml.proofs.Answers.{failed}
+use Rattle.xml.proofs.Texts.{TextInv, text-start, text-end, text-stop, text-less, text-more, text-and, text-failed}
+use borrow.Author.Rules.{rules}
+use Rattle.xml.proofs.text_to.Goals as goal
+
+pub loop-i-init : goal.loop-i-init
+loop-i-init c = text-start _ _ _
+
+pub returns-then-b-stop : goal.returns-then-b-stop
+returns-then-b-stop c = text-stop _ _ _ _ c.loop-i.invariant (omega arith) (eq-eqb _ _ c.if-b-stop.true)
+
+pub returns-then-b-eq60 : goal.returns-then-b-eq60
+returns-then-b-eq60 c = text-less _ _ _ _ c.loop-i.invariant (omega arith) (ne_eqb _ _ c.if-b-stop.false) c.if-b-eq60.true
+
+pub returns-in_default : goal.returns-in_default
+returns-in_default c =
+    text-failed _ _ _ _ c.loop-i.invariant (omega arith) (ne_eqb _ _ c.if-b-stop.false) c.if-b-eq60.false c.if-b-eq38.true _
+    (failed c.entity-r.result c.in_default.in_default-own.keys2) c.entity-r.ensures
+
+pub loop-i-smaller-then-b-eq38 : goal.loop-i-smaller-then-b-eq38
+loop-i-smaller-then-b-eq38 c = omega (arith, (rw c.in-At.is at c.entity-r.ensures).inside)
+
+pub loop-i-preserved-then-b-eq38 : goal.loop-i-preserved-then-b-eq38
+loop-i-preserved-then-b-eq38 c =
+    text-and _ _ _ _ c.loop-i.invariant (omega arith) (ne_eqb _ _ c.if-b-stop.false) c.if-b-eq60.false c.if-b-eq38.true _
+    (rw c.in-At.is at c.entity-r.ensures)
+
+pub loop-i-smaller : goal.loop-i-smaller
+loop-i-smaller c = omega arith
+
+pub loop-i-preserved : goal.loop-i-preserved
+loop-i-preserved c = text-more _ _ _ _ c.loop-i.invariant (omega arith) (ne_eqb _ _ c.if-b-stop.false) c.if-b-eq60.false c.if-b-eq38.false
+
+pub returns : goal.returns
+returns c = text-end _ _ _ _ c.loop-i.invariant (omega arith)
