@@ -16,4 +16,4 @@ overflow_add-used c = omega (arith, capped-most (numbers_of c.args.kind))
 pub returns : goal.returns
 returns c =
     let a = c.args in
-    c.capped.ensures ∙ ap (λ (n : ℕ). capped (a.used + n)) c.Numbers-of.ensures ∙ capped-sum a.used (numbers_of a.kind)
+    c.capped.ensures ∙ ap (λ (n : ℕ). capped (a.used + n)) c.numbers_of.ensures ∙ capped-sum a.used (numbers_of a.kind)

@@ -12,12 +12,12 @@ pub returns-then-k-held : goal.returns-then-k-held
 unfolding node_at nodes_of
 returns-then-k-held c =
     let s = c.args in
-    let h : s.k < s.t1.count = omega arith in
-    getD-within s.t1.nodes s.k _ blank_node (omega arith) ∙ sym (get_or-take _ _ _ _ h)
+    let h : s.k < s.list.count = omega arith in
+    getD-within s.list.nodes s.k _ blank_node (omega arith) ∙ sym (get_or-take _ _ _ _ h)
 
 pub returns : goal.returns
 unfolding node_at
 returns c =
     let s = c.args in
-    let h : length (nodes_of s.t1) ≤ s.k = omega arith in
-    c.blank.ensures ∙ sym (get_or-eq_default (nodes_of s.t1) blank_node h)
+    let h : length (nodes_of s.list) ≤ s.k = omega arith in
+    c.blank.ensures ∙ sym (get_or-eq_default (nodes_of s.list) blank_node h)

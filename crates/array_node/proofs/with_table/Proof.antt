@@ -1,9 +1,0 @@
-use mathlib.Core.Path.{refl}
-use Rattle.array_node.proofs.with_table.Statement.{statement}
-use Rattle.array_node.proofs.with_table.Tie as tie
-
-returns : tie.Need-returns
-returns c = refl
-
-pub with-table-spec : {M : Type 1} → statement M
-with-table-spec = tie.close (tie.spec returns)

@@ -1,0 +1,6 @@
+use Rattle.markup.proofs.Tags.{end-tag}
+use borrow.Author.Rules.{rules}
+use Rattle.markup.proofs.end_tag.Goals as goal
+
+pub returns : goal.returns
+returns c = rw c.settled.ensures (end-tag _ _ _ _ c.end_tag_alone.result c.end_tag_alone.ensures)

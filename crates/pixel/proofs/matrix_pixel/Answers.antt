@@ -1,0 +1,7 @@
+use Rattle.pixel.specs.Matrix.{matrix_pixel}
+use borrow.Author.Rules.{rules}
+use Rattle.pixel.proofs.matrix_pixel.Goals as goal
+
+pub returns : goal.returns
+unfolding matrix_pixel
+returns c = cc

@@ -1,0 +1,15 @@
+use mathlib.Core.Path.{◌≡◌}
+use Rattle.pixel.specs.declared.Pixel.{Pixel}
+use Rattle.pixel.specs.Range.{range_pixel, range_component}
+use Rattle.pixel.specs.RangeLaws.{range-bound}
+use Rattle.pixel.specs.Range.{range_pixel}
+use borrow.Author.Rules.{rules}
+use Rattle.pixel.proofs.range_pixel.Goals as goal
+
+pub returns : goal.returns
+unfolding range_pixel range_component
+returns c =
+    let a = c.args in
+    let r : Pixel = record { r = c.range_line.result.0; g = c.range_line-2.result.0; b = c.range_line-3.result.0 } in
+    let e : r ≡ range_pixel a.min-in a.max-in a.min-out a.max-out a.clamp a.x = cc in
+    (e, range-bound a.min-in a.max-in a.min-out a.max-out a.clamp a.x r e)

@@ -1,0 +1,7 @@
+use Rattle.pixel.specs.Scale.{to_code_values}
+use borrow.Author.Rules.{rules}
+use Rattle.pixel.proofs.to_code_values.Goals as goal
+
+pub returns : goal.returns
+unfolding to_code_values
+returns c = cc

@@ -1,0 +1,22 @@
+use Rattle.pixel_lut.specs.Lut1d.{stepped}
+use Rattle.pixel_cube.specs.Ways.{blue_way}
+use borrow.Author.Rules.{rules}
+use Rattle.pixel_cube.proofs.along_blue.Goals as goal
+
+pub entry-e-requires : goal.entry-e-requires
+entry-e-requires c =
+    let p = c.requires in
+    (p.0, (p.1.0, rw c.corner_at.ensures (record { red = p.1.1.0; green = p.1.1.1.0; blue = p.1.1.1.1.index })))
+
+pub returns-then-f : goal.returns-then-f
+unfolding blue_way stepped
+returns-then-f c = rw (← c.corner_at.ensures) (simp (c.if-f.true, c.entry-e.ensures))
+
+pub entry-next-requires : goal.entry-next-requires
+entry-next-requires c =
+    let p = c.requires in
+    (p.0, (p.1.0, rw c.corner_at-2.ensures (record { red = p.1.1.0; green = p.1.1.1.0; blue = p.1.1.1.1.next c.if-f.false })))
+
+pub returns : goal.returns
+unfolding blue_way stepped
+returns c = simp c.if-f.false (cc)

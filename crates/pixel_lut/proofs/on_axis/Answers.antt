@@ -1,0 +1,46 @@
+use Rattle.std.proofs.Common.{◌≡◌, ℕ, ◌-◌, ◌^◌, ◌<◌, ◌≤◌, refl, arith, le→leb, rules, le-leb}
+use lib.Ieee.{in_float}
+use borrow.Author.Tests.{lt-leb}
+use Rattle.pixel.specs.declared.Fraction.{Fraction}
+use Rattle.pixel.specs.F64 as F64
+use Rattle.pixel_lut.specs.declared.AxisPlace.{AxisPlace}
+use Rattle.pixel_lut.specs.Lut1d.{on_axis, index, remainder}
+use Rattle.pixel_lut.specs.Lut1dLaws.{on-axis}
+use Rattle.pixel_lut.specs.Floor.{position_in, floor-le}
+use Rattle.pixel_lut.proofs.on_axis.Goals as goal
+
+-- too few entries, or too many
+abbrev none : AxisPlace
+none = record { index = 0; part = F64.zero }
+
+few : (n : ℕ) (x : Fraction) → n < 2 → none ≡ on_axis n x
+unfolding on_axis
+few n x h = simp (lt-leb 2 n h)
+
+many : (n : ℕ) (x : Fraction) → 2 ≤ n → 65536 < n → none ≡ on_axis n x
+unfolding on_axis
+many n x h k = simp (le-leb 2 n h, lt-leb n 65536 k)
+
+pub returns-then-n-lt2 : goal.returns-then-n-lt2
+returns-then-n-lt2 c = let a = c.args in few a.n a.x (omega arith)
+
+pub returns-then-n-gt65536 : goal.returns-then-n-gt65536
+returns-then-n-gt65536 c = let a = c.args in many a.n a.x (omega arith) (omega arith)
+
+pub floor_to-index-requires : goal.floor_to-index-requires
+floor_to-index-requires c =
+    let a = c.args in
+    let p = position_in a.n a.x (omega arith) in
+    (omega arith, (rw c.position-p.ensures p.0, rw c.position-p.ensures p.1))
+
+pub int_to_float-result : goal.int_to_float-result
+unfolding in_float
+int_to_float-result c =
+    let top = c.args.n - 1 in
+    le→leb c.floor_to-index.result (2 ^ 53) (omega (arith, rw (← c.floor_to-index.ensures) at (floor-le top c.position-p.result)))
+
+pub returns : goal.returns
+unfolding index remainder
+returns c =
+    let a = c.args in
+    rw (on-axis a.n a.x (omega arith) (omega arith), ← c.position-p.ensures, ← c.floor_to-index.ensures) refl

@@ -1,0 +1,45 @@
+use Rattle.std.proofs.Common.{◌≡◌, ℕ, ◌+◌, ◌*◌, ◌<◌, ◌≤◌, true, false, ◌||◌, eqb, leb, sym, refl, ap, ◌∙◌, mul-one, arith, rules, ne_eqb, le-leb}
+use borrow.Author.Tests.{lt-leb}
+use Rattle.pixel_lut.specs.Table.{table_in}
+use Rattle.pixel_lut.proofs.table_in.Goals as goal
+
+-- a table of the carried shape is in the room if its last number is
+counted : (room at n columns k : ℕ) → 2 ≤ n → n ≤ 65536 → columns ≡ k → (eqb k 1 || eqb k 3) ≡ true → leb (at + n * k) room ≡ table_in room at n columns
+unfolding table_in
+counted room at n columns k a b e t = rw e (simp (le-leb 2 n a, le-leb n 65536 b, t))
+
+few : (room at n columns : ℕ) → n < 2 → false ≡ table_in room at n columns
+unfolding table_in
+few room at n columns h = simp (lt-leb 2 n h)
+
+many : (room at n columns : ℕ) → 2 ≤ n → 65536 < n → false ≡ table_in room at n columns
+unfolding table_in
+many room at n columns h k = simp (le-leb 2 n h, lt-leb n 65536 k)
+
+other : (room at n columns : ℕ) → 2 ≤ n → n ≤ 65536 → (columns ≡ 1 → ⊥) → (columns ≡ 3 → ⊥) → false ≡ table_in room at n columns
+unfolding table_in
+other room at n columns h k p q = simp (le-leb 2 n h, le-leb n 65536 k, ne_eqb columns 1 p, ne_eqb columns 3 q)
+
+pub returns-then-n-lt2 : goal.returns-then-n-lt2
+returns-then-n-lt2 c = let a = c.args in few a.room a.at a.n a.columns (omega arith)
+
+pub returns-then-n-gt65536 : goal.returns-then-n-gt65536
+returns-then-n-gt65536 c = let a = c.args in many a.room a.at a.n a.columns (omega arith) (omega arith)
+
+pub returns-then-columns-eq1 : goal.returns-then-columns-eq1
+returns-then-columns-eq1 c =
+    let a = c.args in
+    c.fits2.ensures
+    ∙ ap (λ (m : ℕ). leb (a.at + m) a.room) (sym (mul-one a.n))
+    ∙ counted a.room a.at a.n a.columns 1 (omega arith) (omega arith) c.if-columns-eq1.true refl
+
+pub overflow_mul-n : goal.overflow_mul-n
+overflow_mul-n c = omega arith
+
+pub returns-then-columns-eq3 : goal.returns-then-columns-eq3
+returns-then-columns-eq3 c =
+    let a = c.args in
+    c.fits3.ensures ∙ counted a.room a.at a.n a.columns 3 (omega arith) (omega arith) c.if-columns-eq3.true refl
+
+pub returns : goal.returns
+returns c = let a = c.args in other a.room a.at a.n a.columns (omega arith) (omega arith) c.if-columns-eq1.false c.if-columns-eq3.false

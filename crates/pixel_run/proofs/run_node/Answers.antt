@@ -1,0 +1,41 @@
+use Rattle.room.specs.Room.{lent}
+use Rattle.pixel_run.specs.Step.{step_pixel}
+use Rattle.pixel_run.proofs.ClampRuns.{node-ran}
+use borrow.Author.Rules.{rules}
+use Rattle.pixel_run.proofs.run_node.Goals as goal
+
+pub returns-in-Range : goal.returns-in-Range
+unfolding step_pixel
+returns-in-Range c =
+    let a = c.args in
+    node-ran a.rows a.in-scale a.out-scale (lent a.coefficients.now a.powers.now) a.pixels.now _ a.p (simp c.in-Range.is c.run_range.ensures.0)
+
+pub returns-in-Cdl : goal.returns-in-Cdl
+unfolding step_pixel
+returns-in-Cdl c =
+    let a = c.args in
+    node-ran a.rows a.in-scale a.out-scale (lent a.coefficients.now a.powers.now) a.pixels.now _ a.p (simp c.in-Cdl.is c.run_cdls.ensures)
+
+pub returns-in-Matrix : goal.returns-in-Matrix
+unfolding step_pixel
+returns-in-Matrix c =
+    let a = c.args in
+    node-ran a.rows a.in-scale a.out-scale (lent a.coefficients.now a.powers.now) a.pixels.now _ a.p (simp c.in-Matrix.is c.run_matrix.ensures)
+
+pub returns-in-Lut1d : goal.returns-in-Lut1d
+unfolding step_pixel
+returns-in-Lut1d c =
+    let a = c.args in
+    node-ran a.rows a.in-scale a.out-scale (lent a.coefficients.now a.powers.now) a.pixels.now _ a.p (simp c.in-Lut1d.is c.run_lut1d.ensures)
+
+pub returns-in-Lut3d : goal.returns-in-Lut3d
+unfolding step_pixel
+returns-in-Lut3d c =
+    let a = c.args in
+    node-ran a.rows a.in-scale a.out-scale (lent a.coefficients.now a.powers.now) a.pixels.now _ a.p (simp c.in-Lut3d.is c.run_lut3d.ensures)
+
+pub returns-in-OneEnd : goal.returns-in-OneEnd
+unfolding step_pixel
+returns-in-OneEnd c =
+    let a = c.args in
+    node-ran a.rows a.in-scale a.out-scale (lent a.coefficients.now a.powers.now) a.pixels.now _ a.p (simp c.in-OneEnd.is c.run_one_end.ensures.0)

@@ -1,0 +1,23 @@
+use Prim.Native.Nat.{◌-◌}
+use native.Mathlib.Omega.{arith}
+use lib.ListN.{length}
+use Rattle.pixel.specs.Range.{range_pixel}
+use Rattle.pixel_run.specs.EachLaws.{Passed, passed_start, passed-more, passed-end}
+use Rattle.pixel_run.proofs.ClampRuns.{range-ran}
+use borrow.Author.Rules.{rules}
+use Rattle.pixel_run.proofs.run_range.Goals as goal
+
+pub loop-pixels-init : goal.loop-pixels-init
+loop-pixels-init c = passed_start _ _
+
+pub loop-pixels-preserved : goal.loop-pixels-preserved
+loop-pixels-preserved c =
+    passed-more c.loop-pixels.invariant (omega arith) c.load-x.ensures c.range_pixel-y.ensures.0 c.store.ensures
+
+pub shape_of-pixels : goal.shape_of-pixels
+shape_of-pixels c = c.loop-pixels.invariant.whole
+
+pub returns : goal.returns
+returns c =
+    let a = c.args in
+    range-ran a.min-in a.max-in a.min-out a.max-out a.clamp a.pixels.now _ (passed-end (omega arith) c.loop-pixels.invariant)

@@ -1,9 +1,0 @@
-use mathlib.Core.Path.{refl}
-use Rattle.reading.proofs.too_long.Statement.{statement}
-use Rattle.reading.proofs.too_long.Tie as tie
-
-returns : tie.Need-returns
-returns c = refl
-
-pub too-long-spec : {M : Type 1} → statement M
-too-long-spec = tie.close (tie.spec returns)

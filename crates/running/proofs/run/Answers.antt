@@ -1,0 +1,86 @@
+use mathlib.Core.Path.{◌≡◌, sym, ◌∙◌}
+use mathlib.Core.Bool.{true, false}
+use mathlib.Core.List.{List}
+use Prim.Native.Nat.{ℕ, ◌%◌, ◌≤◌, ◌<◌}
+use native.Mathlib.Omega.{arith}
+use borrow.Author.Tests.{not-true, not-false, eq-eqb, ne_eqb, lt-ltb, le-ltb}
+use borrow.Author.Rules.{rules}
+use lib.ListN.{length}
+use lib.Ieee.{Float}
+use Rattle.process_list.specs.declared.ProcessList.{ProcessList}
+use Rattle.process_list.specs.List.{nodes_of}
+use Rattle.room.specs.Room.{Room, lent}
+use Rattle.valid.specs.Valid.{is_valid}
+use Rattle.pixel_run.specs.Finite.{first_not_finite}
+use Rattle.running.specs.declared.Ran.{Ran}
+use Rattle.running.specs.Running.{tables_stand, LastEndHolds, run_nodes, not_threes, not_finite, ran, ran_of, pixels_of}
+use Rattle.running.specs.RunningLaws.{ran-invalid, ran-not-threes, ran-not-finite, ran-accepted, pixels-accepted, pixels-refused}
+use Rattle.running.proofs.Tables.{valid-stand}
+use Rattle.running.proofs.LastEnd.{last_end}
+use Rattle.running.proofs.run.Goals as goal
+
+-- the tests of the code
+some_left : (xs : List Float) → (length xs % 3 ≡ 0 → ⊥) → not_threes xs ≡ true
+unfolding not_threes
+some_left xs h = simp (ne_eqb (length xs % 3) 0 h)
+
+none_left : (xs : List Float) → length xs % 3 ≡ 0 → not_threes xs ≡ false
+unfolding not_threes
+none_left xs h = simp (eq-eqb (length xs % 3) 0 h)
+
+found : (xs : List Float) (k : ℕ) → k ≡ first_not_finite xs → k < length xs → not_finite xs ≡ true
+unfolding not_finite
+found xs k e h = rw (← e) (lt-ltb k (length xs) h)
+
+not_found : (xs : List Float) (k : ℕ) → k ≡ first_not_finite xs → length xs ≤ k → not_finite xs ≡ false
+unfolding not_finite
+not_found xs k e h = rw (← e) (le-ltb k (length xs) h)
+module _ (l : ProcessList) (m : Room) (xs : List Float) where
+  -- the promises: the answer, the slice afterwards; and, where it is accepted, that every table stands in the room, and what comes out of a last Range with one end
+  abbrev Answers : Ran → List Float → Type 0
+  Answers r ys =
+      (r ≡ ran_of l m xs)
+      × ((ys ≡ pixels_of l m xs) × ((r.number ≡ 0 → tables_stand m (nodes_of l) ≡ true) × (r.number ≡ 0 → LastEndHolds m (nodes_of l) ys)))
+
+  refused : (number place : ℕ) → (number ≡ 0 → ⊥) → ran_of l m xs ≡ ran number place → Answers (ran number place) xs
+  refused number place k e = (sym e, (sym (pixels-refused l m xs number place k e), (λ z. absurd (k z), λ z. absurd (k z))))
+
+  accepted : is_valid l m ≡ true → (ys : List Float) → ran_of l m xs ≡ ran 0 0 → ys ≡ run_nodes m (nodes_of l) xs → Answers (ran 0 0) ys
+  accepted v ys e f = (sym e, (f ∙ sym (pixels-accepted l m xs e), (λ z. valid-stand l m v, λ z. last_end m (nodes_of l) xs ys f)))
+
+  not_valid : is_valid l m ≡ false → Answers (ran 16 0) xs
+  not_valid v = refused 16 0 (λ e. omega arith) (ran-invalid l m xs v)
+
+  module _ (v : is_valid l m ≡ true) where
+    no-threes : (length xs % 3 ≡ 0 → ⊥) → Answers (ran 14 0) xs
+    no-threes h = refused 14 0 (λ e. omega arith) (ran-not-threes l m v xs (some_left xs h))
+
+    module _ (h : length xs % 3 ≡ 0) (k : ℕ) (e : k ≡ first_not_finite xs) where
+      first : k < length xs → Answers (ran 15 k) xs
+      first i = refused 15 k (λ e. omega arith) (rw e (ran-not-finite l m v xs (none_left xs h) (found xs k e i)))
+
+      all : (ys : List Float) → length xs ≤ k → ys ≡ run_nodes m (nodes_of l) xs → Answers (ran 0 0) ys
+      all ys i f = accepted v ys (ran-accepted l m v xs (none_left xs h) (not_found xs k e i)) f
+
+pub returns-then-not-valid : goal.returns-then-not-valid
+returns-then-not-valid c =
+    let a = c.args in
+    not_valid a.list (lent a.coefficients.now a.powers.now) a.pixels.now (sym c.valid.ensures ∙ c.if-not-valid.true)
+
+pub returns-then-pixels-ne0 : goal.returns-then-pixels-ne0
+returns-then-pixels-ne0 c =
+    let a = c.args in
+    no-threes a.list (lent a.coefficients.now a.powers.now) a.pixels.now (sym c.valid.ensures ∙ c.if-not-valid.false) c.if-pixels-ne0.true
+
+pub returns-then-first-pixels : goal.returns-then-first-pixels
+returns-then-first-pixels c =
+    let a = c.args in
+    let m = lent a.coefficients.now a.powers.now in
+    first a.list m a.pixels.now (sym c.valid.ensures ∙ c.if-not-valid.false) c.if-pixels-ne0.false c.first_not_finite-first.result c.first_not_finite-first.ensures c.if-first-pixels.true
+
+pub returns : goal.returns
+returns c =
+    let a = c.args in
+    let m = lent a.coefficients.now a.powers.now in
+    let valid = sym c.valid.ensures ∙ c.if-not-valid.false in
+    all a.list m a.pixels.now valid c.if-pixels-ne0.false c.first_not_finite-first.result c.first_not_finite-first.ensures _ c.if-first-pixels.false c.run_all.ensures

@@ -1,0 +1,9 @@
+use Rattle.shell_text.specs.Show.{place_text}
+use Rattle.text_out.proofs.Laws.{puts_then}
+use borrow.Author.Rules.{rules}
+use Rattle.shell_text.proofs.show.put_place.Goals as goal
+
+pub returns : goal.returns
+unfolding place_text
+returns c =
+    puts_then c.put_digits-a.ensures (puts_then c.put-b.ensures c.put_digits.ensures)

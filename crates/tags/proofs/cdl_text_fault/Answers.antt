@@ -1,0 +1,15 @@
+use Rattle.scanning.specs.Steps.{scan}
+use borrow.Author.Rules.{rules}
+use Rattle.tags.proofs.cdl_text_fault.Goals as goal
+
+pub ?? : goal.??
+?? c = search scan
+
+pub ?? : goal.??
+?? c = search scan
+
+pub ?? : goal.??
+?? c = search scan
+
+pub ?? : goal.??
+?? c = search scan
