@@ -1,6 +1,7 @@
 #![tactic(auto)]
 
-// The functions for C: the file check on plain bytes, reading into lent room, and running pixels through a file's list. See capi/clf.h.
+// What C hosts call: the file check on plain bytes, reading into lent room, and running pixels through a file's list. The crate clf_c_c exports
+// these functions; see capi/clf.h.
 ghost use Rattle.std.specs.Prelude.{◌≡◌, false};
 ghost use Rattle.room.specs.Room.{lent};
 ghost use Rattle.clf.specs.Reading as Reading;
@@ -26,8 +27,7 @@ pub struct FileRead {
 }
 
 // Checks a file; no room is lent, and refusal 13 means over 262,144 numbers.
-#[unsafe(no_mangle)]
-pub extern "C" fn clf_check_file(file: &[u8]) -> FileCheck
+pub fn clf_check_file(file: &[u8]) -> FileCheck
     ensures { result ≡ file_check_of (Reading.read_alone file.now) }
 {
     let c = reading::check(file);
@@ -38,8 +38,7 @@ pub extern "C" fn clf_check_file(file: &[u8]) -> FileCheck
 }
 
 // Reads a file into the table room.
-#[unsafe(no_mangle)]
-pub extern "C" fn clf_read_file(
+pub fn clf_read_file(
     file: &[u8],
     coefficients: &mut [i64],
     powers: &mut [i8],
@@ -58,8 +57,7 @@ pub extern "C" fn clf_read_file(
 
 // Runs a file over the pixels, three components a pixel: the tests of the slice come first, then the file is read into the table room, and
 // its list runs. Refused by the slice, nothing changes; a refused reading zeroes the room and leaves the pixels.
-#[unsafe(no_mangle)]
-pub extern "C" fn clf_apply(
+pub fn clf_apply(
     file: &[u8],
     coefficients: &mut [i64],
     powers: &mut [i8],

@@ -2,11 +2,13 @@
 
 // Reads each file that the file `index` names, into room for the count of numbers that stands behind its name there, and prints a line
 // for each: its name, the refusal number and place, how many nodes its list has, and how many numbers.
-ghost use Rattle.std.specs.Prelude.{◌≤◌, ◌<◌};
+ghost use Rattle.std.specs.Prelude.{◌≤◌, ◌<◌, length, IfOk};
 
 use fields::Parsed;
-use libc::STDOUT_FILENO;
 use reading::Answer;
+use std::io::Read;
+use std::rt::Files;
+use std::{fs, io, str};
 
 fn least(a: usize, b: usize) -> usize
     ensures { (result ≤ a) × (result ≤ b) }
@@ -17,52 +19,81 @@ fn least(a: usize, b: usize) -> usize
     b
 }
 
-fn print_number(n: usize) {
-    io::write_all(STDOUT_FILENO, b" ");
-    io::print_decimal(STDOUT_FILENO, n as u64);
+fn print_number(rt: &impl Print, n: usize) -> io::Result<()> {
+    print!(rt; " {n}")
 }
 
-fn print_answer(name: &[u8], answer: Answer) {
+fn print_answer(rt: &impl Print, name: &[u8], answer: Answer) -> io::Result<()> {
     let list = answer.list;
-    io::write_all(STDOUT_FILENO, name);
-    print_number(answer.number as usize);
-    print_number(answer.place);
-    print_number(list.count);
-    print_number(process_list::used(list));
-    io::write_all(STDOUT_FILENO, b"\n");
+    rt.write_all(name)?;
+    print_number(rt, answer.number as usize)?;
+    print_number(rt, answer.place)?;
+    print_number(rt, list.count)?;
+    print_number(rt, process_list::used(list))?;
+    rt.write_all(b"\n")
 }
 
-// Reads a file of at most the buffer's length into the buffer, and answers how many bytes it has; 0 where it cannot be opened.
-fn load(name: &[u8], buffer: &mut [u8]) -> usize {
-    let file = os::open_read(name);
-    if file < 0 {
-        os::fail(name);
-        return 0;
+// Reads until the buffer is full or the file ends, and answers how many bytes the buffer holds then.
+fn read_full(file: &mut impl Read, buffer: &mut [u8]) -> io::Result<usize>
+    ensures { IfOk result (λ n. n ≤ length buffer.new) }
+{
+    let mut held = 0;
+    while held < buffer.len() {
+        let n = file.read(&mut buffer[held..])?;
+        if n == 0 {
+            return Ok(held);
+        }
+        held += n;
     }
-    let n = io::read_full(file, buffer);
-    libc::close(file);
-    n
+    Ok(held)
 }
 
-fn read(name: &[u8], room: usize, buffer: &mut [u8], coefficients: &mut [i64], powers: &mut [i8]) {
-    let size = load(name, buffer);
+// Reads a file of at most the buffer's length into the buffer, and answers how many bytes it has; 0 where it cannot be opened, which a line
+// on standard error says. Its name is UTF-8: no other can be opened.
+fn load(rt: &(impl Files + Eprint), name: &[u8], buffer: &mut [u8]) -> io::Result<usize> {
+    let Ok(path) = str::from_utf8(name) else {
+        eprintln!(rt; "a name that is not UTF-8")?;
+        return Ok(0);
+    };
+    match fs::open(rt, path) {
+        Ok(mut file) => read_full(&mut file, buffer),
+        Err(e) => {
+            eprintln!(rt; "{path}: {e}")?;
+            Ok(0)
+        }
+    }
+}
+
+fn read(
+    rt: &(impl Files + Print + Eprint),
+    name: &[u8],
+    room: usize,
+    buffer: &mut [u8],
+    coefficients: &mut [i64],
+    powers: &mut [i8],
+) -> io::Result<()> {
+    let size = load(rt, name, buffer)?;
     let n = least(room, least(coefficients.len(), powers.len()));
     let file = tags::part(buffer, 0, size);
     let answer = reading::read(file, &mut coefficients[0..n], &mut powers[0..n]);
-    print_answer(name, answer);
+    print_answer(rt, name, answer)
 }
 
 // A line of the index: a name and a room.
-fn vector(line: &[u8], buffer: &mut [u8], coefficients: &mut [i64], powers: &mut [i8]) {
+fn vector(
+    rt: &(impl Files + Print + Eprint),
+    line: &[u8],
+    buffer: &mut [u8],
+    coefficients: &mut [i64],
+    powers: &mut [i8],
+) -> io::Result<()> {
     let first = fields::next_field(line, 0);
     let second = fields::next_field(line, first.end);
     let name = tags::part(line, first.start, first.end);
     let room = fields::number(tags::part(line, second.start, second.end));
     match room {
-        Parsed::Number(n) => read(name, n, buffer, coefficients, powers),
-        Parsed::Malformed => {
-            io::write_all(STDOUT_FILENO, b"no room named\n");
-        }
+        Parsed::Number(n) => read(rt, name, n, buffer, coefficients, powers),
+        Parsed::Malformed => rt.write_all(b"no room named\n"),
     }
 }
 
@@ -80,28 +111,36 @@ fn line_end(text: &[u8], at: usize) -> usize
     i
 }
 
-fn vectors(index: &[u8], buffer: &mut [u8], coefficients: &mut [i64], powers: &mut [i8]) {
+fn vectors(
+    rt: &(impl Files + Print + Eprint),
+    index: &[u8],
+    buffer: &mut [u8],
+    coefficients: &mut [i64],
+    powers: &mut [i8],
+) -> io::Result<()> {
     let mut at = 0;
     while at < index.len() {
         let end = line_end(index, at);
-        vector(tags::part(index, at, end), buffer, coefficients, powers);
+        vector(rt, tags::part(index, at, end), buffer, coefficients, powers)?;
         if index.len() <= end {
-            return;
+            return Ok(());
         }
         at = end + 1;
     }
+    Ok(())
 }
 
-fn main() {
+fn main(rt: HostRuntime) -> io::Result<()> {
     let mut index = [0u8; 65536];
     let mut buffer = [0u8; 327680];
     let mut coefficients = [0i64; 262144];
     let mut powers = [0i8; 262144];
-    let n = load(b"index", &mut index);
+    let n = load(&rt, b"index", &mut index)?;
     vectors(
+        &rt,
         tags::part(&index, 0, n),
         &mut buffer,
         &mut coefficients,
         &mut powers,
-    );
+    )
 }

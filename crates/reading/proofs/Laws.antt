@@ -33,7 +33,7 @@ use Rattle.clf.specs.Description.{no_part, part_from, part_asked, description_pa
 use Rattle.clf.proofs.Whole.{document-whole, place-whole}
 use Rattle.describing.specs.declared.Part.{Part}
 use Rattle.describing.specs.Code.{no_place, IsPlace, IsPart}
-use Rattle.describing.proofs.Texts.{none_found}
+use Rattle.describing.proofs.Texts.{none_found_lem}
 use Rattle.file_text.specs.declared.ListState.{ListState}
 use Rattle.file_text.specs.declared.ListStep.{ListStep}
 use Rattle.file_text.specs.Code.{bare, state_with, state_from, state_of, fitting_numbers, ListReads, text_nodes, after_root}
@@ -320,7 +320,7 @@ asked-large k s h = ap (λ (x : Reading). checked_of (asked_for k x)) (sym (read
 
 pub part-large : (k : ℕ) (s : List ℕ) (r : Part) → r ≡ no_place → most_bytes < length s → IsPlace s (description_part k s) r
 unfolding description_part description_asked
-part-large k s r h g = none_found s (description_part k s) r h (ap (λ (x : Reading). part_asked k s (asked_for k x)) (read-large Lists.most_numbers s g))
+part-large k s r h g = none_found_lem s (description_part k s) r h (ap (λ (x : Reading). part_asked k s (asked_for k x)) (read-large Lists.most_numbers s g))
 
 refused-part : (k : ℕ) (s : List ℕ) (x : Reading) (m p : ℕ) → judged_of x ≡ Refused m p → part_asked k s x ≡ no_part
 refused-part k s (accepted l) m p q = nope cc
@@ -345,7 +345,7 @@ numbered Accepted k n q = by (ltb 0 k) (leb k n) refl refl q
 module _ (k : ℕ) (s : List ℕ) (r : ListStep) (t : TextAlone k s r) (small : length s ≤ most_bytes) where
   pub part-refused : (m p : ℕ) (d : Part) → d ≡ no_place → asked_by (judged_step (length s) r 262144) k r.state.list.count ≡ Refused m p → IsPlace s (description_part k s) d
   unfolding description_part
-  part-refused m p d h q = none_found s (description_part k s) d h (refused-part k s (description_asked k s) m p (sym (asked_is k s r t small k) ∙ q))
+  part-refused m p d h q = none_found_lem s (description_part k s) d h (refused-part k s (description_asked k s) m p (sym (asked_is k s r t small k) ∙ q))
 
   start_is : asked_by (judged_step (length s) r 262144) k r.state.list.count ≡ Accepted → r.state.start ≡ (node_span s (k - 1)).0
   start_is q =

@@ -17,7 +17,7 @@ unfolding rule_of tag_of
 returns-in-Is c =
     array-counted c.args.table _ _ _ _ _
     (tag-reads _ _ c.array_tag.ensures _ _ c.start_tag-tag.result c.start_tag-tag.ensures _
-    (sym c.in-At.is ∙ c.behind-r.ensures)) _ _ _ _ _ (rw c.in-Is.is at c.kind_of-k.ensures) c.Numbers-of.ensures c.numbers-scan.ensures
+    (sym c.in-At.is ∙ c.behind-r.ensures)) _ _ _ _ _ (rw c.in-Is.is at c.kind_of-k.ensures) c.numbers_of-n.ensures c.numbers-scan.ensures
 
 pub returns-in-Other : goal.returns-in-Other
 unfolding tag_of

@@ -14,8 +14,8 @@ use Rattle.cdl_node.proofs.cdl_content.Given as goal
 
 abbrev pub invariant-loop-a : goal.invariant-loop-a
 invariant-loop-a l =
-    (length l.powers ≡ length l.initial.coefficients) × (length l.state ≡ length l.initial.powers) ×
-    HeldAt cdl_holder no_cdl l.s l.at i (CdlStands (lent l.powers l.state) l.i)
+    (length l.coefficients ≡ length l.initial.coefficients) × (length l.powers ≡ length l.initial.powers) ×
+    HeldAt cdl_holder no_cdl l.s l.at l.i (CdlStands (lent l.coefficients l.powers) l.state)
 
 abbrev pub decreases-loop-a : goal.decreases-loop-a
-decreases-loop-a l = length l.s - i
+decreases-loop-a l = length l.s - l.i

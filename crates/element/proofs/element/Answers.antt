@@ -13,8 +13,7 @@ returns-in_default c =
 
 pub returns-in-Carried : goal.returns-in-Carried
 returns-in-Carried c =
-    let n = c.name-1.given in
-    element-node _ _ _ _ n.0.0 _ _ (rw (n.1, c.in-At.is) at c.element_start-start.ensures) c.node_body.ensures
+    element-node _ _ _ _ c.in-Carried.c _ _ (rw (c.in-Carried.is, c.in-At.is) at c.element_start-start.ensures) c.node_body.ensures
 
 pub returns-in-NotCarried : goal.returns-in-NotCarried
 returns-in-NotCarried c =

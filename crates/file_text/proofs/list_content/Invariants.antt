@@ -1,22 +1,11 @@
-use Rattle.file_text.proofs.Content.{ContentInv, content-start, content-size, child-size, content-end, content-child, content-moves, content-failed, content-on, content-none}
-use Rattle.file_text.proofs.Found.{list-stored, list_full, list_same}
-use Rattle.markup.proofs.Next.{passed-low}
-use Rattle.room.specs.Room.{Room, lent}
-use Rattle.xml.proofs.Answers.{failed}
-use Rattle.process_list.specs.declared.ProcessList.{ProcessList}
-use Rattle.file_text.specs.Code.{list_with}
-use Rattle.markup.specs.Next.{NextReads}
-use Rattle.markup.specs.declared.NextTag.TheVariants as Nexts
-use mathlib.Core.Path.{◌≡◌, subst}
-use mathlib.Core.List.{List}
+use Rattle.file_text.proofs.Content.{ContentInv}
+use Rattle.room.specs.Room.{lent}
 use lib.ListN.{length}
-use Prim.Native.Nat.{ℕ, ◌-◌, ◌<◌}
-use native.Mathlib.Omega.{arith}
-use borrow.Author.Rules.{rules}
+use Prim.Native.Nat.{◌-◌}
 use Rattle.file_text.proofs.list_content.Given as goal
 
 abbrev pub invariant-loop-a : goal.invariant-loop-a
-invariant-loop-a l = ContentInv l.wanted l.s l.at i l.so_far l.i (lent l.initial.coefficients l.initial.powers) (lent l.powers l.list)
+invariant-loop-a l = ContentInv l.wanted l.s l.at l.i l.list l.so_far (lent l.initial.coefficients l.initial.powers) (lent l.coefficients l.powers)
 
 abbrev pub decreases-loop-a : goal.decreases-loop-a
-decreases-loop-a l = length l.s - i
+decreases-loop-a l = length l.s - l.i

@@ -8,7 +8,7 @@ returns-in_default c =
     let no-list = c.no_list in
     let match = c.in_default.in_default-own in
     let to-root = c.to_root-r in
-    rw (c.step_of_lem.ensures, no-list.ensures) (no-root _ _ _ _ (failed to-root.result match.keys2) to-root.ensures)
+    rw (c.step_of.ensures, no-list.ensures) (no-root _ _ _ _ (failed to-root.result match.keys2) to-root.ensures)
 
 pub shape_of-coefficients-in_default-scan : goal.shape_of-coefficients-in_default-scan
 shape_of-coefficients-in_default-scan c = (items-size c.root-step.ensures).coefficients.size
@@ -19,9 +19,8 @@ shape_of-powers-in_default-scan c = (items-size c.root-step.ensures).powers.size
 pub returns-in_default-scan : goal.returns-in_default-scan
 returns-in_default-scan c =
     let root = c.root-step in
-    let r = c.r-1 in
     let to-root = c.to_root-r in
-    root-failed _ _ _ _ (rw r.given.1 at to-root.ensures) _ _ (failed root.result.scan c.in_default-scan.in_default-scan-own.keys2)
+    root-failed _ _ _ _ (rw c.in-At.is at to-root.ensures) _ _ (failed root.result.scan c.in_default-scan.in_default-scan-own.keys2)
     root.ensures
 
 pub shape_of-coefficients : goal.shape_of-coefficients
@@ -33,8 +32,6 @@ shape_of-powers c = (items-size c.root-step.ensures).powers.size
 pub returns : goal.returns
 returns c =
     let epilogue = c.epilogue in
-    let scan = c.scan-1 in
     let root = c.root-step in
-    let r = c.r-1 in
     let to-root = c.to_root-r in
-    rw c.step_of-2.ensures (text-whole _ _ _ _ (rw r.given.1 at to-root.ensures) _ _ _ _ scan.given.1 root.ensures epilogue.ensures)
+    rw c.step_of-2.ensures (text-whole _ _ _ _ (rw c.in-At.is at to-root.ensures) _ _ _ _ c.in-At-scan.is root.ensures epilogue.ensures)

@@ -16,5 +16,6 @@ pub returns-in-Fault : goal.returns-in-Fault
 returns-in-Fault c =
     info-rest _ _ _ (rest-fault (info_content (info_element 16) _) _ _ _ c.plain_tag-end.ensures _ _ c.in-Fault.is)
 
-pub ?? : goal.??
-?? c = info-rest _ _ _ (rest-cut (info_content (info_element 16) _) _ _ _ c.plain_tag-end.ensures c.in-Cut.is)
+pub returns-in-Cut : goal.returns-in-Cut
+returns-in-Cut c =
+    info-rest _ _ _ (rest-cut (info_content (info_element 16) _) _ _ _ c.plain_tag-end.ensures c.in-Cut.is)

@@ -11,4 +11,4 @@ returns c =
     let a = c.args in
     let r : Pixel = record { r = c.limited.result.0; g = c.limited-2.result.0; b = c.limited-3.result.0 } in
     let e : r ≡ limited_pixel a.end a.limit a.x = cc in
-    (e, pixel-keeps a.end a.limit a.x r e)
+    record { value = e; keeps_end_pixel = pixel-keeps a.end a.limit a.x r e }

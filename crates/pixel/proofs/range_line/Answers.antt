@@ -14,11 +14,11 @@ unfolding range_line
 returns-then-clamp c =
     let a = c.args in
     let r = code c.quick_hold.result in
-    let e : r ≡ range_line a.s a.shift a.min-out a.max-out a.clamp a.x = rw c.if-clamp.true (ap code c.quick_hold.ensures) in
-    (e, line-bound a.s a.shift a.min-out a.max-out a.clamp a.x r e)
+    let e : r ≡ range_line a.s a.shift a.min_out a.max_out a.clamp a.x = rw c.if-clamp.true (ap code c.quick_hold.ensures) in
+    record { value = e; between = line-bound a.s a.shift a.min_out a.max_out a.clamp a.x r e }
 
 pub returns : goal.returns
 unfolding range_line
 returns c =
     let a = c.args in
-    (simp c.if-clamp.false, line-bound a.s a.shift a.min-out a.max-out a.clamp a.x _ (simp c.if-clamp.false))
+    record { value = simp c.if-clamp.false; between = line-bound a.s a.shift a.min_out a.max_out a.clamp a.x _ (simp c.if-clamp.false) }

@@ -11,5 +11,5 @@ unfolding range_pixel range_component
 returns c =
     let a = c.args in
     let r : Pixel = record { r = c.range_line.result.0; g = c.range_line-2.result.0; b = c.range_line-3.result.0 } in
-    let e : r ≡ range_pixel a.min-in a.max-in a.min-out a.max-out a.clamp a.x = cc in
-    (e, range-bound a.min-in a.max-in a.min-out a.max-out a.clamp a.x r e)
+    let e : r ≡ range_pixel a.min_in a.max_in a.min_out a.max_out a.clamp a.x = cc in
+    record { value = e; within = range-bound a.min_in a.max_in a.min_out a.max_out a.clamp a.x r e }

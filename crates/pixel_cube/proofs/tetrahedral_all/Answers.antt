@@ -15,25 +15,18 @@ use Rattle.pixel_cube.proofs.tetrahedral_all.Goals as goal
 walked-in : (entry : Corner → Float) (cell : Cell) (w : Walk) → WalkIn cell w → walked entry w.low (legs_of w) ≡ walked_all entry cell
 unfolding walked_all
 walked-in entry cell w h = ap (λ (c : Corner). walked entry c (legs_of w)) h.low ∙ ap (λ (ls : List Leg). walked entry (low_of cell) ls) h.legs
-module _ (c : tie.After-walk-in) where
-  entries : ℕ → Corner → Float
-  entries = entry_at (lent c.args.coefficients.now c.args.powers.now) c.args.at c.args.n
-
-  on : (component : ℕ) → walked (entries component) c.walk_in-w.result.low (legs_of c.walk_in-w.result) ≡ walked_all (entries component) c.args.cell
-  on component = walked-in (entries component) c.args.cell c.walk_in-w.result c.walk_in-w.ensures
-
-  stays : WalkInside c.args.n c.walk_in-w.result
-  stays = c.walk_in-w.ensures.inside c.args.n c.requires.1
 
 pub tetrahedral-requires : goal.tetrahedral-requires
-tetrahedral-requires c = search (rules, stays c)
+tetrahedral-requires c = let stays : WalkInside c.args.n c.walk_in-w.result = c.walk_in-w.ensures.inside c.args.n c.requires.cell_inside in search rules
 
 pub tetrahedral-requires-2 : goal.tetrahedral-requires-2
-tetrahedral-requires-2 c = search (rules, stays c)
+tetrahedral-requires-2 c = let stays : WalkInside c.args.n c.walk_in-w.result = c.walk_in-w.ensures.inside c.args.n c.requires.cell_inside in search rules
 
 pub tetrahedral-requires-3 : goal.tetrahedral-requires-3
-tetrahedral-requires-3 c = search (rules, stays c)
+tetrahedral-requires-3 c = let stays : WalkInside c.args.n c.walk_in-w.result = c.walk_in-w.ensures.inside c.args.n c.requires.cell_inside in search rules
 
 pub returns : goal.returns
-unfolding entries
-returns c = cc (on c 0, on c 1, on c 2)
+returns c =
+    let e : ℕ → Corner → Float = entry_at (lent c.args.coefficients.now c.args.powers.now) c.args.at c.args.n in
+    let on = λ (k : ℕ). walked-in (e k) c.args.cell c.walk_in-w.result c.walk_in-w.ensures in
+    cc (on 0, on 1, on 2)

@@ -4,7 +4,7 @@ use borrow.Author.Rules.{rules}
 use Rattle.pixel_cube.proofs.trilinear.Goals as goal
 
 pub along_green-e-requires : goal.along_green-e-requires
-along_green-e-requires c = let p = c.requires in (p.0, (p.1.0, (p.1.1.red.index, (p.1.1.green, p.1.1.blue))))
+along_green-e-requires c = let p = c.requires in record { n_bound = p.n_bound; component_bound = p.component_bound; i_lt_n = p.cell_inside.red.index; place_inside = p.cell_inside.green; place_inside_2 = p.cell_inside.blue }
 
 pub returns-then-f : goal.returns-then-f
 unfolding red_way stepped
@@ -13,7 +13,7 @@ returns-then-f c = simp (c.if-f.true, c.along_green-e.ensures)
 pub along_green-next-requires : goal.along_green-next-requires
 along_green-next-requires c =
     let p = c.requires in
-    (p.0, (p.1.0, (p.1.1.red.next c.if-f.false, (p.1.1.green, p.1.1.blue))))
+    record { n_bound = p.n_bound; component_bound = p.component_bound; i_lt_n = p.cell_inside.red.next c.if-f.false; place_inside = p.cell_inside.green; place_inside_2 = p.cell_inside.blue }
 
 pub returns : goal.returns
 unfolding red_way stepped

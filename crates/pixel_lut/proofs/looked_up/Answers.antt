@@ -1,23 +1,23 @@
-use Rattle.std.proofs.Common.{◌-◌, ◌^◌, ◌≤◌, arith, le→leb, rules, eq-eqb, ne_eqb}
-use lib.Ieee.{in_float}
-use Rattle.pixel_lut.specs.Lut1d.{looked_up, stepped, index, remainder, position}
+use Rattle.std.proofs.Common.{◌≡◌, ℕ, ◌-◌, ◌^◌, ◌≤◌, arith, le→leb, rules, eq-eqb, ne_eqb}
+use lib.Ieee.{Float, in_float}
+use Rattle.pixel_lut.specs.Lut1d.{looked_up, floor_to, stepped, index, remainder, position}
 use Rattle.pixel_lut.specs.Floor.{position_in, floor-le}
 use Rattle.pixel_lut.proofs.looked_up.Goals as goal
 
-at_most : (c : tie.After-floor-to) → c.floor_to-i.result ≤ c.args.n - 1
-at_most c = rw c.floor_to-i.ensures (floor-le (c.args.n - 1) c.position-p.result)
+at_most : (n : ℕ) (p : Float) (i : ℕ) → i ≡ floor_to (n - 1) p → i ≤ n - 1
+at_most n p i e = rw e (floor-le (n - 1) p)
 
 pub floor_to-i-requires : goal.floor_to-i-requires
 floor_to-i-requires c =
-    let p = position_in c.args.n c.args.x c.requires.1.0 in
-    (omega arith, (rw c.position-p.ensures p.0, rw c.position-p.ensures p.1))
+    let p = position_in c.args.n c.args.x c.requires.n_bound in
+    record { top_bound = omega arith; t = rw c.position-p.ensures p.0; t_2 = rw c.position-p.ensures p.1 }
 
 pub int_to_float-f : goal.int_to_float-f
 unfolding in_float
-int_to_float-f c = le→leb c.floor_to-i.result (2 ^ 53) (omega (arith, at_most c))
+int_to_float-f c = le→leb c.floor_to-i.result (2 ^ 53) (omega (arith, at_most c.args.n c.position-p.result c.floor_to-i.result c.floor_to-i.ensures))
 
 pub entry-e-requires : goal.entry-e-requires
-entry-e-requires c = (c.requires.1.1.0, (c.requires.1.1.1, omega (arith, at_most c)))
+entry-e-requires c = record { columns_bound = c.requires.columns_bound; column_lt_columns = c.requires.column_lt_columns; i_lt_n = omega (arith, at_most c.args.n c.position-p.result c.floor_to-i.result c.floor_to-i.ensures) }
 
 pub returns-then-i-n : goal.returns-then-i-n
 unfolding looked_up index
@@ -30,11 +30,11 @@ returns-then-f c =
     rw (← c.position-p.ensures, ← c.floor_to-i.ensures) (simp (ne_eqb _ _ c.if-i-n.false, c.if-f.true, c.entry-e.ensures))
 
 pub overflow_add-i : goal.overflow_add-i
-overflow_add-i c = omega (arith, at_most c)
+overflow_add-i c = omega (arith, at_most c.args.n c.position-p.result c.floor_to-i.result c.floor_to-i.ensures)
 
 pub entry-next-requires : goal.entry-next-requires
 entry-next-requires c =
-    (c.requires.1.1.0, (c.requires.1.1.1, omega (arith, at_most c, c.if-i-n.false)))
+    record { columns_bound = c.requires.columns_bound; column_lt_columns = c.requires.column_lt_columns; i_lt_n = omega (arith, at_most c.args.n c.position-p.result c.floor_to-i.result c.floor_to-i.ensures, c.if-i-n.false) }
 
 pub returns : goal.returns
 unfolding looked_up stepped index remainder

@@ -31,7 +31,7 @@ pub floor_to-index-requires : goal.floor_to-index-requires
 floor_to-index-requires c =
     let a = c.args in
     let p = position_in a.n a.x (omega arith) in
-    (omega arith, (rw c.position-p.ensures p.0, rw c.position-p.ensures p.1))
+    record { top_bound = omega arith; t = rw c.position-p.ensures p.0; t_2 = rw c.position-p.ensures p.1 }
 
 pub int_to_float-result : goal.int_to_float-result
 unfolding in_float

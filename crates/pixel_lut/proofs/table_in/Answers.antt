@@ -29,7 +29,7 @@ returns-then-n-gt65536 c = let a = c.args in many a.room a.at a.n a.columns (ome
 pub returns-then-columns-eq1 : goal.returns-then-columns-eq1
 returns-then-columns-eq1 c =
     let a = c.args in
-    c.fits2.ensures
+    c.fits.ensures
     ∙ ap (λ (m : ℕ). leb (a.at + m) a.room) (sym (mul-one a.n))
     ∙ counted a.room a.at a.n a.columns 1 (omega arith) (omega arith) c.if-columns-eq1.true refl
 
@@ -39,7 +39,7 @@ overflow_mul-n c = omega arith
 pub returns-then-columns-eq3 : goal.returns-then-columns-eq3
 returns-then-columns-eq3 c =
     let a = c.args in
-    c.fits3.ensures ∙ counted a.room a.at a.n a.columns 3 (omega arith) (omega arith) c.if-columns-eq3.true refl
+    c.fits-then-columns-eq3.ensures ∙ counted a.room a.at a.n a.columns 3 (omega arith) (omega arith) c.if-columns-eq3.true refl
 
 pub returns : goal.returns
 returns c = let a = c.args in other a.room a.at a.n a.columns (omega arith) (omega arith) c.if-columns-eq1.false c.if-columns-eq3.false

@@ -12,7 +12,7 @@ loop-pixels-init c = passed_start _ _
 
 pub loop-pixels-preserved : goal.loop-pixels-preserved
 loop-pixels-preserved c =
-    passed-more c.loop-pixels.invariant (omega arith) c.load-x.ensures c.lut3d_pixel-y.ensures.0 c.store.ensures
+    passed-more c.loop-pixels.invariant (omega arith) c.load-x.ensures c.lut3d_pixel-y.ensures.value c.store.ensures
 
 pub shape_of-pixels : goal.shape_of-pixels
 shape_of-pixels c = c.loop-pixels.invariant.whole

@@ -12,7 +12,7 @@ loop-pixels-init c = passed_start _ _
 
 pub loop-pixels-preserved : goal.loop-pixels-preserved
 loop-pixels-preserved c =
-    passed-more c.loop-pixels.invariant (omega arith) c.load-x.ensures c.range_pixel-y.ensures.0 c.store.ensures
+    passed-more c.loop-pixels.invariant (omega arith) c.load-x.ensures c.range_pixel-y.ensures.value c.store.ensures
 
 pub shape_of-pixels : goal.shape_of-pixels
 shape_of-pixels c = c.loop-pixels.invariant.whole
@@ -20,4 +20,5 @@ shape_of-pixels c = c.loop-pixels.invariant.whole
 pub returns : goal.returns
 returns c =
     let a = c.args in
-    range-ran a.min-in a.max-in a.min-out a.max-out a.clamp a.pixels.now _ (passed-end (omega arith) c.loop-pixels.invariant)
+    let k = range-ran a.min_in a.max_in a.min_out a.max_out a.clamp a.pixels.now c.loop-pixels.pixels (passed-end (omega arith) c.loop-pixels.invariant) in
+    record { pixels_after = k.0; each_within = k.1 }

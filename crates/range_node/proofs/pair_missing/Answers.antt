@@ -1,17 +1,16 @@
-use borrow.Author.Tests.{not-true, not-false}
 use Rattle.range_node.specs.Code.{pair_missing}
 use borrow.Author.Rules.{rules}
 use Rattle.range_node.proofs.pair_missing.Goals as goal
 
 pub returns-then-not-allowed : goal.returns-then-not-allowed
 unfolding pair_missing
-returns-then-not-allowed c = rw (not-true c.args.allowed c.if-not-allowed.true)
+returns-then-not-allowed c = rw c.if-not-allowed.true
 
 pub returns-then-equal : goal.returns-then-equal
 unfolding pair_missing
 returns-then-equal c =
     rw (
-      not-false c.args.allowed c.if-not-allowed.false,
+      c.if-not-allowed.false,
       ← c.in_index.ensures,
       ← c.number_at-a.ensures,
       ← c.out_index.ensures,
@@ -24,7 +23,7 @@ pub returns : goal.returns
 unfolding pair_missing
 returns c =
     rw (
-      not-false c.args.allowed c.if-not-allowed.false,
+      c.if-not-allowed.false,
       ← c.in_index.ensures,
       ← c.number_at-a.ensures,
       ← c.out_index.ensures,

@@ -13,7 +13,9 @@ use borrow.Author.Rules.{rules}
 use Rattle.range_node.proofs.range_content.Given as goal
 
 abbrev pub invariant-loop-a : goal.invariant-loop-a
-invariant-loop-a l = (length l.powers ≡ length l.initial.coefficients) × (length l.state ≡ length l.initial.powers) × HeldAt (range_holder l.allowed) no_values l.s l.at i (RangeStands (lent l.powers l.state) l.i)
+invariant-loop-a l =
+    (length l.coefficients ≡ length l.initial.coefficients) × (length l.powers ≡ length l.initial.powers) ×
+    HeldAt (range_holder l.allowed) no_values l.s l.at l.i (RangeStands (lent l.coefficients l.powers) l.state)
 
 abbrev pub decreases-loop-a : goal.decreases-loop-a
-decreases-loop-a l = length l.s - i
+decreases-loop-a l = length l.s - l.i

@@ -35,6 +35,6 @@ returns c =
     (tag-reads _ Range refl _ _ tag.result tag.ensures _ (sym c.in-At.is ∙ c.behind-r.ensures))
     _ (allowed-is _ _ _ _ _ _ c.style_is.ensures c.range_style-style.ensures c.depth_at-input.ensures c.depth_at-output.ensures
     c.one_end_allowed-allowed.ensures)
-    content.ensures _ c.in-At-scan.is c.Store-found.ensures
+    content.ensures _ c.in-At-scan.is c.store_found.ensures
     (made-is _ _ _ _ _ _ _ _ _ _ _ _ _ refl refl c.style_is.ensures c.range_style-style.ensures c.depth_at-input.ensures c.depth_at-output.ensures
     c.id_at-id.ensures c.found_kind.ensures c.unplaced-node.ensures)

@@ -12,22 +12,20 @@ returns-then-too_long c =
 
 pub returns-in-Refused : goal.returns-in-Refused
 returns-in-Refused c =
-    let j = c.j-1 in
     let ask = c.ask-j in
     let text-alone = c.text_alone-step in
     let if1 = c.if-too_long in
     let too_long = c.too_long in
     let given = c.args in
     part-refused _ _ _ text-alone.ensures (within-limit given.file.now _ too_long.ensures if1.false) _ _
-    _ c.no_part-in-Refused.ensures (sym ask.ensures ∙ j.given.1)
+    _ c.no_part-in-Refused.ensures (sym ask.ensures ∙ c.in-Refused.is)
 
 pub returns-in-Accepted : goal.returns-in-Accepted
 returns-in-Accepted c =
-    let enum_told = c.enum_told-1 in
     let ask = c.ask-j in
     let text-alone = c.text_alone-step in
     let if1 = c.if-too_long in
     let too_long = c.too_long in
     let given = c.args in
-    part-found _ _ _ text-alone.ensures (within-limit given.file.now _ too_long.ensures if1.false) _ (sym ask.ensures ∙ enum_told.given.1)
+    part-found _ _ _ text-alone.ensures (within-limit given.file.now _ too_long.ensures if1.false) _ (sym ask.ensures ∙ c.in-Accepted.is)
     c.text_part.ensures

@@ -3,6 +3,7 @@ use mathlib.Core.Logic.{inl, inr}
 use mathlib.Core.List.{[], ◌∷◌}
 use native.Mathlib.Omega.{arith}
 use types.Run.{OneOf}
+use borrow.Enum.Refused.{opened}
 use denote.Enum.Declared.{tag_of}
 use Rattle.room.specs.Room.{Room, lent}
 use Rattle.pixel_run.specs.contracts.Prepared.{the_type}
@@ -34,4 +35,4 @@ unfolding rows_as
 returns-in-Matrix c = simp c.in-Matrix.is c.rows_from.ensures
 
 pub returns : goal.returns
-returns c = let a = c.args in others (lent a.coefficients.now a.powers.now) a.step c.in_default.in_default-own.keys2
+returns c = let a = c.args in others (lent a.coefficients.now a.powers.now) a.step (opened c.in_default.in_default-own.keys2)

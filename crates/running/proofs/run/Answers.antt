@@ -65,22 +65,26 @@ module _ (l : ProcessList) (m : Room) (xs : List Float) where
 pub returns-then-not-valid : goal.returns-then-not-valid
 returns-then-not-valid c =
     let a = c.args in
-    not_valid a.list (lent a.coefficients.now a.powers.now) a.pixels.now (sym c.valid.ensures ∙ c.if-not-valid.true)
+    let k = not_valid a.list (lent a.coefficients.now a.powers.now) a.pixels.now (sym c.valid.ensures ∙ c.if-not-valid.true) in
+    record { value = k.0; pixels_after = k.1.0; list_value = k.1.1.0; last_end_holds = k.1.1.1 }
 
 pub returns-then-pixels-ne0 : goal.returns-then-pixels-ne0
 returns-then-pixels-ne0 c =
     let a = c.args in
-    no-threes a.list (lent a.coefficients.now a.powers.now) a.pixels.now (sym c.valid.ensures ∙ c.if-not-valid.false) c.if-pixels-ne0.true
+    let k = no-threes a.list (lent a.coefficients.now a.powers.now) a.pixels.now (sym c.valid.ensures ∙ c.if-not-valid.false) c.if-pixels-ne0.true in
+    record { value = k.0; pixels_after = k.1.0; list_value = k.1.1.0; last_end_holds = k.1.1.1 }
 
 pub returns-then-first-pixels : goal.returns-then-first-pixels
 returns-then-first-pixels c =
     let a = c.args in
     let m = lent a.coefficients.now a.powers.now in
-    first a.list m a.pixels.now (sym c.valid.ensures ∙ c.if-not-valid.false) c.if-pixels-ne0.false c.first_not_finite-first.result c.first_not_finite-first.ensures c.if-first-pixels.true
+    let k = first a.list m a.pixels.now (sym c.valid.ensures ∙ c.if-not-valid.false) c.if-pixels-ne0.false c.first_not_finite-first.result c.first_not_finite-first.ensures c.if-first-pixels.true in
+    record { value = k.0; pixels_after = k.1.0; list_value = k.1.1.0; last_end_holds = k.1.1.1 }
 
 pub returns : goal.returns
 returns c =
     let a = c.args in
     let m = lent a.coefficients.now a.powers.now in
     let valid = sym c.valid.ensures ∙ c.if-not-valid.false in
-    all a.list m a.pixels.now valid c.if-pixels-ne0.false c.first_not_finite-first.result c.first_not_finite-first.ensures _ c.if-first-pixels.false c.run_all.ensures
+    let k = all a.list m a.pixels.now valid c.if-pixels-ne0.false c.first_not_finite-first.result c.first_not_finite-first.ensures _ c.if-first-pixels.false c.run_all.ensures in
+    record { value = k.0; pixels_after = k.1.0; list_value = k.1.1.0; last_end_holds = k.1.1.1 }

@@ -24,4 +24,4 @@ as-node m n xs ep er ei eo h = cc
 pub returns : goal.returns
 returns c =
     let a = c.args in
-    as-node (lent a.coefficients.now a.powers.now) a.node a.pixels.now c.prepared-step.ensures c.rows-handed.ensures c.scale-in_scale.ensures c.scale-out_scale.ensures c.run_node.ensures.0
+    as-node (lent a.coefficients.now a.powers.now) a.node a.pixels.now c.prepared-step.ensures c.rows-handed.ensures c.scale-in_scale.ensures c.scale-out_scale.ensures c.run_node.ensures.pixels_after

@@ -1,13 +1,12 @@
 use Rattle.scanning.specs.Steps.{scan}
 use Rattle.tags.proofs.Words.{lut_columns-def}
-use borrow.Author.Rules.{rules}
 use Rattle.tags.proofs.columns_of.Goals as goal
 
-pub ?? : goal.??
-?? c = search (scan, lut_columns-def)
+pub returns-then-same : goal.returns-then-same
+returns-then-same c = search (scan, lut_columns-def)
 
-pub ?? : goal.??
-?? c = search (scan, lut_columns-def)
+pub returns-then-same-2 : goal.returns-then-same-2
+returns-then-same-2 c = search (scan, lut_columns-def)
 
-pub ?? : goal.??
-?? c = search (scan, lut_columns-def)
+pub returns : goal.returns
+returns c = search (scan, lut_columns-def)

@@ -3,15 +3,6 @@ use borrow.Author.Tests.{eq-eqb, ne_eqb}
 use borrow.Author.Rules.{rules}
 use Rattle.tags.proofs.list_text_fault.Goals as goal
 
-pub ?? : goal.??
-?? c = rw (← c.same.ensures, c.if-same.true, eq-eqb _ _ c.if-text-eq0.true)
-
-pub ?? : goal.??
-?? c = rw (← c.same.ensures, c.if-same.true, ne_eqb _ _ c.if-text-eq0.false)
-
 pub returns-then-same-2 : goal.returns-then-same-2
 returns-then-same-2 c =
     rw (← c.same.ensures, c.if-same.false, ← c.same-2.ensures, c.if-same-2.true, c.unless.ensures, c.same-then-same-2.ensures)
-
-pub ?? : goal.??
-?? c = search scan

@@ -4,6 +4,3 @@ use Rattle.tags.proofs.lut_text_fault.Goals as goal
 
 pub returns-then-same : goal.returns-then-same
 returns-then-same c = rw (← c.same.ensures, c.if-same.true, c.unless.ensures, c.same-then-same.ensures)
-
-pub ?? : goal.??
-?? c = search scan

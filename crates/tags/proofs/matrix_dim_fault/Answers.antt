@@ -5,6 +5,3 @@ use Rattle.tags.proofs.matrix_dim_fault.Goals as goal
 
 pub returns-then-same : goal.returns-then-same
 returns-then-same c = rw (← c.same.ensures, c.if-same.true, c.unless.ensures, c.either.ensures, matrix_shape-fault)
-
-pub ?? : goal.??
-?? c = search scan

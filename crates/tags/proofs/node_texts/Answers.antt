@@ -6,7 +6,7 @@ use Rattle.tags.proofs.node_texts.Goals as goal
 pub returns : goal.returns
 returns c =
     record {
-      c = rw c.span_at-input.ensures (text_in _ _ _ _ (c.index_of-i.ensures _ refl refl refl));
-      c = rw c.span_at-output.ensures (text_in _ _ _ _ (c.index_of-o.ensures _ refl refl refl));
-      c = rw c.span_at-id.ensures (text_in _ _ _ _ (c.index_of-d.ensures _ refl refl refl));
+      input = rw c.span_at-input.ensures (text_in _ _ _ _ (c.index_of-i.ensures _ refl refl refl));
+      output = rw c.span_at-output.ensures (text_in _ _ _ _ (c.index_of-o.ensures _ refl refl refl));
+      id = rw c.span_at-id.ensures (text_in _ _ _ _ (c.index_of-d.ensures _ refl refl refl));
     }

@@ -8,4 +8,4 @@ unfolding cube_text
 returns c =
     puts_then c.put_digits-a.ensures
     (puts_then c.put-b.ensures
-    (puts_then c.put_digits-c.ensures (puts_then c.put-d.ensures (puts_then c.put_digits-e.ensures c.put-b.ensures))))
+    (puts_then c.put_digits-c.ensures (puts_then c.put-d.ensures (puts_then c.put_digits-e.ensures c.put.ensures))))

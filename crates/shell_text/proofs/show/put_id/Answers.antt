@@ -9,8 +9,8 @@ use Rattle.shell_text.proofs.show.put_id.Goals as goal
 pub returns-then-n-eq0 : goal.returns-then-n-eq0
 returns-then-n-eq0 c = puts-as (shown-none _ (omega arith)) c.put.ensures
 
-pub ?? : goal.??
-?? c = omega (arith, text-short c.args.places.now)
+pub slice_bounds-put_hex-end : goal.slice_bounds-put_hex-end
+slice_bounds-put_hex-end c = omega (arith, text-short c.args.places.now)
 
 pub returns : goal.returns
 returns c =

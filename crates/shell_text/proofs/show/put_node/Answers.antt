@@ -6,15 +6,8 @@ use borrow.Author.Rules.{rules}
 use Rattle.shell_text.proofs.show.put_node.Goals as goal
 
 -- the places of the id
-places : (s : tie.Start) → length s.args.node.id ≡ 32
-places s = search rules
-
 pub slice_bounds-put_id-end : goal.slice_bounds-put_id-end
-slice_bounds-put_id-end c =
-    sym (places c)
-
-pub ?? : goal.??
-?? c = (returns c).size
+slice_bounds-put_id-end c = let places : length c.args.node.id ≡ 32 = search rules in sym places
 
 pub returns : goal.returns
 unfolding shown_node

@@ -5,17 +5,17 @@ use borrow.Author.Rules.{rules}
 use Rattle.writing.proofs.elements.put_range.Goals as goal
 
 -- The four values of a Range. Assumes nothing.
-pub ?? : goal.??
+pub overflow_add-from : goal.overflow_add-from
 unfolding room_length
-?? c = search rules
+overflow_add-from c = search rules
 
-pub ?? : goal.??
+pub overflow_add-from-2 : goal.overflow_add-from-2
 unfolding room_length
-?? c = search rules
+overflow_add-from-2 c = search rules
 
-pub ?? : goal.??
+pub overflow_add-from-3 : goal.overflow_add-from-3
 unfolding room_length
-?? c = search rules
+overflow_add-from-3 c = search rules
 
 pub returns : goal.returns
 returns c =

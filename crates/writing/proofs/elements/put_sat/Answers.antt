@@ -5,9 +5,9 @@ use borrow.Author.Rules.{rules}
 use Rattle.writing.proofs.elements.put_sat.Goals as goal
 
 -- Saturation. Assumes nothing.
-pub ?? : goal.??
+pub overflow_add-from : goal.overflow_add-from
 unfolding room_length
-?? c = search rules
+overflow_add-from c = search rules
 
 pub returns : goal.returns
 returns c =

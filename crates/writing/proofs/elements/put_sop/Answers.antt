@@ -5,13 +5,13 @@ use borrow.Author.Rules.{rules}
 use Rattle.writing.proofs.elements.put_sop.Goals as goal
 
 -- Slope, Offset, Power. Assumes nothing.
-pub ?? : goal.??
+pub overflow_add-from : goal.overflow_add-from
 unfolding room_length
-?? c = search rules
+overflow_add-from c = search rules
 
-pub ?? : goal.??
+pub overflow_add-from-2 : goal.overflow_add-from-2
 unfolding room_length
-?? c = search rules
+overflow_add-from-2 c = search rules
 
 pub returns : goal.returns
 returns c =

@@ -9,8 +9,8 @@ use Rattle.writing.proofs.names.put_id.Goals as goal
 pub returns-then-n-eq0 : goal.returns-then-n-eq0
 returns-then-n-eq0 c = puts_none (id-none _ (omega arith))
 
-pub ?? : goal.??
-?? c = omega (arith, text-short c.args.places.now)
+pub slice_bounds-put-end-2 : goal.slice_bounds-put-end-2
+slice_bounds-put-end-2 c = omega (arith, text-short c.args.places.now)
 
 pub returns : goal.returns
 returns c =

@@ -19,9 +19,9 @@ put_row-held-requires c =
     let e = rows_left c.args.rows c.args.columns c.loop-i.i (omega arith) in
     search rules
 
-pub ?? : goal.??
+pub overflow_add-k : goal.overflow_add-k
 unfolding room_length
-?? c =
+overflow_add-k c =
     let e =
     rows_left c.args.rows
     c.args.columns c.loop-i.i (omega arith) in

@@ -12,10 +12,10 @@ use Rattle.writing.proofs.numbers.put_rows.Given as goal
 
 abbrev pub invariant-loop-i : goal.invariant-loop-i
 invariant-loop-i l =
-    (i ≤ l.rows)
-    × (l.i + (l.rows - i) * l.columns ≡ l.from + l.rows * l.columns)
+    (l.i ≤ l.rows)
+    × (l.k + (l.rows - l.i) * l.columns ≡ l.from + l.rows * l.columns)
     × Goes (rows_text l.rows l.columns (numbers_at (lent l.coefficients l.powers) l.from (l.rows * l.columns)))
-    (rows_text (l.rows - i) l.columns (numbers_at (lent l.coefficients l.powers) l.i ((l.rows - i) * l.columns))) l.at l.initial.out l.held l.k
+    (rows_text (l.rows - l.i) l.columns (numbers_at (lent l.coefficients l.powers) l.k ((l.rows - l.i) * l.columns))) l.at l.initial.out l.out l.held
 
 abbrev pub decreases-loop-i : goal.decreases-loop-i
-decreases-loop-i l = l.rows - i
+decreases-loop-i l = l.rows - l.i

@@ -13,9 +13,9 @@ use Rattle.writing.proofs.numbers.put_spaced.Goals as goal
 pub loop-i-init : goal.loop-i-init
 loop-i-init c = (search rules, spaced-start _ _ _ _ _)
 
-pub ?? : goal.??
+pub overflow_add-from : goal.overflow_add-from
 unfolding room_length
-?? c = search rules
+overflow_add-from c = search rules
 
 pub loop-i-preserved : goal.loop-i-preserved
 loop-i-preserved c =

@@ -11,8 +11,8 @@ use Rattle.writing.proofs.numbers.put_spaced.Given as goal
 
 abbrev pub invariant-loop-i : goal.invariant-loop-i
 invariant-loop-i l =
-    (i ≤ l.count)
-    × Goes (spaced_text (numbers_at (lent l.coefficients l.powers) l.from l.count)) (spaced_text (numbers_at (lent l.coefficients l.powers) (l.from + i) (l.count - i))) l.at l.initial.out l.held l.i
+    (l.i ≤ l.count)
+    × Goes (spaced_text (numbers_at (lent l.coefficients l.powers) l.from l.count)) (spaced_text (numbers_at (lent l.coefficients l.powers) (l.from + l.i) (l.count - l.i))) l.at l.initial.out l.out l.held
 
 abbrev pub decreases-loop-i : goal.decreases-loop-i
-decreases-loop-i l = l.count - i
+decreases-loop-i l = l.count - l.i
