@@ -12,8 +12,8 @@
 
 /* ---- the proved code: a slice is a pointer and a length */
 void rt_range(double *, size_t, double, double, double, double, bool);
-void rt_matrix(double *, size_t, const double *, bool);
-void rt_cdl(double *, size_t, const double *, bool, double, double);
+void rt_matrix(double *, size_t, const double *, size_t, bool);
+void rt_cdl(double *, size_t, const double *, size_t, bool, double, double);
 void rt_lut1d(double *, size_t, const int64_t *, size_t, const int8_t *, size_t, size_t, size_t, size_t, double);
 size_t rt_first_not_finite(const double *, size_t);
 
@@ -209,8 +209,8 @@ static void speed(void) {
             for (size_t i = 0; i < n; i++) a[i] = o[i] * scale;
             double start = clock_now();
             if (t < 2) rt_range(a, n, 0, 1, 0, 0.5, t == 0);
-            else if (t < 4) rt_matrix(a, n, m, t == 3);
-            else if (t < 8) rt_cdl(a, n, cdl, true, scale, scale);
+            else if (t < 4) rt_matrix(a, n, m, 12, t == 3);
+            else if (t < 8) rt_cdl(a, n, cdl, 10, true, scale, scale);
             else rt_lut1d(a, n, coefficients, 3 * 4096, powers, 3 * 4096, 0, 4096, t == 8 ? 1 : 3, scale);
             double took = clock_now() - start;
             if (took < best) best = took;
@@ -239,7 +239,7 @@ int main(int argc, char **argv) {
         for (int j = 0; j < 12; j++) m[j] = parameter();
         bool wide = rnd() % 2;
         size_t n = fill(scales[rnd() % 6]);
-        rt_matrix(got, n, m, wide);
+        rt_matrix(got, n, m, 12, wide);
         c_matrix(want, n, m, wide);
         check("Matrix", n);
     }
@@ -251,7 +251,7 @@ int main(int argc, char **argv) {
         bool clamp = rnd() % 2;
         double in_scale = scales[rnd() % 6], out_scale = scales[rnd() % 6];
         size_t n = fill(in_scale);
-        rt_cdl(got, n, m, clamp, in_scale, out_scale);
+        rt_cdl(got, n, m, 10, clamp, in_scale, out_scale);
         c_cdl(want, n, m, clamp, in_scale, out_scale);
         check("ASC_CDL", n);
     }

@@ -1,6 +1,6 @@
 #!/usr/bin/env bash
 # Builds the proved pixel code as a static library, links compare.c against it and runs it: compare.sh [speed].
-# Everything is written to a temporary folder. The crate that exports the functions to C is the text at the end of this file.
+# Everything is written to a temporary folder. The crate that exports the functions to C is written here too.
 set -eu
 here=$(cd "$(dirname "$0")" && pwd)
 root=$(cd "$here/../.." && pwd)
@@ -15,74 +15,126 @@ need() {
 }
 need pixel_run
 for crate in $needed; do
-    cp -R "$root/crates/$crate" "$work/crates/"
+    mkdir "$work/crates/$crate"
+    for part in src specs proofs; do
+        [ ! -d "$root/crates/$crate/$part" ] || cp -R "$root/crates/$crate/$part" "$work/crates/$crate/"
+    done
     grep "^$crate:" "$root/crates.txt" >>"$work/crates.txt"
 done
-[ ! -d "$root/target" ] || cp -R "$root/target" "$work/target"
-echo 'pixel_export: pixel pixel_lut pixel_run' >>"$work/crates.txt"
-sed '1,/^# ---- pixel_export/d' "$here/compare.sh" >"$work/crates/pixel_export/src/lib.rt"
-(cd "$work" && rt staticlib pixel_export >"$work/log" 2>&1) || { tail -n 20 "$work/log"; exit 1; }
-cc -O2 -ffp-contract=off -Wall "$here/compare.c" "$work/target/staticlib/libpixel_export.a" -lm -o "$work/compare"
-"$work/compare" "$@"
-exit $?
-# ---- pixel_export
+echo 'pixel_export staticlib: pixel_run' >>"$work/crates.txt"
+cat >"$work/crates/pixel_export/src/lib.rt" <<'END'
+#![tactic(auto)]
+
 // What a C program calls to compare.
 use pixel_run::Prepared;
 
-#[no_mangle]
-pub extern "C" fn rt_range(pixels: &mut [f64], min_in: f64, max_in: f64, min_out: f64, max_out: f64, clamp: bool) {
-    let rows = [[0.0f64; 4]; 3];
-    let c = [0i64; 1];
-    let p = [0i8; 1];
-    pixel_run::run_node(pixels, Prepared::Range { min_in, max_in, min_out, max_out, clamp }, rows, 1023.0, 1023.0, &c, &p);
+// The rows that are handed over beside a prepared node which is no Matrix.
+fn no_rows() -> [[f64; 4]; 3] {
+    [
+        [0.0, 0.0, 0.0, 0.0],
+        [0.0, 0.0, 0.0, 0.0],
+        [0.0, 0.0, 0.0, 0.0],
+    ]
 }
 
-#[no_mangle]
-pub extern "C" fn rt_matrix(pixels: &mut [f64], m: &[f64; 12], wide: bool) {
-    let a = [m[0], m[1], m[2], m[3]];
-    let b = [m[4], m[5], m[6], m[7]];
-    let d = [m[8], m[9], m[10], m[11]];
-    let rows = [a, b, d];
+#[unsafe(no_mangle)]
+pub extern "C" fn rt_range(
+    pixels: &mut [f64],
+    min_in: f64,
+    max_in: f64,
+    min_out: f64,
+    max_out: f64,
+    clamp: bool,
+) {
+    let step = Prepared::Range {
+        min_in,
+        max_in,
+        min_out,
+        max_out,
+        clamp,
+    };
     let c = [0i64; 1];
     let p = [0i8; 1];
-    pixel_run::run_node(pixels, Prepared::Matrix { at: 0, wide }, rows, 1023.0, 1023.0, &c, &p);
+    pixel_run::run_node(pixels, step, no_rows(), 1023.0, 1023.0, &c, &p);
 }
 
-#[no_mangle]
-pub extern "C" fn rt_cdl(pixels: &mut [f64], m: &[f64; 10], clamp: bool, in_scale: f64, out_scale: f64) {
-    let rows = [[0.0f64; 4]; 3];
+// Nothing happens where m has not the twelve numbers.
+#[unsafe(no_mangle)]
+pub extern "C" fn rt_matrix(pixels: &mut [f64], m: &[f64], wide: bool) {
+    if m.len() < 12 {
+        return;
+    }
+    let rows = [
+        [m[0], m[1], m[2], m[3]],
+        [m[4], m[5], m[6], m[7]],
+        [m[8], m[9], m[10], m[11]],
+    ];
     let c = [0i64; 1];
     let p = [0i8; 1];
     pixel_run::run_node(
         pixels,
-        Prepared::Cdl {
-            slope_r: m[0],
-            slope_g: m[1],
-            slope_b: m[2],
-            offset_r: m[3],
-            offset_g: m[4],
-            offset_b: m[5],
-            power_r: m[6],
-            power_g: m[7],
-            power_b: m[8],
-            saturation: m[9],
-            clamp,
-        },
+        Prepared::Matrix { at: 0, wide },
         rows,
-        in_scale,
-        out_scale,
+        1023.0,
+        1023.0,
         &c,
         &p,
     );
 }
 
-#[no_mangle]
-pub extern "C" fn rt_lut1d(pixels: &mut [f64], coefficients: &[i64], powers: &[i8], at: usize, entries: usize, columns: usize, in_scale: f64) {
-    let rows = [[0.0f64; 4]; 3];
-    pixel_run::run_node(pixels, Prepared::Lut1d { at, entries, columns }, rows, in_scale, 1.0, coefficients, powers);
+// Nothing happens where m has not the ten numbers.
+#[unsafe(no_mangle)]
+pub extern "C" fn rt_cdl(
+    pixels: &mut [f64],
+    m: &[f64],
+    clamp: bool,
+    in_scale: f64,
+    out_scale: f64,
+) {
+    if m.len() < 10 {
+        return;
+    }
+    let step = Prepared::Cdl {
+        slope_r: m[0],
+        slope_g: m[1],
+        slope_b: m[2],
+        offset_r: m[3],
+        offset_g: m[4],
+        offset_b: m[5],
+        power_r: m[6],
+        power_g: m[7],
+        power_b: m[8],
+        saturation: m[9],
+        clamp,
+    };
+    let c = [0i64; 1];
+    let p = [0i8; 1];
+    pixel_run::run_node(pixels, step, no_rows(), in_scale, out_scale, &c, &p);
 }
 
-#[no_mangle]
+#[unsafe(no_mangle)]
+pub extern "C" fn rt_lut1d(
+    pixels: &mut [f64],
+    coefficients: &[i64],
+    powers: &[i8],
+    at: usize,
+    entries: usize,
+    columns: usize,
+    in_scale: f64,
+) {
+    let step = Prepared::Lut1d {
+        at,
+        entries,
+        columns,
+    };
+    pixel_run::run_node(pixels, step, no_rows(), in_scale, 1.0, coefficients, powers);
+}
+
+#[unsafe(no_mangle)]
 pub extern "C" fn rt_first_not_finite(pixels: &[f64]) -> usize {
     pixel_run::first_not_finite(pixels)
 }
+END
+(cd "$work/crates/pixel_export" && rt lib >"$work/log" 2>&1) || { tail -n 20 "$work/log"; exit 1; }
+cc -O2 -ffp-contract=off -Wall "$here/compare.c" "$work/crates/pixel_export/out/libpixel_export.a" -lm -o "$work/compare"
+"$work/compare" "$@"

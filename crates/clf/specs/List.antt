@@ -1,12 +1,12 @@
 -- ProcessList, and what may stand around it (document 01, The file we carry).
 use Rattle.process_list.specs.List.{Element}
-use Rattle.std.specs.Prelude.{Bool, true, false, cond, ◌&&◌, ◌||◌, List, [], ◌∷◌, ◌++◌, ℕ, eqb, length}
-use Rattle.grammar.specs.Parse.{Out, done, fault, cut, Parser, Turn, again, last, then_out, loop_p}
+use Rattle.std.specs.Prelude.{Bool, true, false, cond, ◌&&◌, List, [], ◌∷◌, ℕ, eqb, length}
+use Rattle.grammar.specs.Parse.{Out, done, Parser, Turn, again, last, then_out, loop_p}
 use Rattle.grammar.specs.Grammar.{G, ret, bad, kept, blame, seq, loop, items, ◌>>=◌, ◌>>◌}
 use Rattle.xml.specs.Bytes.{bytes, same}
 use Rattle.xml.specs.Xml.{word, Attribute, is_named, Rules, Tag, start_tag, end_tag, stray_end}
 use Rattle.xml.specs.Elements.{Part, misc, child, close, between, text_element, info}
-use Rattle.clf.specs.Nodes.{NodeName, node_name, node_fault, node_body}
+use Rattle.clf.specs.Nodes.{node_name, node_fault, node_body}
 use Rattle.refusals.specs.Refusals as Refusal
 
 -- 'It starts at byte 0 with the 38 bytes'; 'another start is 3 at 0, a start cut short is 1'

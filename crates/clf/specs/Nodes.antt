@@ -1,5 +1,5 @@
 -- The five carried nodes (document 01, The file we carry; the fifth, LUT3D, document 02, W-201): each is the grammar of what stands behind `<` and its name.
-use Rattle.std.specs.Prelude.{Bool, true, false, cond, not, ◌&&◌, ◌||◌, List, [], ◌∷◌, ◌++◌, ℕ, zero, suc, ◌+◌, ◌-◌, ◌*◌, eqb, leb, ltb, pos, length, get_or, set}
+use Rattle.std.specs.Prelude.{Bool, true, false, cond, not, ◌&&◌, ◌||◌, List, [], ◌∷◌, ◌++◌, ℕ, ◌+◌, ◌-◌, ◌*◌, eqb, leb, ltb, pos, length, get_or, set}
 use Rattle.std.proofs.Math.Option.{Option, none, some}
 use Prim.Native.Char.{code}
 use Rattle.decimal.specs.declared.Decimal.{Decimal}
@@ -21,7 +21,7 @@ use Rattle.process_list.specs.declared.Kind.TheVariants.{Matrix, Lut1d, Range, C
 use Rattle.process_list.specs.List.{Element, numbers_of, most_entries, most_points, same_depth, range_clamps}
 use Rattle.grammar.specs.Grammar.{G, ret, bad, seq, ◌>>=◌, ◌>>◌}
 use Rattle.xml.specs.Bytes.{bytes, same, is_digit}
-use Rattle.xml.specs.Xml.{Attribute, is_named, text_of, Rules, plain, Tag, start_tag}
+use Rattle.xml.specs.Xml.{Attribute, is_named, text_of, Rules, Tag, start_tag}
 use Rattle.xml.specs.Elements.{Holder, held, text_element}
 use Rattle.clf.specs.Numbers.{numbers, any_number, not_below_zero, must_be_one, value_element}
 use Rattle.ids.specs.Ids.{id_right, most_node_id_bytes}

@@ -1,5 +1,5 @@
 -- The numbers of value elements and Arrays (document 01, The file we carry, Numbers, Refusal numbers 9, 22, 21, 7; document 02, W-204, 25).
-use Rattle.std.specs.Prelude.{Bool, true, false, cond, ◌||◌, List, [], ◌∷◌, ◌++◌, ℕ, eqb, leb, ltb, length}
+use Rattle.std.specs.Prelude.{Bool, cond, ◌||◌, List, [], ◌∷◌, ◌++◌, ℕ, eqb, leb, ltb, length}
 use Rattle.decimal.specs.declared.Decimal.{Decimal}
 use Rattle.decimal.specs.declared.Token.{Token}
 use Rattle.decimal.specs.declared.Token.TheVariants.{Number, Malformed, OutOfBounds}

@@ -1,6 +1,5 @@
 -- Reading a file (document 01, Refusal numbers): 4 first; then the fault with the smallest place; then, only over text without fault, 12, 11, 10, 23 (document 02, W-203), 13.
-use Rattle.std.specs.Prelude.{Bool, true, false, cond, ◌&&◌, List, [], ◌∷◌, ◌++◌, map, ℕ, ◌-◌, ltb, leb, length}
-use Rattle.decimal.specs.declared.Decimal.{Decimal}
+use Rattle.std.specs.Prelude.{Bool, cond, ◌&&◌, List, [], ◌∷◌, ℕ, ◌-◌, ltb, leb, length}
 use Rattle.process_list.specs.declared.Verdict.{Verdict}
 use Rattle.process_list.specs.List.{Element, verdict, by_verdict, most_numbers}
 use Rattle.grammar.specs.Parse.{Out, done, fault, cut}

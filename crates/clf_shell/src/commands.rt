@@ -2,12 +2,12 @@
 use crate::out::{flush, put_answer, put_byte, put_hex};
 use crate::show::put_state;
 use crate::{pixels, writes};
-use libc::STDOUT_FILENO;
 use process_list::ProcessList;
 use reading::Answer;
 use shell_text::Command;
 use shell_text::commands::command;
 use shell_text::lines::least;
+use std::io;
 use tags::part;
 
 // What the commands work on beside the table room's memory: the list, and the length of the room. The room ends with the shorter of its two
@@ -19,115 +19,142 @@ pub struct State {
 }
 
 // Answers a line that is no command.
-fn unknown() {
-    io::write_all(STDOUT_FILENO, b"?\n");
+fn unknown(rt: &impl Print) -> io::Result<()> {
+    rt.write_all(b"?\n")
 }
 
 // Answers with the number, the place and the state that a reading or a replacing leaves, in room of this length.
-fn print_answer(answer: Answer, room: usize, coefficients: &[i64], powers: &[i8]) -> State {
+fn print_answer(
+    rt: &impl Print,
+    answer: Answer,
+    room: usize,
+    coefficients: &[i64],
+    powers: &[i8],
+) -> io::Result<State> {
     let list = answer.list;
-    let mut buffer = io::buffer();
-    let a = put_answer(&mut buffer, 0, answer.number, answer.place);
-    let b = put_state(&mut buffer, a, list, room, coefficients, powers);
-    let c = put_byte(&mut buffer, b, b'\n');
-    flush(&buffer, c);
-    State { list, room }
+    let mut buffer = [0u8; 4096];
+    let a = put_answer(rt, &mut buffer, 0, answer.number, answer.place)?;
+    let b = put_state(rt, &mut buffer, a, list, room, coefficients, powers)?;
+    let c = put_byte(rt, &mut buffer, b, b'\n')?;
+    flush(rt, &buffer, c)?;
+    Ok(State { list, room })
 }
 
 // `R ROOM HEX`: reads the file into room for so many numbers.
-fn read_file(file: &[u8], room: usize, coefficients: &mut [i64], powers: &mut [i8]) -> State {
+fn read_file(
+    rt: &impl Print,
+    file: &[u8],
+    room: usize,
+    coefficients: &mut [i64],
+    powers: &mut [i8],
+) -> io::Result<State> {
     let n = least(room, powers.len());
     let answer = reading::read(file, coefficients, &mut powers[0..n]);
-    print_answer(answer, room, coefficients, powers)
+    print_answer(rt, answer, room, coefficients, powers)
 }
 
 // `P K HEX`: puts the element in the place of node k, in the table room that the list was read into.
 fn replace_by(
+    rt: &impl Print,
     element: &[u8],
     k: usize,
     state: State,
     coefficients: &mut [i64],
     powers: &mut [i8],
-) -> State {
+) -> io::Result<State> {
     let room = state.room;
     let n = least(room, powers.len());
     let answer = replacing::replace(state.list, coefficients, &mut powers[0..n], k, element);
-    print_answer(answer, room, coefficients, powers)
+    print_answer(rt, answer, room, coefficients, powers)
 }
 
 // `N K NUMBER HEX`: the same by the feed's number.
 fn replace_numbered_by(
+    rt: &impl Print,
     element: &[u8],
     k: usize,
     number: u32,
     state: State,
     coefficients: &mut [i64],
     powers: &mut [i8],
-) -> State {
+) -> io::Result<State> {
     let list = state.list;
     let room = state.room;
     let n = least(room, powers.len());
     let lent = &mut powers[0..n];
     let answer = replacing::replace_numbered(list, coefficients, lent, k, number, element);
-    print_answer(answer, room, coefficients, powers)
+    print_answer(rt, answer, room, coefficients, powers)
 }
 
 // `C HEX`: the file check.
-fn check(file: &[u8]) {
+fn check(rt: &impl Print, file: &[u8]) -> io::Result<()> {
     let c = reading::check(file);
     let mut buffer = [0u8; 64];
-    let a = put_answer(&mut buffer, 0, c.number, c.place);
-    let b = put_byte(&mut buffer, a, b'\n');
-    flush(&buffer, b);
+    let a = put_answer(rt, &mut buffer, 0, c.number, c.place)?;
+    let b = put_byte(rt, &mut buffer, a, b'\n')?;
+    flush(rt, &buffer, b)
 }
 
 // `D K HEX`: the first Description inside node k.
-fn description(file: &[u8], k: usize) {
-    let mut buffer = io::buffer();
+fn description(rt: &impl Print, file: &[u8], k: usize) -> io::Result<()> {
+    let mut buffer = [0u8; 4096];
     let c = reading::description_number(file, k);
-    let a = put_answer(&mut buffer, 0, c.number, c.place);
-    let b = put_byte(&mut buffer, a, b' ');
-    let d = put_hex(&mut buffer, b, reading::description(file, k));
-    let e = put_byte(&mut buffer, d, b'\n');
-    flush(&buffer, e);
+    let a = put_answer(rt, &mut buffer, 0, c.number, c.place)?;
+    let b = put_byte(rt, &mut buffer, a, b' ')?;
+    let d = put_hex(rt, &mut buffer, b, reading::description(file, k))?;
+    let e = put_byte(rt, &mut buffer, d, b'\n')?;
+    flush(rt, &buffer, e)
 }
 
 // `K HEX`: the check program's line.
-fn check_line(input: &[u8]) {
+fn check_line(rt: &impl Print, input: &[u8]) -> io::Result<()> {
     let text = check_line::check_line(input);
     let bytes = text.bytes;
-    flush(&bytes, text.length);
+    flush(rt, &bytes, text.length)
 }
 
 // Answers a command that changes no state.
-fn answer_alone(line: &[u8], c: Command, state: State, coefficients: &[i64], powers: &[i8]) {
+fn answer_alone(
+    rt: &impl Print,
+    line: &[u8],
+    c: Command,
+    state: State,
+    coefficients: &[i64],
+    powers: &[i8],
+) -> io::Result<()> {
     let bytes = part(line, c.start, c.end);
     let n = least(state.room, powers.len());
     let room = &powers[0..n];
     let letter = c.letter;
     match letter {
-        b'C' => check(bytes),
-        b'D' => description(bytes, c.number),
-        b'K' => check_line(bytes),
-        b'W' => writes::write(bytes, c.number, state.list, coefficients, room),
-        b'X' => pixels::run(line, state.list, coefficients, room),
-        _ => unknown(),
+        b'C' => check(rt, bytes),
+        b'D' => description(rt, bytes, c.number),
+        b'K' => check_line(rt, bytes),
+        b'W' => writes::write(rt, bytes, c.number, state.list, coefficients, room),
+        b'X' => pixels::run(rt, line, state.list, coefficients, room),
+        _ => unknown(rt),
     }
 }
 
 // Answers a command line.
-pub fn answer(line: &mut [u8], state: State, coefficients: &mut [i64], powers: &mut [i8]) -> State {
+pub fn answer(
+    rt: &impl Print,
+    line: &mut [u8],
+    state: State,
+    coefficients: &mut [i64],
+    powers: &mut [i8],
+) -> io::Result<State> {
     let c = command(line);
     let number = c.number;
     let bytes = part(line, c.start, c.end);
     let letter = c.letter;
     match letter {
-        b'R' => read_file(bytes, number, coefficients, powers),
-        b'P' => replace_by(bytes, number, state, coefficients, powers),
-        b'N' => replace_numbered_by(bytes, number, c.feed, state, coefficients, powers),
+        b'R' => read_file(rt, bytes, number, coefficients, powers),
+        b'P' => replace_by(rt, bytes, number, state, coefficients, powers),
+        b'N' => replace_numbered_by(rt, bytes, number, c.feed, state, coefficients, powers),
         _ => {
-            answer_alone(line, c, state, coefficients, powers);
-            state
+            answer_alone(rt, line, c, state, coefficients, powers)?;
+            Ok(state)
         }
     }
 }

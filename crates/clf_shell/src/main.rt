@@ -10,8 +10,9 @@ mod show;
 mod writes;
 
 use commands::State;
-use libc::{STDIN_FILENO, STDOUT_FILENO};
 use shell_text::lines::{least, line_end};
+use std::io;
+use std::io::Read;
 use tags::part;
 
 // A line of the input: it stands in the buffer from `start` up to `stop`, or is dropped since it was too long; `some` is false where there is
@@ -34,14 +35,12 @@ struct Kept {
 }
 
 // One read behind the bytes that are held: how many bytes the buffer holds then.
-fn read_more(buffer: &mut [u8], held: usize) -> usize {
+fn read_more(input: &mut impl Read, buffer: &mut [u8], held: usize) -> io::Result<usize> {
     if held < buffer.len() {
-        let rest = &mut buffer[held..];
-        let got = libc::read(STDIN_FILENO, rest);
-        let n = io::count(got, rest);
-        return held + n;
+        let n = input.read(&mut buffer[held..])?;
+        return Ok(held + n);
     }
-    held
+    Ok(held)
 }
 
 // Moves the bytes from `start` up to `end` to the start of the buffer, and answers how many they are.
@@ -96,83 +95,93 @@ fn last_line(held: usize, dropped: bool) -> Line {
 }
 
 // The line behind this one, read as far as its line feed. A proved loop has to end, and nothing says that the input does. So this loop and
-// that of `serve` count their turns down, from a number that no run uses up.
-fn next_line(buffer: &mut [u8], line: Line) -> Line {
+// that of `serve` have a number of turns that no run uses up.
+fn next_line(input: &mut impl Read, buffer: &mut [u8], line: Line) -> io::Result<Line> {
     let mut start = line.next;
     let mut seen = line.next;
     let mut end = line.end;
     let mut dropped = false;
-    let mut turns = u64::MAX;
-    while 0 < turns {
+    for _ in 0..u64::MAX {
         let limit = least(end, buffer.len());
         let stop = line_end(part(buffer, 0, limit), seen);
         if stop < limit {
-            return Line {
+            return Ok(Line {
                 start,
                 stop,
                 next: stop + 1,
                 end,
                 dropped,
                 some: true,
-            };
+            });
         }
         let kept = unfinished(buffer, start, end, dropped);
         let held = kept.held;
         dropped = kept.dropped;
         start = 0;
         seen = held;
-        end = read_more(buffer, held);
+        end = read_more(input, buffer, held)?;
         if end <= held {
-            return last_line(held, dropped);
+            return Ok(last_line(held, dropped));
         }
-        turns -= 1;
     }
-    last_line(0, false)
+    Ok(last_line(0, false))
 }
 
 // Answers a line.
 fn answered(
+    rt: &impl Print,
     buffer: &mut [u8],
     line: Line,
     state: State,
     coefficients: &mut [i64],
     powers: &mut [i8],
-) -> State {
+) -> io::Result<State> {
     if line.dropped {
-        io::write_all(STDOUT_FILENO, b"too long\n");
-        return state;
+        rt.write_all(b"too long\n")?;
+        return Ok(state);
     }
     let start = line.start;
     let stop = line.stop;
     if stop < start {
-        return state;
+        return Ok(state);
     }
     if buffer.len() < stop {
-        return state;
+        return Ok(state);
     }
-    commands::answer(&mut buffer[start..stop], state, coefficients, powers)
+    commands::answer(rt, &mut buffer[start..stop], state, coefficients, powers)
 }
 
-fn serve(buffer: &mut [u8], coefficients: &mut [i64], powers: &mut [i8]) {
+fn serve(
+    rt: &impl Print,
+    input: &mut impl Read,
+    buffer: &mut [u8],
+    coefficients: &mut [i64],
+    powers: &mut [i8],
+) -> io::Result<()> {
     let mut state = State {
         list: process_list::empty(),
         room: 0,
     };
     let mut line = last_line(0, false);
-    let mut turns = u64::MAX;
-    while 0 < turns {
-        line = next_line(buffer, line);
+    for _ in 0..u64::MAX {
+        line = next_line(input, buffer, line)?;
         if !line.some {
-            return;
+            return Ok(());
         }
-        state = answered(buffer, line, state, coefficients, powers);
-        turns -= 1;
+        state = answered(rt, buffer, line, state, coefficients, powers)?;
     }
+    Ok(())
 }
 
-fn main() {
+fn main(rt: HostRuntime) -> io::Result<()> {
     let mut buffer = [0u8; 2097152];
     let mut coefficients = [0i64; 262144];
     let mut powers = [0i8; 262144];
-    serve(&mut buffer, &mut coefficients, &mut powers);
+    serve(
+        &rt,
+        &mut rt.stdin(),
+        &mut buffer,
+        &mut coefficients,
+        &mut powers,
+    )
 }

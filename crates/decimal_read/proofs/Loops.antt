@@ -9,7 +9,7 @@ use native.Mathlib.Omega.{arith}
 use lib.ListN.{length, drop, get_or}
 use Rattle.scanning.specs.Steps.{here, past}
 use Rattle.decimal_read.specs.declared.Held.{Held}
-use Rattle.decimal_read.specs.Number.{is_digit, digits_of, behind_digits, zeros}
+use Rattle.decimal_read.specs.Number.{is_digit, digits_of, behind_digits}
 use Rattle.decimal_read.specs.Steps.{held_with, held_all, RunOf, zeros_of, coefficient_of}
 use Rattle.decimal_read.proofs.Laws.{digits_of-nil, digits_of-cons, behind_digits-nil, behind_digits-cons, held_all-nil, held_all-cons}
 use Rattle.decimal_read.proofs.Zeros.{ten-more, one-pair, zeros-le}

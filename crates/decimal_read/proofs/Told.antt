@@ -15,7 +15,7 @@ use Rattle.decimal.specs.declared.Token.{Token}
 use Rattle.decimal.specs.declared.Token.TheVariants.{Number, Malformed, OutOfBounds}
 use Rattle.decimal_read.specs.Number.{Form, form_of, normal, token_by, token_of}
 use Rattle.decimal_read.specs.RightForm.{RightForm, form_said}
-use Rattle.decimal_read.specs.Told.{Accepted, Beyond, TellsApart}
+use Rattle.decimal_read.specs.Told.{TellsApart}
 use Rattle.decimal_read.proofs.RightForms.{form-right, right-form}
 
 no_number : {X : Type 0} (d : Decimal) → Malformed ≡ Number d → X

@@ -38,7 +38,6 @@ any_other list Found.OutputDescriptor n h = refl
 any_other list Found.Info n h = refl
 any_other list Found.Other n h = refl
 
-
 -- any child but a node
 pub list_same : (list : ProcessList) (x : FoundChild) (n : Node) → Among (1 ∷ 2 ∷ 3 ∷ 4 ∷ []) (tag_of the_type x) → list ≡ list_with list x n
 list_same list x n h = any_other list x n (opened h)

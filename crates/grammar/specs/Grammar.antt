@@ -1,5 +1,5 @@
 -- A grammar: a parser with the proof of its law. A definition made of these forms needs no proof of its own.
-use Rattle.std.specs.Prelude.{◌≡◌, Bool, List, [], ◌∷◌, ◌++◌, ℕ}
+use Rattle.std.specs.Prelude.{Bool, List, [], ◌∷◌, ◌++◌, ℕ}
 use Rattle.grammar.specs.Parse.{Parser, Turn, again, last, bind_p, ret_p, bad_p, look_p, strict_p, look_two_p, judge_p, settle_p, blame_p, kept_p, eat_p, span_p, loop_p, loop_state}
 use Rattle.grammar.specs.Laws.{StrongPrefix, bind-answer, ret-answer, bad-answer, eat-answer, span-answer, look-answer, strict-answer, look_two-answer, judge-answer}
 use Rattle.grammar.specs.Laws.{settle-answer, blame-answer, kept-answer, loop-answer}

@@ -1,14 +1,14 @@
 -- What holds of every grammar: an answer depends on the bytes that it took and on one byte more. So a value or a fault stays as bytes are appended.
-use Rattle.std.specs.Prelude.{◌≡◌, List, [], ◌∷◌, ◌++◌, Bool, ℕ, zero, suc, ◌+◌, ◌-◌, ◌≤◌, ◌<◌, min, take, eqb}
+use Rattle.std.specs.Prelude.{◌≡◌, List, [], ◌∷◌, ◌++◌, Bool, ℕ, zero, suc, ◌-◌, ◌≤◌, ◌<◌, min, take}
 use Rattle.std.proofs.Math.Path.{refl}
-use Rattle.std.proofs.Common.{sym, ap, ◌∙◌, subst, append_assoc, append-nil, arith, length-append}
+use Rattle.std.proofs.Common.{sym, ap, ◌∙◌, subst, append_assoc, arith, length-append}
 use Rattle.std.proofs.Math.Bool.{true, false, cond}
 use Rattle.std.proofs.Math.ListN.{length}
 use Rattle.std.proofs.Math.Seq.{take-append_seam}
 use Rattle.std.proofs.Math.Dec.{ltb}
 use borrow.Author.Tests.{ltb-true, lt-ltb, le-ltb, eq-eqb, ne_eqb}
-use Rattle.grammar.specs.Parse.{Out, done, fault, cut, Parser, Turn, again, last, before, same_place, then_out, bind_p, ret_p, bad_p, look_p, strict_out, strict_p, look_two_p, judged_to}
-use Rattle.grammar.specs.Parse.{judge_out, judge_p, settle_fault, settle_out, settle_p, blame_out, blame_p, kept_out, kept_p, eat_p, span_p, turn_p, turn_out, loop_f, loop_p, state_turn}
+use Rattle.grammar.specs.Parse.{Out, done, fault, cut, Parser, Turn, again, last, before, then_out, bind_p, ret_p, bad_p, look_p, strict_out, strict_p, look_two_p, judged_to}
+use Rattle.grammar.specs.Parse.{judge_out, judge_p, settle_out, settle_p, blame_out, blame_p, kept_out, kept_p, eat_p, span_p, turn_out, loop_f, loop_p}
 use Rattle.grammar.specs.Parse.{state_out, state_f, loop_state}
 
 -- 0 is not 1

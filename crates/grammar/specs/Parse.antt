@@ -1,5 +1,5 @@
 -- Parsers over bytes, and what each form of a grammar does. A place in a file is the bytes that stand from there to the file's end: nothing here counts.
-use Rattle.std.specs.Prelude.{List, [], ◌∷◌, Bool, true, false, cond, ℕ, zero, suc, ◌-◌, min, length, take, ltb, eqb}
+use Rattle.std.specs.Prelude.{List, [], ◌∷◌, Bool, cond, ℕ, zero, suc, ◌-◌, min, length, take, ltb, eqb}
 
 -- what a parser finds: a value, and the bytes after it; a fault's number, and the bytes from its place on; or the bytes ended too early
 pub data Out (A : Type 0) : Type 0 where

@@ -1,8 +1,8 @@
 -- The law put to use: answers stay as bytes are appended; items turn by turn; other bytes in the place of one item's.
-use Rattle.std.specs.Prelude.{◌≡◌, refl, List, [], ◌∷◌, ◌++◌, Bool, true, false, cond, ℕ, zero, suc, ◌+◌, ◌-◌, ◌≤◌, ◌<◌, length, take, ltb}
-use Rattle.std.proofs.Common.{sym, ap, ◌∙◌, subst, append_assoc, append-nil, arith, length-append, ltb-true, lt-ltb, le-ltb}
-use Rattle.grammar.specs.Parse.{Out, done, fault, cut, Parser, Turn, again, last, then_out, bind_p, ret_p, before, kept_out, kept_p, strict_out, strict_p, turn_out, loop_p}
-use Rattle.grammar.specs.Laws.{nope, Follows, follows-self, follows-refl, follows-app, StrongPrefix, cuts, faults, dones, before-app, strict-less, loop-step, loop-again}
+use Rattle.std.specs.Prelude.{◌≡◌, refl, List, [], ◌∷◌, ◌++◌, Bool, true, false, cond, ℕ, zero, suc, ◌≤◌, ◌<◌, length, ltb}
+use Rattle.std.proofs.Common.{sym, ap, ◌∙◌, subst, append_assoc, append-nil, arith, length-append, lt-ltb}
+use Rattle.grammar.specs.Parse.{Out, done, fault, cut, Parser, Turn, again, last, then_out, bind_p, ret_p, kept_out, kept_p, strict_out, strict_p, loop_p}
+use Rattle.grammar.specs.Laws.{nope, Follows, follows-self, follows-refl, follows-app, StrongPrefix, cuts, faults, dones, before-app, strict-less, loop-again}
 use Rattle.grammar.specs.Laws.{loop-last, loop-fault, loop-cut}
 use Rattle.grammar.specs.Grammar.{G, added, one_item, items}
 

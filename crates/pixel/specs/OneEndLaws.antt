@@ -10,7 +10,7 @@ use Rattle.process_list.specs.declared.RangeEnd.TheVariants.{Minimum, Maximum}
 use Rattle.pixel.specs.declared.Pixel.{Pixel}
 use Rattle.pixel.specs.declared.CodeValue.{CodeValue}
 use Rattle.pixel.specs.Order.{not-above, le-not-above, lt_irrefl}
-use Rattle.pixel.specs.OneEnd.{beyond, limited, limited_pixel, Inside, InsidePixel, KeepsEnd, KeepsEndPixel}
+use Rattle.pixel.specs.OneEnd.{beyond, limited, limited_pixel, InsidePixel, KeepsEnd, KeepsEndPixel}
 
 apart : {q : Bool} → q ≡ true → q ≡ false → ⊥
 apart a b = subst T (sym a ∙ b) tt

@@ -6,7 +6,7 @@ use native.Mathlib.Omega.{arith}
 use lib.IntN.{ℤ, pos}
 use lib.ListN.{length, length-map}
 use Rattle.decimal.specs.declared.Decimal.{Decimal}
-use Rattle.room.specs.Room.{Room, lent, room_length, beyond, laid, cleared, coefficient_parts, power_parts, stored_in, laid_in, cleared_in, cleared_from, filled_with, resized_in}
+use Rattle.room.specs.Room.{Room, lent, room_length, beyond, laid, coefficient_parts, power_parts, stored_in, laid_in, cleared_in, cleared_from, filled_with, resized_in}
 use Rattle.room.proofs.Contents.{laid_none, laid-append, laid_more, laid-length, SliceFrom, slice-refl, slice-trans, slice-laid, slice-cleared, cleared-from}
 use Rattle.room.proofs.Contents.{cleared-whole, laid-cleared, filled-length, filled-behind, filled-over, resized-length}
 

@@ -1,7 +1,7 @@
 -- Laws for proofs of functions that scan a slice byte by byte: the value of a test from the fact that a branch of the code gives, the
 -- rest of a slice at an index, and a loop's invariant in tail form ("the answer from the start is the answer from here"). None names a
 -- place of any code, so a proof lists the set `scan` and the clauses of its own definition. Assumes nothing.
-use Rattle.std.specs.Prelude.{ℕ, ◌+◌, ◌-◌, ◌≤◌, ◌<◌, ◌≡◌, refl, Bool, true, false, cond, List, [], ◌∷◌, length, get_or, take, drop}
+use Rattle.std.specs.Prelude.{ℕ, ◌+◌, ◌-◌, ◌≤◌, ◌<◌, ◌≡◌, Bool, true, false, cond, List, [], ◌∷◌, length, get_or, take, drop}
 use Rattle.std.proofs.Common.{sym, ◌∙◌, add-one, arith, drop_of_length-le, length-take, length-drop, drop-cons, eq-eqb, ne_eqb, le-leb, lt-ltb, le-ltb}
 use Rattle.std.proofs.lemmas.Bool.{lt-leb}
 

@@ -1,5 +1,5 @@
 -- Bytes and words of XML. A byte is a number below 256.
-use Rattle.std.specs.Prelude.{Bool, true, false, cond, ◌&&◌, ◌||◌, List, [], ◌∷◌, ℕ, eqb, leb}
+use Rattle.std.specs.Prelude.{Bool, true, false, ◌&&◌, ◌||◌, List, [], ◌∷◌, ℕ, eqb, leb}
 use Prim.Native.String as Text
 use Prim.Native.String.{String}
 use Prim.Native.Char.{code}

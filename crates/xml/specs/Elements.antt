@@ -1,9 +1,9 @@
 -- What stands inside elements: elements, text alone, or anything (Info).
-use Rattle.std.specs.Prelude.{Bool, true, false, cond, not, List, [], ◌∷◌, ◌++◌, ℕ, zero, suc, eqb}
+use Rattle.std.specs.Prelude.{cond, List, ℕ, zero, suc, eqb}
 use Rattle.grammar.specs.Parse.{Turn, again, last}
 use Rattle.grammar.specs.Grammar.{G, ret, bad, look, look_two, judge, settle, eat, seq, loop, ◌>>=◌, ◌>>◌}
 use Rattle.xml.specs.Bytes.{bytes, is_space, less_than, slash, exclamation, question, ampersand}
-use Rattle.xml.specs.Xml.{name, entity, comment, text_to, Tag, Rules, plain, start_tag, open_name, end_tag}
+use Rattle.xml.specs.Xml.{entity, comment, text_to, Tag, plain, start_tag, open_name, end_tag}
 use Rattle.refusals.specs.Refusals as Refusal
 
 -- ---- between elements

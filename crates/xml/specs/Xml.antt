@@ -2,10 +2,10 @@
 use Rattle.std.specs.Prelude.{refl, Bool, true, false, cond, not, List, [], ◌∷◌, ◌++◌, ℕ, length, eqb, leb}
 use Prim.Native.Char.{code}
 use Rattle.grammar.specs.Parse.{Turn, again, last}
-use Rattle.grammar.specs.Grammar.{G, ret, bad, look, look_two, judge, settle, blame, kept, eat, span, seq, loop, ◌>>=◌, ◌>>◌}
+use Rattle.grammar.specs.Grammar.{G, ret, bad, look, judge, settle, blame, kept, eat, span, seq, loop, ◌>>=◌, ◌>>◌}
 use Rattle.xml.specs.Among.{among}
 use Rattle.xml.specs.AmongLaws.{AllNames, among-answer}
-use Rattle.xml.specs.Bytes.{bytes, same, is_space, is_letter, is_digit, is_name_byte, is_quote, less_than, greater_than, slash, exclamation, question, ampersand, equals, dash}
+use Rattle.xml.specs.Bytes.{bytes, same, is_space, is_letter, is_digit, is_name_byte, is_quote, less_than, greater_than, slash, ampersand, equals, dash}
 use Rattle.refusals.specs.Refusals as Refusal
 
 -- the byte c, or the fault k at the byte that stands there

@@ -39,13 +39,12 @@ loop-a-smaller c =
     )
 
 pub loop-a-preserved : goal.loop-a-preserved
-loop-a-preserved c =
-    (
-      search rules,
-      search rules,
-      rw c.inner_width-width.ensures (held-child _ _ _ _ _ _ c.loop-a.invariant.2 _ _ (rw c.in-Start.is at c.next_tag-l.ensures) _ _ _
-          (c.inner_child-r.ensures (lent c.args.coefficients.now c.args.powers.now)) _ c.in-At.is),
-    )
+loop-a-preserved c = (
+  search rules,
+  search rules,
+  rw c.inner_width-width.ensures (held-child _ _ _ _ _ _ c.loop-a.invariant.2 _ _ (rw c.in-Start.is at c.next_tag-l.ensures) _ _ _
+      (c.inner_child-r.ensures (lent c.args.coefficients.now c.args.powers.now)) _ c.in-At.is),
+)
 
 pub returns-in-End : goal.returns-in-End
 returns-in-End c =

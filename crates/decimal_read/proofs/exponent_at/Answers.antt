@@ -1,5 +1,4 @@
 use Rattle.decimal_read.proofs.Parts.{exponent-end, no-mark, exponent-more, exponent-whole, short-run}
-use borrow.Author.Rules.{rules}
 use Rattle.decimal_read.proofs.exponent_at.Goals as goal
 
 -- Assumes nothing.

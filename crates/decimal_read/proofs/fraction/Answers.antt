@@ -1,5 +1,4 @@
 use Rattle.decimal_read.proofs.Parts.{fraction_end, fraction-none, fraction-some}
-use borrow.Author.Rules.{rules}
 use Rattle.decimal_read.proofs.fraction.Goals as goal
 
 -- Assumes nothing.

@@ -1,6 +1,5 @@
 use Rattle.decimal_read.proofs.Laws.{is_minus-laws}
 use Rattle.scanning.specs.Steps.{scan}
-use borrow.Author.Rules.{rules}
 use Rattle.decimal_read.proofs.is_minus.Goals as goal
 
 -- Assumes nothing.

@@ -1,5 +1,4 @@
 use Rattle.decimal_read.proofs.Ranged.{lowered-fits, lowered_is}
-use borrow.Author.Rules.{rules}
 use Rattle.decimal_read.proofs.lowered.Goals as goal
 
 -- Assumes nothing.

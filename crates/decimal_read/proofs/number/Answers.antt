@@ -1,6 +1,5 @@
 use Rattle.decimal_read.proofs.Read.{read_none, read_some}
 use Rattle.decimal_read.proofs.Told.{told}
-use borrow.Author.Rules.{rules}
 use Rattle.decimal_read.proofs.number.Goals as goal
 
 -- Assumes nothing.

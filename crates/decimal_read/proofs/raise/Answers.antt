@@ -1,5 +1,4 @@
 use Rattle.decimal_read.proofs.Parts.{raised-up, raised-down, raised-wrong}
-use borrow.Author.Rules.{rules}
 use Rattle.decimal_read.proofs.raise.Goals as goal
 
 -- Assumes nothing.

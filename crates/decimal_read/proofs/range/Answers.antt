@@ -1,7 +1,6 @@
 use Rattle.decimal_read.proofs.Ranged.{in-range}
 use Rattle.decimal_read.specs.Steps.{ranged}
 use Rattle.scanning.specs.Steps.{tests}
-use borrow.Author.Rules.{rules}
 use Rattle.decimal_read.proofs.range.Goals as goal
 
 -- Assumes nothing.

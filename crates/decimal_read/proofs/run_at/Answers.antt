@@ -1,7 +1,5 @@
-use Rattle.decimal_read.proofs.Loops.{Going, going_start, going_more, going-stop, going_end}
+use Rattle.decimal_read.proofs.Loops.{going_start, going_more, going-stop, going_end}
 use Rattle.decimal_read.proofs.Laws.{digit}
-use lib.ListN.{length}
-use Prim.Native.Nat.{◌-◌}
 use borrow.Author.Rules.{rules}
 use Rattle.decimal_read.proofs.run_at.Goals as goal
 

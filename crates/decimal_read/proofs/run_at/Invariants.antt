@@ -1,8 +1,6 @@
-use Rattle.decimal_read.proofs.Loops.{Going, going_start, going_more, going-stop, going_end}
-use Rattle.decimal_read.proofs.Laws.{digit}
+use Rattle.decimal_read.proofs.Loops.{Going}
 use lib.ListN.{length}
 use Prim.Native.Nat.{◌-◌}
-use borrow.Author.Rules.{rules}
 use Rattle.decimal_read.proofs.run_at.Given as goal
 
 abbrev pub invariant-loop-i : goal.invariant-loop-i

@@ -1,5 +1,4 @@
 use Rattle.decimal_read.proofs.Parts.{settled-long, settled-zero, settled-other}
-use borrow.Author.Rules.{rules}
 use Rattle.decimal_read.proofs.settle.Goals as goal
 
 -- Assumes nothing.

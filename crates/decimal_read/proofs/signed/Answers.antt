@@ -1,5 +1,4 @@
 use Rattle.decimal_read.proofs.Ranged.{minus-fits, signed-down, signed_up}
-use borrow.Author.Rules.{rules}
 use Rattle.decimal_read.proofs.signed.Goals as goal
 
 -- Assumes nothing.

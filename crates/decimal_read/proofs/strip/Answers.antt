@@ -1,5 +1,4 @@
-use Rattle.decimal_read.proofs.Loops.{Stripping, strip-start, strip-more, strip-done}
-use borrow.Author.Rules.{rules}
+use Rattle.decimal_read.proofs.Loops.{strip-start, strip-more, strip-done}
 use Rattle.decimal_read.proofs.strip.Goals as goal
 
 -- Assumes nothing.

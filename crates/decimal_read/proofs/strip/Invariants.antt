@@ -1,5 +1,4 @@
-use Rattle.decimal_read.proofs.Loops.{Stripping, strip-start, strip-more, strip-done}
-use borrow.Author.Rules.{rules}
+use Rattle.decimal_read.proofs.Loops.{Stripping}
 use Rattle.decimal_read.proofs.strip.Given as goal
 
 abbrev pub invariant-loop-c : goal.invariant-loop-c

@@ -1,4 +1,3 @@
-use Rattle.std.proofs.Common.{rules}
 use Rattle.decimal_value.specs.Value.{at_most}
 use Rattle.decimal_value.proofs.at_most.Goals as goal
 

@@ -1,4 +1,3 @@
-use Rattle.std.proofs.Common.{rules}
 use Rattle.decimal_value.specs.Value.{equal}
 use Rattle.decimal_value.proofs.equal.Goals as goal
 

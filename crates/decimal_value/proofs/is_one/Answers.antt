@@ -1,4 +1,3 @@
-use Rattle.std.proofs.Common.{rules}
 use lib.Ieee.{of_bits, of_int}
 use Rattle.decimal_value.specs.Value.{is_one}
 use Rattle.decimal_value.proofs.is_one.Goals as goal

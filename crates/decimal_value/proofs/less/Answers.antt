@@ -1,4 +1,3 @@
-use Rattle.std.proofs.Common.{rules}
 use Rattle.decimal_value.specs.Value.{less}
 use Rattle.decimal_value.proofs.less.Goals as goal
 

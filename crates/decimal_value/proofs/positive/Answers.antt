@@ -1,4 +1,3 @@
-use Rattle.std.proofs.Common.{rules}
 use lib.Ieee.{of_bits, of_int}
 use Rattle.decimal_value.specs.Value.{positive}
 use Rattle.decimal_value.proofs.positive.Goals as goal

@@ -1,4 +1,3 @@
-use Rattle.std.proofs.Common.{rules}
 use lib.Ieee.{of_bits, of_int}
 use Rattle.decimal_value.specs.Value.{ten_to}
 use Rattle.decimal_value.proofs.Tens.{tens-at}

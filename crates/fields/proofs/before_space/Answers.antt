@@ -1,10 +1,5 @@
-use mathlib.Core.Path.{◌≡◌}
-use Prim.Native.Nat.{◌-◌}
-use lib.ListN.{length, drop}
 use Rattle.scanning.specs.Steps.{scan, one-turn, from-here}
-use Rattle.fields.specs.Fields.{before_space}
 use Rattle.fields.specs.Laws.{before_space-laws}
-use borrow.Author.Rules.{rules}
 use Rattle.fields.proofs.before_space.Goals as goal
 
 pub returns-then-line-i-eq32 : goal.returns-then-line-i-eq32

@@ -1,10 +1,7 @@
 use mathlib.Core.Path.{◌≡◌}
 use Prim.Native.Nat.{◌-◌}
 use lib.ListN.{length, drop}
-use Rattle.scanning.specs.Steps.{scan, one-turn, from-here}
 use Rattle.fields.specs.Fields.{behind_spaces}
-use Rattle.fields.specs.Laws.{behind_spaces-laws}
-use borrow.Author.Rules.{rules}
 use Rattle.fields.proofs.behind_spaces.Given as goal
 
 abbrev pub invariant-loop-i : goal.invariant-loop-i

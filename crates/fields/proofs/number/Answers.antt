@@ -1,9 +1,6 @@
-use mathlib.Core.Path.{◌≡◌, ◌∙◌}
+use mathlib.Core.Path.{◌∙◌}
 use native.Mathlib.Omega.{arith}
-use Prim.Native.Nat.{◌-◌}
-use lib.ListN.{length, drop}
 use Rattle.scanning.specs.Steps.{scan, from-here}
-use Rattle.fields.specs.Fields.{number_from, word_number}
 use Rattle.fields.specs.Laws.{number_from-laws, no_word, some_word, digit-more}
 use borrow.Author.Rules.{rules}
 use Rattle.fields.proofs.number.Goals as goal

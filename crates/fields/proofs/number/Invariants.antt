@@ -1,11 +1,7 @@
-use mathlib.Core.Path.{◌≡◌, ◌∙◌}
-use native.Mathlib.Omega.{arith}
+use mathlib.Core.Path.{◌≡◌}
 use Prim.Native.Nat.{◌-◌}
 use lib.ListN.{length, drop}
-use Rattle.scanning.specs.Steps.{scan, from-here}
 use Rattle.fields.specs.Fields.{number_from, word_number}
-use Rattle.fields.specs.Laws.{number_from-laws, no_word, some_word, digit-more}
-use borrow.Author.Rules.{rules}
 use Rattle.fields.proofs.number.Given as goal
 
 abbrev pub invariant-loop-i : goal.invariant-loop-i

@@ -2,7 +2,6 @@ use mathlib.Core.Path.{ap, ◌∙◌}
 use native.Mathlib.Omega.{arith}
 use Rattle.ids.specs.Ids.{id_right}
 use Rattle.ids.proofs.Laws.{text-short, text-part, allowed-none, allowed-some}
-use borrow.Author.Rules.{rules}
 use Rattle.ids.proofs.allowed.Goals as goal
 
 pub returns-then-n-eq0 : goal.returns-then-n-eq0

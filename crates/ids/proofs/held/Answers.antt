@@ -1,10 +1,8 @@
 use mathlib.Core.Path.{◌≡◌, refl, ap, ◌∙◌}
-use Prim.Native.Nat.{◌-◌, ◌≤◌}
 use native.Mathlib.Omega.{arith}
-use lib.ListN.{length, take}
+use lib.ListN.{take}
 use Rattle.ids.specs.Ids.{held_id}
 use Rattle.ids.proofs.Laws.{held_more, held_whole, held-long}
-use borrow.Author.Rules.{rules}
 use Rattle.ids.proofs.held.Goals as goal
 
 -- The first i bytes stand in their places. Assumes nothing.

@@ -1,10 +1,7 @@
-use mathlib.Core.Path.{◌≡◌, refl, ap, ◌∙◌}
+use mathlib.Core.Path.{◌≡◌}
 use Prim.Native.Nat.{◌-◌, ◌≤◌}
-use native.Mathlib.Omega.{arith}
 use lib.ListN.{length, take}
 use Rattle.ids.specs.Ids.{held_id}
-use Rattle.ids.proofs.Laws.{held_more, held_whole, held-long}
-use borrow.Author.Rules.{rules}
 use Rattle.ids.proofs.held.Given as goal
 
 abbrev pub invariant-loop-i : goal.invariant-loop-i

@@ -1,11 +1,6 @@
-use mathlib.Core.Path.{◌≡◌, refl, sym, ◌∙◌}
-use Prim.Native.Nat.{◌-◌}
+use mathlib.Core.Path.{refl, sym, ◌∙◌}
 use native.Mathlib.Omega.{arith}
-use borrow.Author.Tests.{not-true, not-false}
-use lib.ListN.{length, drop}
-use Rattle.ids.specs.Ids.{all_id_bytes}
 use Rattle.ids.proofs.Laws.{id-empty, id-long, id-bytes, bytes-fail, bytes-go-on, bytes-end}
-use borrow.Author.Rules.{rules}
 use Rattle.ids.proofs.id_right.Goals as goal
 
 -- The bytes from index i on are still to be tested. Assumes nothing.

@@ -1,11 +1,7 @@
-use mathlib.Core.Path.{◌≡◌, refl, sym, ◌∙◌}
+use mathlib.Core.Path.{◌≡◌}
 use Prim.Native.Nat.{◌-◌}
-use native.Mathlib.Omega.{arith}
-use borrow.Author.Tests.{not-true, not-false}
 use lib.ListN.{length, drop}
 use Rattle.ids.specs.Ids.{all_id_bytes}
-use Rattle.ids.proofs.Laws.{id-empty, id-long, id-bytes, bytes-fail, bytes-go-on, bytes-end}
-use borrow.Author.Rules.{rules}
 use Rattle.ids.proofs.id_right.Given as goal
 
 abbrev pub invariant-loop-i : goal.invariant-loop-i

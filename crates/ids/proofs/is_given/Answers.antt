@@ -6,14 +6,11 @@ use native.Mathlib.Omega.{arith}
 use lib.Dec.{eqb}
 use lib.ListN.{length, get_or}
 use Rattle.ids.specs.Ids.{is_given}
-use borrow.Author.Rules.{rules}
 use Rattle.ids.proofs.is_given.Goals as goal
 
 first : (t : List ℕ) → 0 < length t → not (eqb (get_or t 0 0) 0) ≡ is_given t
 unfolding is_given
-
 first [] h = absurd (omega arith)
-
 first (b ∷ t) h = refl
 
 pub returns : goal.returns

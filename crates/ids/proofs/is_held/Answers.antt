@@ -1,10 +1,7 @@
 use mathlib.Core.Path.{◌≡◌, sym, ap, ◌∙◌}
-use Prim.Native.Nat.{◌-◌}
 use native.Mathlib.Omega.{arith}
 use lib.ListN.{length, drop}
-use Rattle.ids.specs.Ids.{is_held}
 use Rattle.ids.proofs.Laws.{zeros, held-is, zeros-fail, zeros-go-on, zeros-end}
-use borrow.Author.Rules.{rules}
 use Rattle.ids.proofs.is_held.Goals as goal
 
 -- What stands from index i on decides. Assumes nothing.

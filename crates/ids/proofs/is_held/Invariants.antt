@@ -1,10 +1,8 @@
-use mathlib.Core.Path.{◌≡◌, sym, ap, ◌∙◌}
+use mathlib.Core.Path.{◌≡◌}
 use Prim.Native.Nat.{◌-◌}
-use native.Mathlib.Omega.{arith}
 use lib.ListN.{length, drop}
 use Rattle.ids.specs.Ids.{is_held}
-use Rattle.ids.proofs.Laws.{zeros, held-is, zeros-fail, zeros-go-on, zeros-end}
-use borrow.Author.Rules.{rules}
+use Rattle.ids.proofs.Laws.{zeros}
 use Rattle.ids.proofs.is_held.Given as goal
 
 abbrev pub invariant-loop-i : goal.invariant-loop-i

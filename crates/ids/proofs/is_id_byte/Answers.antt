@@ -1,6 +1,5 @@
 use mathlib.Core.Path.{◌∙◌}
 use Rattle.ids.proofs.Laws.{colon, name-byte}
-use borrow.Author.Rules.{rules}
 use Rattle.ids.proofs.is_id_byte.Goals as goal
 
 -- A name byte that is not `:`. Assumes nothing.

@@ -1,10 +1,5 @@
-use mathlib.Core.Path.{◌≡◌}
-use Prim.Native.Nat.{◌-◌, ◌+◌}
 use native.Mathlib.Omega.{arith}
-use lib.ListN.{length, drop}
-use Rattle.ids.specs.Ids.{id_text}
 use Rattle.ids.proofs.Laws.{text-ends, text-goes-on, text-behind}
-use borrow.Author.Rules.{rules}
 use Rattle.ids.proofs.length_of.Goals as goal
 
 -- The id goes on at least up to index i. Assumes nothing.

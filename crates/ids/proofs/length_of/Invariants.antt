@@ -1,10 +1,7 @@
 use mathlib.Core.Path.{◌≡◌}
 use Prim.Native.Nat.{◌-◌, ◌+◌}
-use native.Mathlib.Omega.{arith}
 use lib.ListN.{length, drop}
 use Rattle.ids.specs.Ids.{id_text}
-use Rattle.ids.proofs.Laws.{text-ends, text-goes-on, text-behind}
-use borrow.Author.Rules.{rules}
 use Rattle.ids.proofs.length_of.Given as goal
 
 abbrev pub invariant-loop-i : goal.invariant-loop-i

@@ -1,5 +1,4 @@
 use Rattle.pixel.specs.Cdl.{held_for_fwd}
-use borrow.Author.Rules.{rules}
 use Rattle.pixel.proofs.held_for_fwd.Goals as goal
 
 pub returns-then-clamp : goal.returns-then-clamp

@@ -1,5 +1,4 @@
 use Rattle.pixel.proofs.OrderedHold.{ordered-hold}
-use borrow.Author.Rules.{rules}
 use Rattle.pixel.proofs.hold_ordered.Goals as goal
 
 pub returns-then-z-lo : goal.returns-then-z-lo

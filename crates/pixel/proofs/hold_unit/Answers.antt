@@ -1,5 +1,4 @@
 use Rattle.pixel.specs.UnitHold.{unit-hold}
-use borrow.Author.Rules.{rules}
 use Rattle.pixel.proofs.hold_unit.Goals as goal
 
 pub returns-then-y : goal.returns-then-y

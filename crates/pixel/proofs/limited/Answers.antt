@@ -1,5 +1,4 @@
 use Rattle.pixel.specs.OneEndLaws.{limited-by-tests}
-use borrow.Author.Rules.{rules}
 use Rattle.pixel.proofs.limited.Goals as goal
 
 pub returns-then-limit : goal.returns-then-limit

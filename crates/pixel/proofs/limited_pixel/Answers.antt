@@ -2,7 +2,6 @@ use mathlib.Core.Path.{◌≡◌}
 use Rattle.pixel.specs.declared.Pixel.{Pixel}
 use Rattle.pixel.specs.OneEnd.{limited_pixel}
 use Rattle.pixel.specs.OneEndLaws.{pixel-keeps}
-use borrow.Author.Rules.{rules}
 use Rattle.pixel.proofs.limited_pixel.Goals as goal
 
 pub returns : goal.returns

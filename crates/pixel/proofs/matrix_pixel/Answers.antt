@@ -1,5 +1,4 @@
 use Rattle.pixel.specs.Matrix.{matrix_pixel}
-use borrow.Author.Rules.{rules}
 use Rattle.pixel.proofs.matrix_pixel.Goals as goal
 
 pub returns : goal.returns

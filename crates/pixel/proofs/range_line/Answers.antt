@@ -3,7 +3,6 @@ use lib.Ieee.{Float}
 use Rattle.pixel.specs.declared.CodeValue.{CodeValue}
 use Rattle.pixel.specs.RangeLaws.{line-bound}
 use Rattle.pixel.specs.Range.{range_line}
-use borrow.Author.Rules.{rules}
 use Rattle.pixel.proofs.range_line.Goals as goal
 
 abbrev code : Float → CodeValue

@@ -3,7 +3,6 @@ use Rattle.pixel.specs.declared.Pixel.{Pixel}
 use Rattle.pixel.specs.Range.{range_pixel, range_component}
 use Rattle.pixel.specs.RangeLaws.{range-bound}
 use Rattle.pixel.specs.Range.{range_pixel}
-use borrow.Author.Rules.{rules}
 use Rattle.pixel.proofs.range_pixel.Goals as goal
 
 pub returns : goal.returns

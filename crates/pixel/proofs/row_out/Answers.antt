@@ -1,5 +1,4 @@
 use Rattle.pixel.specs.Matrix.{row_out}
-use borrow.Author.Rules.{rules}
 use Rattle.pixel.proofs.row_out.Goals as goal
 
 pub returns-then-wide : goal.returns-then-wide

@@ -1,5 +1,4 @@
 use Rattle.pixel.specs.Cdl.{sat_pixel}
-use borrow.Author.Rules.{rules}
 use Rattle.pixel.proofs.sat_pixel.Goals as goal
 
 pub returns-then-sat : goal.returns-then-sat

@@ -1,5 +1,4 @@
 use Rattle.pixel.specs.Cdl.{saturated_by}
-use borrow.Author.Rules.{rules}
 use Rattle.pixel.proofs.saturated_by.Goals as goal
 
 pub returns : goal.returns

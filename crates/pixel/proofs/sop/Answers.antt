@@ -1,5 +1,4 @@
 use Rattle.pixel.specs.Cdl.{sop}
-use borrow.Author.Rules.{rules}
 use Rattle.pixel.proofs.sop.Goals as goal
 
 pub returns : goal.returns

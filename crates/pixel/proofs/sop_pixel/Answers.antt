@@ -1,5 +1,4 @@
 use Rattle.pixel.specs.Cdl.{sop_pixel}
-use borrow.Author.Rules.{rules}
 use Rattle.pixel.proofs.sop_pixel.Goals as goal
 
 pub returns : goal.returns

@@ -1,5 +1,4 @@
 use Rattle.pixel.specs.OneEndLaws.{stays}
-use borrow.Author.Rules.{rules}
 use Rattle.pixel.proofs.stays.Goals as goal
 
 pub returns-in-Minimum : goal.returns-in-Minimum

@@ -1,5 +1,4 @@
 use Rattle.pixel.specs.Scale.{to_code_values}
-use borrow.Author.Rules.{rules}
 use Rattle.pixel.proofs.to_code_values.Goals as goal
 
 pub returns : goal.returns

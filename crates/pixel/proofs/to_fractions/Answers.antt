@@ -1,5 +1,4 @@
 use Rattle.pixel.specs.Scale.{to_fractions}
-use borrow.Author.Rules.{rules}
 use Rattle.pixel.proofs.to_fractions.Goals as goal
 
 pub returns : goal.returns

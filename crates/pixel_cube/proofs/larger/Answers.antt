@@ -1,4 +1,3 @@
-
 use Rattle.pixel_cube.proofs.larger.Goals as goal
 
 pub returns-then-b-a : goal.returns-then-b-a

@@ -3,7 +3,6 @@ use Prim.Native.Nat.{◌+◌}
 use native.Mathlib.Omega.{arith}
 use Rattle.room.specs.Room.{lent}
 use Rattle.pixel_room.specs.RoomLaws.{number_past}
-use borrow.Author.Rules.{rules}
 use Rattle.pixel_room.proofs.number_from.Goals as goal
 
 pub returns-then-at-count : goal.returns-then-at-count

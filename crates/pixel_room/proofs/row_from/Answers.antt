@@ -6,7 +6,6 @@ use native.Mathlib.Omega.{arith}
 use Rattle.room.specs.Room.{Room}
 use Rattle.pixel.specs.F64 as F64
 use Rattle.pixel_room.specs.Room.{number_at, row_at}
-use borrow.Author.Rules.{rules}
 use Rattle.pixel_room.proofs.row_from.Goals as goal
 
 -- a row's numbers, counted from the start of its Matrix

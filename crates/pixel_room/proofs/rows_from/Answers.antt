@@ -1,6 +1,5 @@
 use native.Mathlib.Nat.{add-zero}
 use Rattle.pixel_room.specs.Room.{rows_at}
-use borrow.Author.Rules.{rules}
 use Rattle.pixel_room.proofs.rows_from.Goals as goal
 
 pub returns-then-wide : goal.returns-then-wide

@@ -17,7 +17,7 @@ loop-i-smaller c = omega arith
 pub loop-i-preserved : goal.loop-i-preserved
 loop-i-preserved c =
     elim c.if-not-is_finite.branch [
-      then-not-is_finite w ↦ flag-dropped _ c.loop-i.i c.loop-i.ok _ c.loop-i.invariant c.loop-i-test.true (sym c.is_finite.ensures ∙ w.if-not-is_finite.true) w.ok-is
+      | then-not-is_finite w ↦ flag-dropped _ c.loop-i.i c.loop-i.ok _ c.loop-i.invariant c.loop-i-test.true (sym c.is_finite.ensures ∙ w.if-not-is_finite.true) w.ok-is
       | else-not-is_finite w ↦ flag-kept _ c.loop-i.i c.loop-i.ok _ c.loop-i.invariant c.loop-i-test.true (sym c.is_finite.ensures ∙ w.if-not-is_finite.false) w.ok-is
     ]
 

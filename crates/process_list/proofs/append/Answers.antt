@@ -1,5 +1,4 @@
 use borrow.Author.Tests.{lt-ltb, le-ltb}
-use borrow.Author.Rules.{rules}
 use Rattle.process_list.specs.List.{appended}
 use Rattle.process_list.proofs.append.Goals as goal
 

@@ -1,6 +1,5 @@
 use mathlib.Core.Path.{ap, ◌∙◌}
 use mathlib.Core.Bool.{false}
-use borrow.Author.Rules.{rules}
 use Rattle.process_list.specs.declared.Kind.TheVariants.{Matrix}
 use Rattle.process_list.specs.declared.Depth.TheVariants.{I8}
 use Rattle.process_list.specs.List.{blank_node, unplaced}

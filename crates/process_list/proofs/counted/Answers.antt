@@ -1,7 +1,6 @@
 use mathlib.Core.Path.{ap, ◌∙◌}
 use Prim.Native.Nat.{ℕ, ◌+◌}
 use native.Mathlib.Omega.{arith}
-use borrow.Author.Rules.{rules}
 use Rattle.process_list.specs.List.{capped, numbers_of}
 use Rattle.process_list.proofs.Laws.{add-capped as capped-sum, capped-most}
 use Rattle.process_list.proofs.counted.Goals as goal

@@ -1,4 +1,3 @@
-use borrow.Author.Rules.{rules}
 use Rattle.process_list.proofs.Laws.{cube-capped}
 use Rattle.process_list.proofs.cube_numbers.Goals as goal
 

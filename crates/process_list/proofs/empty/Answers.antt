@@ -1,4 +1,3 @@
-use borrow.Author.Rules.{rules}
 use Rattle.process_list.specs.List.{list_of}
 use Rattle.process_list.proofs.empty.Goals as goal
 

@@ -1,12 +1,10 @@
 use mathlib.Core.Bool.{true, false}
 use mathlib.Core.Path.{◌≡◌, sym, ◌∙◌}
-use Prim.Native.Nat.{◌≤◌, ◌-◌, ◌+◌}
+use Prim.Native.Nat.{◌-◌}
 use native.Mathlib.Omega.{arith}
-use borrow.Author.Tests.{not-true, not-false}
 use borrow.Author.Rules.{rules}
-use lib.ListN.{drop}
 use Rattle.process_list.proofs.Laws.{differs-start, differs-here, differs-turn, differs_none}
-use Rattle.process_list.specs.List.{nodes_of, node_at, first_differs, differs, same_depth}
+use Rattle.process_list.specs.List.{node_at, same_depth}
 use Rattle.process_list.proofs.first_differs.Goals as goal
 
 pub loop-k-init : goal.loop-k-init

@@ -1,9 +1,6 @@
-use mathlib.Core.Path.{◌≡◌, sym, ◌∙◌}
-use Prim.Native.Nat.{◌-◌}
+use mathlib.Core.Path.{sym, ◌∙◌}
 use native.Mathlib.Omega.{arith}
-use borrow.Author.Rules.{rules}
-use Rattle.process_list.specs.List.{nodes_of, first_repeat}
-use Rattle.process_list.proofs.Seen.{seen_from, seen_start, seen_here, seen-turn, seen_none}
+use Rattle.process_list.proofs.Seen.{seen_start, seen_here, seen-turn, seen_none}
 use Rattle.process_list.proofs.first_repeat.Goals as goal
 
 -- The nodes from index k on are still to be asked. Assumes nothing.

@@ -1,9 +1,7 @@
-use mathlib.Core.Path.{◌≡◌, sym, ◌∙◌}
+use mathlib.Core.Path.{◌≡◌}
 use Prim.Native.Nat.{◌-◌}
-use native.Mathlib.Omega.{arith}
-use borrow.Author.Rules.{rules}
 use Rattle.process_list.specs.List.{nodes_of, first_repeat}
-use Rattle.process_list.proofs.Seen.{seen_from, seen_start, seen_here, seen-turn, seen_none}
+use Rattle.process_list.proofs.Seen.{seen_from}
 use Rattle.process_list.proofs.first_repeat.Given as goal
 
 abbrev pub invariant-loop-k : goal.invariant-loop-k

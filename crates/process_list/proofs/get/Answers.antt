@@ -1,7 +1,6 @@
 use mathlib.Core.Path.{sym, ◌∙◌}
 use Prim.Native.Nat.{◌<◌, ◌≤◌}
 use native.Mathlib.Omega.{arith}
-use borrow.Author.Rules.{rules}
 use lib.Seq.{get_or-take}
 use lib.ListN.{length, get_or-eq_default}
 use Rattle.process_list.specs.List.{blank_node, node_at, nodes_of}

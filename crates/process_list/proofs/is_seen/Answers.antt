@@ -1,15 +1,11 @@
 use mathlib.Core.Path.{◌≡◌, refl, sym, ap, ◌∙◌}
-use mathlib.Core.Bool.{Bool, true}
+use mathlib.Core.Bool.{Bool}
 use mathlib.Core.List.{List}
-use Prim.Native.Nat.{ℕ, ◌-◌, ◌<◌}
+use Prim.Native.Nat.{ℕ}
 use native.Mathlib.Omega.{arith}
-use borrow.Author.Tests.{not-true, not-false}
-use borrow.Author.Rules.{rules}
-use lib.ListN.{length}
 use Rattle.xml.specs.Bytes.{same}
 use Rattle.ids.specs.Ids.{is_given}
-use Rattle.process_list.specs.List.{nodes_of, node_at}
-use Rattle.process_list.proofs.Seen.{among_from, among-here, among-turn, among_none, given-seen, not-given}
+use Rattle.process_list.proofs.Seen.{among-here, among-turn, among_none, given-seen, not-given}
 use Rattle.process_list.proofs.is_seen.Goals as goal
 
 -- The ids from index j on are still to be compared. Assumes nothing.

@@ -1,15 +1,10 @@
-use mathlib.Core.Path.{◌≡◌, refl, sym, ap, ◌∙◌}
-use mathlib.Core.Bool.{Bool, true}
-use mathlib.Core.List.{List}
-use Prim.Native.Nat.{ℕ, ◌-◌, ◌<◌}
-use native.Mathlib.Omega.{arith}
-use borrow.Author.Tests.{not-true, not-false}
-use borrow.Author.Rules.{rules}
+use mathlib.Core.Path.{◌≡◌}
+use mathlib.Core.Bool.{true}
+use Prim.Native.Nat.{◌-◌, ◌<◌}
 use lib.ListN.{length}
-use Rattle.xml.specs.Bytes.{same}
 use Rattle.ids.specs.Ids.{is_given}
 use Rattle.process_list.specs.List.{nodes_of, node_at}
-use Rattle.process_list.proofs.Seen.{among_from, among-here, among-turn, among_none, given-seen, not-given}
+use Rattle.process_list.proofs.Seen.{among_from}
 use Rattle.process_list.proofs.is_seen.Given as goal
 
 abbrev pub invariant-loop-j : goal.invariant-loop-j

@@ -1,7 +1,6 @@
 use mathlib.Core.Path.{sym, ap, ◌∙◌}
 use Prim.Native.Nat.{◌<◌, ◌≤◌, min}
 use native.Mathlib.Omega.{arith}
-use borrow.Author.Rules.{rules}
 use Rattle.process_list.proofs.Laws.{under-capped, capped-under, judged-none, judged-differs, judged-seen, judged-over, judged-fine}
 use Rattle.process_list.specs.declared.Verdict.TheVariants.{DepthDiffers, IdSeen}
 use Rattle.process_list.specs.List.{total, nodes_of, most_numbers}

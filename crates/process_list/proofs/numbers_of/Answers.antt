@@ -1,4 +1,3 @@
-use borrow.Author.Rules.{rules}
 use Rattle.process_list.specs.List.{capped, numbers_of}
 use Rattle.process_list.proofs.numbers_of.Goals as goal
 

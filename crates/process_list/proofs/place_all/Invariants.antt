@@ -1,9 +1,7 @@
-use mathlib.Core.Path.{◌≡◌, ◌∙◌}
+use mathlib.Core.Path.{◌≡◌}
 use Prim.Native.Nat.{◌≤◌, ◌-◌}
-use native.Mathlib.Omega.{arith}
-use borrow.Author.Rules.{rules}
 use lib.ListN.{take}
-use Rattle.process_list.proofs.Laws.{placed_to, place_none, place-turn, place-all, used-none, used_turn, capped-exact, total-take-le}
+use Rattle.process_list.proofs.Laws.{placed_to}
 use Rattle.process_list.specs.List.{capped, total, nodes_of}
 use Rattle.process_list.proofs.place_all.Given as goal
 

@@ -1,7 +1,6 @@
 use Prim.Native.Nat.{◌<◌}
 use native.Mathlib.Omega.{arith}
 use borrow.Author.Tests.{lt-leb}
-use borrow.Author.Rules.{rules}
 use Rattle.process_list.proofs.Laws.{under-capped, capped-under}
 use Rattle.process_list.specs.List.{placed_list, total, nodes_of, most_numbers}
 use Rattle.process_list.proofs.placed.Goals as goal

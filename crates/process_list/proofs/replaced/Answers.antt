@@ -1,7 +1,6 @@
 use Prim.Native.Nat.{◌<◌, ◌≤◌}
 use native.Mathlib.Omega.{arith}
 use borrow.Author.Tests.{lt-ltb, le-ltb}
-use borrow.Author.Rules.{rules}
 use lib.ListN.{length}
 use Rattle.process_list.specs.List.{nodes_of, replaced_at}
 use Rattle.process_list.proofs.replaced.Goals as goal

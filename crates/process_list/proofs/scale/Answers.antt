@@ -1,4 +1,3 @@
-use borrow.Author.Rules.{rules}
 use lib.Ieee.{of_int, of_bits}
 use Rattle.process_list.specs.List.{scale_of}
 use Rattle.process_list.proofs.scale.Goals as goal

@@ -1,7 +1,6 @@
 use Prim.Native.Nat.{◌<◌, ◌≤◌, ◌*◌}
 use native.Mathlib.Omega.{arith}
 use native.Mathlib.Nat.{div-lt_iff_lt-mul, le-div_iff_mul-le, mul-zero}
-use borrow.Author.Rules.{rules}
 use Rattle.process_list.specs.List.{capped}
 use Rattle.process_list.proofs.table_numbers.Goals as goal
 

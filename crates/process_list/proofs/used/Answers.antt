@@ -1,10 +1,8 @@
-use mathlib.Core.Path.{◌≡◌, ap, ◌∙◌}
-use Prim.Native.Nat.{◌≤◌, ◌-◌}
+use mathlib.Core.Path.{ap, ◌∙◌}
 use native.Mathlib.Omega.{arith}
 use borrow.Author.Rules.{rules}
-use lib.ListN.{take}
 use Rattle.process_list.proofs.Laws.{used-none, used_turn, used_all}
-use Rattle.process_list.specs.List.{capped, total, nodes_of}
+use Rattle.process_list.specs.List.{capped}
 use Rattle.process_list.proofs.used.Goals as goal
 
 pub loop-k-init : goal.loop-k-init

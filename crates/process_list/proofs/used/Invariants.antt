@@ -1,9 +1,6 @@
-use mathlib.Core.Path.{◌≡◌, ap, ◌∙◌}
+use mathlib.Core.Path.{◌≡◌}
 use Prim.Native.Nat.{◌≤◌, ◌-◌}
-use native.Mathlib.Omega.{arith}
-use borrow.Author.Rules.{rules}
 use lib.ListN.{take}
-use Rattle.process_list.proofs.Laws.{used-none, used_turn, used_all}
 use Rattle.process_list.specs.List.{capped, total, nodes_of}
 use Rattle.process_list.proofs.used.Given as goal
 

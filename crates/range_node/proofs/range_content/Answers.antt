@@ -32,13 +32,12 @@ loop-a-smaller c =
     )
 
 pub loop-a-preserved : goal.loop-a-preserved
-loop-a-preserved c =
-    (
-      search rules,
-      search rules,
-      held-child _ _ _ _ _ _ c.loop-a.invariant.2 _ _ (rw c.in-Start.is at c.next_tag-l.ensures) _ _ _
-          (c.range_child-state.ensures _) _ c.in-At.is,
-    )
+loop-a-preserved c = (
+  search rules,
+  search rules,
+  held-child _ _ _ _ _ _ c.loop-a.invariant.2 _ _ (rw c.in-Start.is at c.next_tag-l.ensures) _ _ _
+      (c.range_child-state.ensures _) _ c.in-At.is,
+)
 
 pub returns-in-End : goal.returns-in-End
 returns-in-End c =

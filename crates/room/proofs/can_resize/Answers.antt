@@ -1,6 +1,5 @@
 use mathlib.Core.Path.{sym}
 use native.Mathlib.Omega.{arith}
-use borrow.Author.Rules.{rules}
 use Rattle.room.proofs.Laws.{resizable-is, resizable-not}
 use Rattle.room.proofs.can_resize.Goals as goal
 

@@ -1,6 +1,5 @@
 use mathlib.Core.Path.{◌≡◌, ◌∙◌, ap}
 use Prim.Native.Nat.{min}
-use borrow.Author.Rules.{rules}
 use lib.ListN.{length}
 use Rattle.room.proofs.Laws.{clear-is}
 use Rattle.room.specs.Room.{room_length, cleared_in}

@@ -1,4 +1,3 @@
-use borrow.Author.Rules.{rules}
 use Rattle.room.proofs.Laws.{resize-all}
 use Rattle.room.proofs.make_way.Goals as goal
 

@@ -1,12 +1,8 @@
-use mathlib.Core.Path.{◌≡◌, refl, ◌∙◌}
+use mathlib.Core.Path.{◌≡◌}
 use Prim.Native.Nat.{◌≤◌, ◌-◌}
-use native.Mathlib.Omega.{arith}
-use borrow.Author.Rules.{sfits_of, rules}
-use lib.ListN.{length as size, length-set}
+use lib.ListN.{length as size}
 use lib.IntN.{pos}
-use mir.ValLaws.{to_z-of_z}
-use mir.Syntax.{w8, w64}
-use Rattle.room.proofs.Laws.{down, down-none, down_turn, down-all}
+use Rattle.room.proofs.Laws.{down}
 use Rattle.room.proofs.move_down.Given as goal
 
 abbrev pub invariant-loop-i : goal.invariant-loop-i

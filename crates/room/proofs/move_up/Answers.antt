@@ -1,12 +1,10 @@
 use mathlib.Core.Path.{◌≡◌, refl, ◌∙◌}
-use Prim.Native.Nat.{◌≤◌, ◌-◌}
 use native.Mathlib.Omega.{arith}
 use borrow.Author.Rules.{sfits_of, rules}
-use lib.ListN.{length as size, length-set}
-use lib.IntN.{pos}
+use lib.ListN.{length-set}
 use mir.ValLaws.{to_z-of_z}
 use mir.Syntax.{w8, w64}
-use Rattle.room.proofs.Laws.{up, up_none, up_turn, up-all}
+use Rattle.room.proofs.Laws.{up_none, up_turn, up-all}
 use Rattle.room.proofs.move_up.Goals as goal
 
 pub loop-i-init : goal.loop-i-init

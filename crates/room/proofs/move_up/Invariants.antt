@@ -1,12 +1,8 @@
-use mathlib.Core.Path.{◌≡◌, refl, ◌∙◌}
-use Prim.Native.Nat.{◌≤◌, ◌-◌}
-use native.Mathlib.Omega.{arith}
-use borrow.Author.Rules.{sfits_of, rules}
-use lib.ListN.{length as size, length-set}
+use mathlib.Core.Path.{◌≡◌}
+use Prim.Native.Nat.{◌≤◌}
+use lib.ListN.{length as size}
 use lib.IntN.{pos}
-use mir.ValLaws.{to_z-of_z}
-use mir.Syntax.{w8, w64}
-use Rattle.room.proofs.Laws.{up, up_none, up_turn, up-all}
+use Rattle.room.proofs.Laws.{up}
 use Rattle.room.proofs.move_up.Given as goal
 
 abbrev pub invariant-loop-i : goal.invariant-loop-i

@@ -1,6 +1,5 @@
 use mathlib.Core.Path.{◌∙◌, sym}
 use native.Mathlib.Omega.{arith}
-use borrow.Author.Rules.{rules}
 use Rattle.room.proofs.Laws.{resizable-parts, resize-yes, resize-no}
 use Rattle.room.specs.Room.{room_length, resized_in}
 use Rattle.room.proofs.Rooms.{same-room}

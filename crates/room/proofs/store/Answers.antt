@@ -1,5 +1,5 @@
 use native.Mathlib.Omega.{arith}
-use borrow.Author.Rules.{sfits_of, rules}
+use borrow.Author.Rules.{sfits_of}
 use mir.ValLaws.{to_z-of_z}
 use mir.Syntax.{w8, w64}
 use Rattle.room.proofs.Laws.{stored-in, stored-out}

@@ -1,10 +1,8 @@
 use mathlib.Core.Path.{◌≡◌, refl, ◌∙◌}
-use Prim.Native.Nat.{◌≤◌, ◌-◌}
 use native.Mathlib.Omega.{arith}
 use borrow.Author.Rules.{rules}
-use lib.ListN.{length as size, length-set}
-use lib.IntN.{pos}
-use Rattle.room.proofs.Laws.{zeroing, zero-none, zero_turn, zero-all}
+use lib.ListN.{length-set}
+use Rattle.room.proofs.Laws.{zero-none, zero_turn, zero-all}
 use Rattle.room.proofs.zero_part.Goals as goal
 
 pub loop-i-init : goal.loop-i-init

@@ -1,10 +1,8 @@
-use mathlib.Core.Path.{◌≡◌, refl, ◌∙◌}
+use mathlib.Core.Path.{◌≡◌}
 use Prim.Native.Nat.{◌≤◌, ◌-◌}
-use native.Mathlib.Omega.{arith}
-use borrow.Author.Rules.{rules}
-use lib.ListN.{length as size, length-set}
+use lib.ListN.{length as size}
 use lib.IntN.{pos}
-use Rattle.room.proofs.Laws.{zeroing, zero-none, zero_turn, zero-all}
+use Rattle.room.proofs.Laws.{zeroing}
 use Rattle.room.proofs.zero_part.Given as goal
 
 abbrev pub invariant-loop-i : goal.invariant-loop-i

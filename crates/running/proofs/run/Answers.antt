@@ -35,6 +35,7 @@ found xs k e h = rw (← e) (lt-ltb k (length xs) h)
 not_found : (xs : List Float) (k : ℕ) → k ≡ first_not_finite xs → length xs ≤ k → not_finite xs ≡ false
 unfolding not_finite
 not_found xs k e h = rw (← e) (le-ltb k (length xs) h)
+
 module _ (l : ProcessList) (m : Room) (xs : List Float) where
   -- the promises: the answer, the slice afterwards; and, where it is accepted, that every table stands in the room, and what comes out of a last Range with one end
   abbrev Answers : Ran → List Float → Type 0

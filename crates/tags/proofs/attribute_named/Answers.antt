@@ -10,13 +10,12 @@ returns-then-k-ne0 c =
     named-bad (rules_of c.args.kind) _ _ _ _ c.requires _ (rw c.part.ensures at c.name_fault-k.ensures) c.if-k-ne0.true
 
 pub attribute_text-requires : goal.attribute_text-requires
-attribute_text-requires c =
-    (
-      c.requires.0,
-      omega (arith, (rw c.in-At.is at c.to_quote-r.ensures).inside),
-      (rw c.in-At.is at c.to_quote-r.ensures).inside.1,
-      sym (rw c.in-At.is at c.to_quote-r.ensures).out,
-    )
+attribute_text-requires c = (
+  c.requires.0,
+  omega (arith, (rw c.in-At.is at c.to_quote-r.ensures).inside),
+  (rw c.in-At.is at c.to_quote-r.ensures).inside.1,
+  sym (rw c.in-At.is at c.to_quote-r.ensures).out,
+)
 
 pub returns-in-At : goal.returns-in-At
 returns-in-At c =

@@ -19,12 +19,11 @@ returns-then-same_name c =
     index-in-found _ _ _ _ _ c.loop-i.i c.loop-i.invariant.2 (omega arith) (omega arith) (rw c.part.ensures at (sym c.same_name.ensures ∙ c.if-same_name.true))
 
 pub loop-i-preserved : goal.loop-i-preserved
-loop-i-preserved c =
-    (
-      omega arith,
-      omega arith,
-      none-in-more _ _ _ _ _ c.loop-i.i c.loop-i.invariant.2 (rw c.part.ensures at (sym c.same_name.ensures ∙ c.if-same_name.false)),
-    )
+loop-i-preserved c = (
+  omega arith,
+  omega arith,
+  none-in-more _ _ _ _ _ c.loop-i.i c.loop-i.invariant.2 (rw c.part.ensures at (sym c.same_name.ensures ∙ c.if-same_name.false)),
+)
 
 pub returns : goal.returns
 returns c = index-in-none _ _ _ _ _ c.loop-i.i c.loop-i.invariant.2 (omega arith)

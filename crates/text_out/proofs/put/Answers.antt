@@ -1,8 +1,4 @@
-use mathlib.Core.List.{◌++◌}
-use Prim.Native.Nat.{◌≤◌, ◌-◌}
 use native.Mathlib.Omega.{arith}
-use lib.ListN.{length, drop}
-use Rattle.text_out.specs.Output.{Goes}
 use Rattle.text_out.proofs.Laws.{goes-start, goes_then, goes_end, text-more, text-whole}
 use borrow.Author.Rules.{rules}
 use Rattle.text_out.proofs.put.Goals as goal
@@ -12,12 +8,11 @@ pub loop-i-init : goal.loop-i-init
 loop-i-init c = (search rules, goes-start _ _ _)
 
 pub loop-i-preserved : goal.loop-i-preserved
-loop-i-preserved c =
-    (
-      search rules,
-      goes_then c.loop-i.invariant.1 (text-more c.args.text.now c.loop-i.i (omega arith))
-          c.put_byte-held.ensures,
-    )
+loop-i-preserved c = (
+  search rules,
+  goes_then c.loop-i.invariant.1 (text-more c.args.text.now c.loop-i.i (omega arith))
+      c.put_byte-held.ensures,
+)
 
 pub returns : goal.returns
 returns c = goes_end c.loop-i.invariant.1 (text-whole c.args.text.now c.loop-i.i (omega arith) (omega arith))

@@ -1,10 +1,7 @@
 use mathlib.Core.List.{◌++◌}
 use Prim.Native.Nat.{◌≤◌, ◌-◌}
-use native.Mathlib.Omega.{arith}
 use lib.ListN.{length, drop}
 use Rattle.text_out.specs.Output.{Goes}
-use Rattle.text_out.proofs.Laws.{goes-start, goes_then, goes_end, text-more, text-whole}
-use borrow.Author.Rules.{rules}
 use Rattle.text_out.proofs.put.Given as goal
 
 abbrev pub invariant-loop-i : goal.invariant-loop-i

@@ -1,12 +1,12 @@
 use mathlib.Core.Bool.{not}
 use mathlib.Core.Path.{◌≡◌, refl, ap}
-use Prim.Native.Nat.{◌≤◌, ◌-◌, ◌+◌}
+use Prim.Native.Nat.{◌-◌, ◌+◌}
 use native.Mathlib.Omega.{arith}
 use borrow.Author.Rules.{rules}
 use Rattle.decimal.specs.Decimal.{zero}
 use Rattle.room.specs.Room.{lent, room_length}
-use Rattle.valid.specs.Valid.{carried, numbers_at}
-use Rattle.valid.proofs.Laws.{Tested, tested-fails, tested-goes-on, tested-ends, numbers-length, test_in}
+use Rattle.valid.specs.Valid.{carried}
+use Rattle.valid.proofs.Laws.{tested-fails, tested-goes-on, tested-ends, numbers-length, test_in}
 use Rattle.valid.proofs.all_carried.Goals as goal
 
 pub loop-k-init : goal.loop-k-init

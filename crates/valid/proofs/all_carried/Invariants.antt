@@ -1,11 +1,7 @@
-use mathlib.Core.Path.{◌≡◌, refl}
-use Prim.Native.Nat.{◌≤◌, ◌-◌, ◌+◌}
-use native.Mathlib.Omega.{arith}
-use borrow.Author.Rules.{rules}
-use Rattle.decimal.specs.Decimal.{zero}
-use Rattle.room.specs.Room.{lent, room_length}
+use Prim.Native.Nat.{◌≤◌, ◌-◌}
+use Rattle.room.specs.Room.{lent}
 use Rattle.valid.specs.Valid.{carried, numbers_at}
-use Rattle.valid.proofs.Laws.{Tested, tested-fails, tested-goes-on, tested-ends, numbers-length, test_in}
+use Rattle.valid.proofs.Laws.{Tested}
 use Rattle.valid.proofs.all_carried.Given as goal
 
 abbrev pub invariant-loop-k : goal.invariant-loop-k

@@ -1,12 +1,10 @@
 use mathlib.Core.Bool.{not}
 use mathlib.Core.Path.{refl, ap}
-use Prim.Native.Nat.{◌-◌}
 use native.Mathlib.Omega.{arith}
-use borrow.Author.Rules.{rules}
 use Rattle.process_list.specs.List.{blank_node}
 use Rattle.room.specs.Room.{lent}
-use Rattle.valid.proofs.Laws.{Tested, tested-fails, tested-goes-on, tested-ends, element-test, elements-length}
-use Rattle.valid.specs.Valid.{sound, elements_of, element_of}
+use Rattle.valid.proofs.Laws.{tested-fails, tested-goes-on, tested-ends, element-test, elements-length}
+use Rattle.valid.specs.Valid.{element_of}
 use Rattle.valid.proofs.all_sound.Goals as goal
 
 pub loop-k-init : goal.loop-k-init

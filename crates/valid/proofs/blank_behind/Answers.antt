@@ -1,10 +1,9 @@
 use mathlib.Core.Bool.{not}
 use mathlib.Core.Path.{◌≡◌, sym, ap}
-use Prim.Native.Nat.{ℕ, ◌-◌}
+use Prim.Native.Nat.{ℕ}
 use native.Mathlib.Omega.{arith}
-use borrow.Author.Rules.{rules}
 use lib.ListN.{drop}
-use Rattle.valid.proofs.Laws.{Tested, tested-fails, tested-goes-on, tested-ends}
+use Rattle.valid.proofs.Laws.{tested-fails, tested-goes-on, tested-ends}
 use Rattle.valid.specs.Valid.{every, is_blank}
 use Rattle.valid.proofs.blank_behind.Goals as goal
 

@@ -1,10 +1,6 @@
-use mathlib.Core.Path.{◌≡◌, sym, ap}
-use Prim.Native.Nat.{ℕ, ◌-◌}
-use native.Mathlib.Omega.{arith}
-use borrow.Author.Rules.{rules}
-use lib.ListN.{drop}
-use Rattle.valid.proofs.Laws.{Tested, tested-fails, tested-goes-on, tested-ends}
-use Rattle.valid.specs.Valid.{every, is_blank}
+use Prim.Native.Nat.{◌-◌}
+use Rattle.valid.proofs.Laws.{Tested}
+use Rattle.valid.specs.Valid.{is_blank}
 use Rattle.valid.proofs.blank_behind.Given as goal
 
 abbrev pub invariant-loop-k : goal.invariant-loop-k

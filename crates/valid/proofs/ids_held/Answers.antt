@@ -1,10 +1,8 @@
 use mathlib.Core.Bool.{not}
 use mathlib.Core.Path.{refl, ap, ◌∙◌}
-use Prim.Native.Nat.{◌-◌}
 use native.Mathlib.Omega.{arith}
-use borrow.Author.Rules.{rules}
-use Rattle.process_list.specs.List.{blank_node, nodes_of, node_at}
-use Rattle.valid.proofs.Laws.{Tested, tested-fails, tested-goes-on, tested-ends}
+use Rattle.process_list.specs.List.{blank_node, node_at}
+use Rattle.valid.proofs.Laws.{tested-fails, tested-goes-on, tested-ends}
 use Rattle.valid.specs.Valid.{id_held}
 use Rattle.valid.proofs.ids_held.Goals as goal
 

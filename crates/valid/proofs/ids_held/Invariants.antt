@@ -1,9 +1,6 @@
-use mathlib.Core.Path.{refl, ap, ◌∙◌}
 use Prim.Native.Nat.{◌-◌}
-use native.Mathlib.Omega.{arith}
-use borrow.Author.Rules.{rules}
-use Rattle.process_list.specs.List.{blank_node, nodes_of, node_at}
-use Rattle.valid.proofs.Laws.{Tested, tested-fails, tested-goes-on, tested-ends}
+use Rattle.process_list.specs.List.{nodes_of}
+use Rattle.valid.proofs.Laws.{Tested}
 use Rattle.valid.specs.Valid.{id_held}
 use Rattle.valid.proofs.ids_held.Given as goal
 

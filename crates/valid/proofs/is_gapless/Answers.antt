@@ -1,8 +1,8 @@
-use mathlib.Core.Path.{◌≡◌, sym, ap, ◌∙◌}
-use Prim.Native.Nat.{ℕ, ◌≤◌, ◌-◌, ◌+◌}
+use mathlib.Core.Path.{sym, ap, ◌∙◌}
+use Prim.Native.Nat.{ℕ, ◌+◌}
 use native.Mathlib.Omega.{arith}
 use borrow.Author.Rules.{rules}
-use lib.ListN.{drop, take}
+use lib.ListN.{drop}
 use Rattle.process_list.specs.List.{total, nodes_of}
 use Rattle.valid.proofs.Laws.{gapless-fails, gapless-goes-on, gapless-ends, count-goes-on}
 use Rattle.valid.specs.Valid.{gapless}

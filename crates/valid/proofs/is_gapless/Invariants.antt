@@ -1,10 +1,7 @@
-use mathlib.Core.Path.{◌≡◌, sym, ap, ◌∙◌}
-use Prim.Native.Nat.{ℕ, ◌≤◌, ◌-◌, ◌+◌}
-use native.Mathlib.Omega.{arith}
-use borrow.Author.Rules.{rules}
+use mathlib.Core.Path.{◌≡◌}
+use Prim.Native.Nat.{◌≤◌, ◌-◌}
 use lib.ListN.{drop, take}
 use Rattle.process_list.specs.List.{total, nodes_of}
-use Rattle.valid.proofs.Laws.{gapless-fails, gapless-goes-on, gapless-ends, count-goes-on}
 use Rattle.valid.specs.Valid.{gapless}
 use Rattle.valid.proofs.is_gapless.Given as goal
 

@@ -1,7 +1,7 @@
 use mathlib.Core.Path.{◌≡◌, sym, ap, ◌∙◌}
 use mathlib.Core.Bool.{true, ◌&&◌}
 use native.Mathlib.Omega.{arith}
-use borrow.Author.Tests.{not-true, not-false, le-leb, lt-leb, eq-eqb, ne_eqb}
+use borrow.Author.Tests.{le-leb, lt-leb, eq-eqb, ne_eqb}
 use borrow.Author.Rules.{rules}
 use lib.Dec.{eqb, leb}
 use Rattle.process_list.proofs.Lists.{accepted-number, accepted-fine}
@@ -33,16 +33,16 @@ pub returns-then-not-is_gapless : goal.returns-then-not-is_gapless
 unfolding list_right
 returns-then-not-is_gapless c =
     let passed : (leb c.args.list.count most_nodes && eqb (verdict_number (judged c.args.room (nodes_of c.args.list))) 0) ≡ true =
-        let e = c.refusal.ensures ∙ ap verdict_number c.judge-verdict.ensures in
-        simp (le-leb _ _ c.if-list-gt32.false, eq-eqb _ _ (sym e ∙ c.if-refusal-ne0.false)) in
+    let e = c.refusal.ensures ∙ ap verdict_number c.judge-verdict.ensures in
+    simp (le-leb _ _ c.if-list-gt32.false, eq-eqb _ _ (sym e ∙ c.if-refusal-ne0.false)) in
     simp (passed, sym c.is_gapless.ensures ∙ c.if-not-is_gapless.true)
 
 pub returns-then-not-ids_held : goal.returns-then-not-ids_held
 unfolding list_right
 returns-then-not-ids_held c =
     let passed : (leb c.args.list.count most_nodes && eqb (verdict_number (judged c.args.room (nodes_of c.args.list))) 0) ≡ true =
-        let e = c.refusal.ensures ∙ ap verdict_number c.judge-verdict.ensures in
-        simp (le-leb _ _ c.if-list-gt32.false, eq-eqb _ _ (sym e ∙ c.if-refusal-ne0.false)) in
+    let e = c.refusal.ensures ∙ ap verdict_number c.judge-verdict.ensures in
+    simp (le-leb _ _ c.if-list-gt32.false, eq-eqb _ _ (sym e ∙ c.if-refusal-ne0.false)) in
     let gaps : gapless 0 (nodes_of c.args.list) ≡ true = sym c.is_gapless.ensures ∙ c.if-not-is_gapless.false in
     simp (passed, gaps, sym c.ids_held.ensures ∙ c.if-not-ids_held.true)
 
@@ -50,8 +50,8 @@ pub returns : goal.returns
 unfolding list_right
 returns c =
     let passed : (leb c.args.list.count most_nodes && eqb (verdict_number (judged c.args.room (nodes_of c.args.list))) 0) ≡ true =
-        let e = c.refusal.ensures ∙ ap verdict_number c.judge-verdict.ensures in
-        simp (le-leb _ _ c.if-list-gt32.false, eq-eqb _ _ (sym e ∙ c.if-refusal-ne0.false)) in
+    let e = c.refusal.ensures ∙ ap verdict_number c.judge-verdict.ensures in
+    simp (le-leb _ _ c.if-list-gt32.false, eq-eqb _ _ (sym e ∙ c.if-refusal-ne0.false)) in
     let gaps : gapless 0 (nodes_of c.args.list) ≡ true = sym c.is_gapless.ensures ∙ c.if-not-is_gapless.false in
     simp (passed, gaps, sym c.ids_held.ensures ∙ c.if-not-ids_held.false) c.blank_behind.ensures
 

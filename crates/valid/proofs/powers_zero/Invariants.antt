@@ -1,9 +1,5 @@
 use Prim.Native.Nat.{◌-◌}
-use native.Mathlib.Omega.{arith}
-use borrow.Author.Rules.{rules}
-use lib.Dec.{lit<}
-use mir.Syntax.{w8}
-use Rattle.valid.proofs.Laws.{RestFrom, rest-starts, rest-goes-on, rest-fails, rest-ends}
+use Rattle.valid.proofs.Laws.{RestFrom}
 use Rattle.valid.proofs.powers_zero.Given as goal
 
 abbrev pub invariant-loop-k : goal.invariant-loop-k

@@ -1,13 +1,11 @@
 use mathlib.Core.Bool.{true, false}
 use mathlib.Core.Path.{◌≡◌, sym, ◌∙◌}
 use native.Mathlib.Omega.{arith}
-use borrow.Author.Tests.{not-true, not-false}
-use borrow.Author.Rules.{rules}
 use Rattle.process_list.proofs.Laws.{capped-exact}
 use Rattle.process_list.specs.List.{numbers_of}
 use Rattle.room.specs.Room.{lent}
 use Rattle.valid.proofs.Elements.{sound-shape, sound-short, sound-whole, shape-few}
-use Rattle.valid.specs.Valid.{every, carried, numbers_at, shape_right, rules_hold}
+use Rattle.valid.specs.Valid.{every, carried, numbers_at, shape_right}
 use Rattle.valid.proofs.sound.Goals as goal
 
 -- past the first test the shape is carried, and the count of numbers is exact; past the test of each number, every one is of our form
@@ -50,7 +48,7 @@ returns-then-not-rules_hold c =
     let few = shape-few c.args.node.kind shaped in
     let exact : c.numbers_of-count.result ≡ numbers_of c.args.node.kind = c.numbers_of-count.ensures ∙ capped-exact (numbers_of c.args.node.kind) (omega arith) in
     let forms : every carried (numbers_at (lent c.args.coefficients.now c.args.powers.now) c.args.node.at (numbers_of c.args.node.kind)) ≡ true =
-        rw exact at (sym c.all_carried.ensures ∙ c.if-not-all_carried.false) in
+    rw exact at (sym c.all_carried.ensures ∙ c.if-not-all_carried.false) in
     sym (sound-whole _ _ shaped (omega arith) ∙ simp (forms, sym c.rules_hold.ensures ∙ c.if-not-rules_hold.true))
 
 pub returns : goal.returns
@@ -59,7 +57,7 @@ returns c =
     let few = shape-few c.args.node.kind shaped in
     let exact : c.numbers_of-count.result ≡ numbers_of c.args.node.kind = c.numbers_of-count.ensures ∙ capped-exact (numbers_of c.args.node.kind) (omega arith) in
     let forms : every carried (numbers_at (lent c.args.coefficients.now c.args.powers.now) c.args.node.at (numbers_of c.args.node.kind)) ≡ true =
-        rw exact at (sym c.all_carried.ensures ∙ c.if-not-all_carried.false) in
+    rw exact at (sym c.all_carried.ensures ∙ c.if-not-all_carried.false) in
     c.both.ensures
     ∙ sym (sound-whole _ _ shaped (omega arith)
     ∙ simp (forms, sym c.rules_hold.ensures ∙ c.if-not-rules_hold.false, c.depths_right.ensures, c.allowed.ensures))

@@ -1,6 +1,5 @@
 use mathlib.Core.Bool.{true, false}
 use mathlib.Core.Path.{◌≡◌, sym, ◌∙◌}
-use borrow.Author.Tests.{not-true, not-false}
 use borrow.Author.Rules.{rules}
 use Rattle.process_list.proofs.Laws.{capped-exact}
 use Rattle.process_list.specs.List.{total, nodes_of}
@@ -22,21 +21,21 @@ pub all_sound-requires : goal.all_sound-requires
 unfolding is_valid
 all_sound-requires c =
     let right : list_right c.args.list (room_length (lent c.args.coefficients.now c.args.powers.now)) ≡ true =
-        rw (← c.length-room.ensures) (sym c.list_right.ensures ∙ c.if-not-list_right.false) in
+    rw (← c.length-room.ensures) (sym c.list_right.ensures ∙ c.if-not-list_right.false) in
     (right-parts _ _ right).few
 
 pub returns-then-not-all_sound : goal.returns-then-not-all_sound
 unfolding is_valid
 returns-then-not-all_sound c =
     let right : list_right c.args.list (room_length (lent c.args.coefficients.now c.args.powers.now)) ≡ true =
-        rw (← c.length-room.ensures) (sym c.list_right.ensures ∙ c.if-not-list_right.false) in
+    rw (← c.length-room.ensures) (sym c.list_right.ensures ∙ c.if-not-list_right.false) in
     simp (right, sym c.all_sound.ensures ∙ c.if-not-all_sound.true)
 
 pub returns : goal.returns
 unfolding is_valid
 returns c =
     let right : list_right c.args.list (room_length (lent c.args.coefficients.now c.args.powers.now)) ≡ true =
-        rw (← c.length-room.ensures) (sym c.list_right.ensures ∙ c.if-not-list_right.false) in
+    rw (← c.length-room.ensures) (sym c.list_right.ensures ∙ c.if-not-list_right.false) in
     let exact : c.used.result ≡ total (nodes_of c.args.list) = c.used.ensures ∙ capped-exact _ (right-few c.args.list _ (right-parts c.args.list _ right)) in
     let e = rw exact at c.zero_from.ensures in
     simp (right, sym c.all_sound.ensures ∙ c.if-not-all_sound.false) e

@@ -42,5 +42,5 @@ returns c =
     let v = sym c.valid.ensures ∙ c.if-not-valid.false in
     let i = sym c.id_right.ensures ∙ c.if-not-id_right.false in
     let r = ends-written a.list m a.id.now a.out.now v i _ _ _ c.text_length-length.ensures c.if-out-length.false
-        c.put_list.ensures in
+    c.put_list.ensures in
     record { value = r.0; out_after = r.1 }

@@ -1,6 +1,5 @@
 use native.Mathlib.Omega.{arith}
 use Rattle.xml.proofs.Words.{byte_cut, byte-is, byte-any, byte-other}
-use borrow.Author.Rules.{rules}
 use Rattle.xml.proofs.byte.Goals as goal
 
 pub returns-then-s-at : goal.returns-then-s-at

@@ -1,6 +1,5 @@
 use native.Mathlib.Omega.{arith}
 use Rattle.xml.proofs.Names.{close-cut, close-name}
-use borrow.Author.Rules.{rules}
 use Rattle.xml.proofs.close_name.Goals as goal
 
 pub returns-then-s-at : goal.returns-then-s-at

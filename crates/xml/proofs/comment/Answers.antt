@@ -1,7 +1,6 @@
 use native.Mathlib.Omega.{arith}
 use Rattle.xml.proofs.Answers.{failed}
 use Rattle.xml.proofs.Comments.{comment-cut, comment-none, comment-rest}
-use borrow.Author.Rules.{rules}
 use Rattle.xml.proofs.comment.Goals as goal
 
 pub returns-then-s-at : goal.returns-then-s-at

@@ -1,8 +1,5 @@
-use Prim.Native.Nat.{◌-◌}
 use native.Mathlib.Omega.{arith}
-use lib.ListN.{length}
-use Rattle.xml.proofs.Comments.{CommentInv, comment-start, comment-end, comment-more, comment-dash-end, comment-dash, comment-last}
-use borrow.Author.Rules.{rules}
+use Rattle.xml.proofs.Comments.{comment-start, comment-end, comment-more, comment-dash-end, comment-dash, comment-last}
 use Rattle.xml.proofs.comment_body.Goals as goal
 
 pub loop-i-init : goal.loop-i-init

@@ -1,7 +1,6 @@
 use mathlib.Core.Path.{sym, ◌∙◌}
 use native.Mathlib.Omega.{arith}
 use Rattle.xml.proofs.Entities.{end-cut, end-goes-on, end-ended}
-use borrow.Author.Rules.{rules}
 use Rattle.xml.proofs.end_or.Goals as goal
 
 pub returns-then-s-at : goal.returns-then-s-at

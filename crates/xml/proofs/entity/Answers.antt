@@ -1,7 +1,6 @@
 use native.Mathlib.Omega.{arith}
 use Rattle.xml.proofs.Answers.{failed}
 use Rattle.xml.proofs.Entities.{entity-cut, entity-none, entity-named}
-use borrow.Author.Rules.{rules}
 use Rattle.xml.proofs.entity.Goals as goal
 
 pub returns-then-s-at : goal.returns-then-s-at

@@ -1,5 +1,4 @@
 use Rattle.xml.proofs.Entities.{more-names, no_names}
-use borrow.Author.Rules.{rules}
 use Rattle.xml.proofs.entity_name.Goals as goal
 
 -- the five names, from the last to the first

@@ -1,7 +1,6 @@
 use mathlib.Core.Path.{sym, ◌∙◌}
 use borrow.Author.Tests.{eq-eqb, ne_eqb}
 use Rattle.xml.proofs.Tests.{name-letter, name-digit, name-sign}
-use borrow.Author.Rules.{rules}
 use Rattle.xml.proofs.is_name_byte.Goals as goal
 
 pub returns-then-is_letter : goal.returns-then-is_letter

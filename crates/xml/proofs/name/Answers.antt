@@ -1,7 +1,6 @@
 use mathlib.Core.Path.{sym, ◌∙◌}
 use native.Mathlib.Omega.{arith}
 use Rattle.xml.proofs.Names.{name-cut, name-first, name-other}
-use borrow.Author.Rules.{rules}
 use Rattle.xml.proofs.name.Goals as goal
 
 pub returns-then-s-at : goal.returns-then-s-at

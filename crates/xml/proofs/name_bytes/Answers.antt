@@ -1,11 +1,6 @@
-use Prim.Native.Nat.{◌-◌}
 use mathlib.Core.Path.{sym, ◌∙◌}
 use native.Mathlib.Omega.{arith}
-use lib.ListN.{length}
-use borrow.Author.Tests.{not-true, not-false}
-use Rattle.xml.specs.Bytes.{is_name_byte}
-use Rattle.xml.specs.CodeLaws.{SpanInv, span-start, span_more, span-stop, span-end}
-use borrow.Author.Rules.{rules}
+use Rattle.xml.specs.CodeLaws.{span-start, span_more, span-stop, span-end}
 use Rattle.xml.proofs.name_bytes.Goals as goal
 
 pub loop-i-init : goal.loop-i-init

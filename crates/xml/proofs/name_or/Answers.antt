@@ -1,5 +1,4 @@
 use Rattle.xml.proofs.Entities.{word-stood, word-differed, word-ended}
-use borrow.Author.Rules.{rules}
 use Rattle.xml.proofs.name_or.Goals as goal
 
 pub returns-in-At : goal.returns-in-At

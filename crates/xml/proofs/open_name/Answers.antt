@@ -1,6 +1,5 @@
 use native.Mathlib.Omega.{arith}
 use Rattle.xml.proofs.Names.{open-cut, open-name}
-use borrow.Author.Rules.{rules}
 use Rattle.xml.proofs.open_name.Goals as goal
 
 pub returns-then-s-at : goal.returns-then-s-at

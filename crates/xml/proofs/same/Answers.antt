@@ -1,10 +1,6 @@
-use Prim.Native.Nat.{◌-◌}
-use mathlib.Core.Path.{◌≡◌, refl}
+use mathlib.Core.Path.{refl}
 use native.Mathlib.Omega.{arith}
-use lib.ListN.{length, drop}
-use Rattle.xml.specs.Bytes as Bytes
 use Rattle.xml.proofs.Tests.{same_length, same_more, same_differs, same_whole}
-use borrow.Author.Rules.{rules}
 use Rattle.xml.proofs.same.Goals as goal
 
 pub returns-then-a-b : goal.returns-then-a-b

@@ -1,10 +1,7 @@
 use Prim.Native.Nat.{◌-◌}
-use mathlib.Core.Path.{◌≡◌, refl}
-use native.Mathlib.Omega.{arith}
+use mathlib.Core.Path.{◌≡◌}
 use lib.ListN.{length, drop}
 use Rattle.xml.specs.Bytes as Bytes
-use Rattle.xml.proofs.Tests.{same_length, same_more, same_differs, same_whole}
-use borrow.Author.Rules.{rules}
 use Rattle.xml.proofs.same.Given as goal
 
 abbrev pub invariant-loop-i : goal.invariant-loop-i

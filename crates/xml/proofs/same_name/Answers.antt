@@ -1,12 +1,6 @@
-use Prim.Native.Nat.{◌-◌}
-use mathlib.Core.Path.{◌≡◌, refl}
-use mathlib.Core.Bool.{◌&&◌}
-use mathlib.Core.Logic.{⊎_elim}
+use mathlib.Core.Path.{refl}
 use native.Mathlib.Omega.{arith}
-use lib.ListN.{length, drop}
-use Rattle.xml.specs.Bytes as Bytes
 use Rattle.xml.proofs.Tests.{same_length, still-same, not_same, all_same}
-use borrow.Author.Rules.{rules}
 use Rattle.xml.proofs.same_name.Goals as goal
 use Rattle.xml.proofs.same_name.Goals.{then-a-i, else-a-i}
 
@@ -29,7 +23,7 @@ pub loop-i-preserved : goal.loop-i-preserved
 loop-i-preserved c = (
   c.loop-i.invariant.0,
   elim c.if-a-i.branch [
-    then-a-i w ↦ not_same _ _ _ c.loop-i.equal _ c.loop-i.invariant.1 (omega arith) (omega arith) w.if-a-i.true w.equal-is
+    | then-a-i w ↦ not_same _ _ _ c.loop-i.equal _ c.loop-i.invariant.1 (omega arith) (omega arith) w.if-a-i.true w.equal-is
     | else-a-i w ↦ still-same _ _ _ c.loop-i.equal _ c.loop-i.invariant.1 (omega arith) (omega arith) w.if-a-i.false w.equal-is
   ],
 )

@@ -1,12 +1,7 @@
 use Rattle.xml.specs.Xml.{spaces}
-use Prim.Native.Nat.{◌-◌}
 use mathlib.Core.Path.{sym, ◌∙◌}
 use native.Mathlib.Omega.{arith}
-use lib.ListN.{length}
-use borrow.Author.Tests.{not-true, not-false}
-use Rattle.xml.specs.Bytes.{is_space}
-use Rattle.xml.specs.CodeLaws.{SpanInv, span-start, span_more, span-stop, span-end}
-use borrow.Author.Rules.{rules}
+use Rattle.xml.specs.CodeLaws.{span-start, span_more, span-stop, span-end}
 use Rattle.xml.proofs.spaces.Goals as goal
 
 pub loop-i-init : goal.loop-i-init

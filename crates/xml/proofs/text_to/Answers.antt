@@ -1,11 +1,7 @@
-use Prim.Native.Nat.{◌-◌}
 use native.Mathlib.Omega.{arith}
-use lib.ListN.{length}
-use lib.Dec.{eqb}
 use borrow.Author.Tests.{eq-eqb, ne_eqb}
 use Rattle.xml.proofs.Answers.{failed}
-use Rattle.xml.proofs.Texts.{TextInv, text-start, text-end, text-stop, text-less, text-more, text-and, text-failed}
-use borrow.Author.Rules.{rules}
+use Rattle.xml.proofs.Texts.{text-start, text-end, text-stop, text-less, text-more, text-and, text-failed}
 use Rattle.xml.proofs.text_to.Goals as goal
 
 pub loop-i-init : goal.loop-i-init

@@ -1,9 +1,6 @@
-use Prim.Native.Nat.{◌-◌}
 use native.Mathlib.Omega.{arith}
-use lib.ListN.{length}
 use Rattle.xml.proofs.Answers.{failed}
-use Rattle.xml.proofs.Words.{WordInv, word-start, word-done, word_more, word-failed}
-use borrow.Author.Rules.{rules}
+use Rattle.xml.proofs.Words.{word-start, word-done, word_more, word-failed}
 use Rattle.xml.proofs.word.Goals as goal
 
 pub loop-j-init : goal.loop-j-init

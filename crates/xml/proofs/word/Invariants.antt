@@ -1,9 +1,6 @@
 use Prim.Native.Nat.{◌-◌}
-use native.Mathlib.Omega.{arith}
 use lib.ListN.{length}
-use Rattle.xml.proofs.Answers.{failed}
-use Rattle.xml.proofs.Words.{WordInv, word-start, word-done, word_more, word-failed}
-use borrow.Author.Rules.{rules}
+use Rattle.xml.proofs.Words.{WordInv}
 use Rattle.xml.proofs.word.Given as goal
 
 abbrev pub invariant-loop-j : goal.invariant-loop-j
