@@ -1,7 +1,7 @@
 -- A grammar: a parser with the proof of its law. A definition made of these forms needs no proof of its own.
-use Rattle.std.specs.Prelude.{Bool, List, [], ◌∷◌, ◌++◌, ℕ}
+use Rattle.std.specs.Prelude.{Bool, List, [], ◌∷◌, ◌++◌, ℕ, refl}
 use Rattle.grammar.specs.Parse.{Parser, Turn, again, last, bind_p, ret_p, bad_p, look_p, strict_p, look_two_p, judge_p, settle_p, blame_p, kept_p, eat_p, span_p, loop_p, loop_state}
-use Rattle.grammar.specs.Laws.{StrongPrefix, bind-answer, ret-answer, bad-answer, eat-answer, span-answer, look-answer, strict-answer, look_two-answer, judge-answer}
+use Rattle.grammar.specs.Laws.{StrongPrefix, bind-answer, ret-answer, bad-answer, eat-answer, span-law, look-answer, strict-answer, look_two-law, judge-answer}
 use Rattle.grammar.specs.Laws.{settle-answer, blame-answer, kept-answer, loop-answer}
 
 infixl 10 ◌>>◌ ◌>>=◌
@@ -24,7 +24,7 @@ module _ {A : Type 0} where
 
   -- by the next two bytes, of which one at least is read
   abbrev pub look_two : (ℕ → ℕ → G A) → G A
-  look_two f = record { run = look_two_p (λ b c. (f b c).run); law = λ s. look_two-answer (λ b c. (f b c).run) s (λ b c r. (f b c).law (b ∷ c ∷ r)) }
+  look_two f = record { run = look_two_p (λ b c. (f b c).run); law = λ s. look_two-law (λ b c. (f b c).run) (λ b. refl) s (λ b c r. (f b c).law (b ∷ c ∷ r)) }
 
   -- a byte at least is read
   abbrev pub strict : G A → G A
@@ -52,7 +52,7 @@ eat = record { run = eat_p; law = eat-answer }
 
 -- the bytes that pass the test, up to one that does not, which is not read
 abbrev pub span : (ℕ → Bool) → G (List ℕ)
-span test = record { run = span_p test; law = span-answer test }
+span test = record { run = span_p test; law = span-law test refl }
 
 -- one after the other
 abbrev pub seq : {A B : Type 0} → G A → (A → G B) → G B

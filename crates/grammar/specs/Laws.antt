@@ -84,9 +84,10 @@ span-go test b s true q (cuts e) = cuts (rw (e, q))
 span-go test b s true q (faults k c r e h) = faults k (b ∷ c) r (ap (λ (l : List ℕ). b ∷ l) e) (λ t. rw (h t, q))
 span-go test b s true q (dones w c r e h) = dones (b ∷ w) (b ∷ c) r (ap (λ (l : List ℕ). b ∷ l) e) (λ t f. rw (h t f, q))
 
-pub span-answer : (test : ℕ → Bool) (s : List ℕ) → StrongPrefix (span_p test) s
-span-answer test [] = cuts refl
-span-answer test (b ∷ s) = span-go test b s (test b) refl (span-answer test s)
+-- the law of `span`, from what it answers where the bytes have ended (`proofs/Answers`: `span-answer`)
+pub span-law : (test : ℕ → Bool) → span_p test [] ≡ cut → (s : List ℕ) → StrongPrefix (span_p test) s
+span-law test q [] = cuts q
+span-law test q (b ∷ s) = span-go test b s (test b) refl (span-law test q s)
 
 -- ---- the forms around one parser
 
@@ -145,10 +146,12 @@ module _ {A : Type 0} where
       let z : y ≡ c = cc in
       ap (λ (n : ℕ). strict_p (f n y) (x ∷ y ∷ (d ++ t))) q ∙ ap (λ (n : ℕ). strict_p (f b n) (x ∷ y ∷ (d ++ t))) z ∙ h t w
 
-  pub look_two-answer : (f : ℕ → ℕ → Parser A) (s : List ℕ) → ((b c : ℕ) (r : List ℕ) → StrongPrefix (f b c) (b ∷ c ∷ r)) → StrongPrefix (look_two_p f) s
-  look_two-answer f [] g = cuts refl
-  look_two-answer f (b ∷ []) g = cuts refl
-  look_two-answer f (b ∷ c ∷ s) g = two_cases (strict-answer (f b c) (b ∷ c ∷ s) (g b c s))
+  -- the law of `look_two`, from what it answers where there is one byte alone (`proofs/Answers`: `look_two-answer`)
+  pub look_two-law : (f : ℕ → ℕ → Parser A) → ((b : ℕ) → look_two_p f (b ∷ []) ≡ cut) → (s : List ℕ)
+      → ((b c : ℕ) (r : List ℕ) → StrongPrefix (f b c) (b ∷ c ∷ r)) → StrongPrefix (look_two_p f) s
+  look_two-law f q [] g = cuts refl
+  look_two-law f q (b ∷ []) g = cuts (q b)
+  look_two-law f q (b ∷ c ∷ s) g = two_cases (strict-answer (f b c) (b ∷ c ∷ s) (g b c s))
     where
       two_cases : StrongPrefix (strict_p (f b c)) (b ∷ c ∷ s) → StrongPrefix (look_two_p f) (b ∷ c ∷ s)
       two_cases (cuts q) = cuts q
