@@ -15,7 +15,7 @@ use Rattle.pixel_cube.specs.Cube.{interpolated_by}
 use Rattle.pixel_cube.specs.Table.{place_of, entry_at, interpolated_all, lut3d_pixel}
 use Rattle.pixel_cube.specs.TableLaws.{held, lut3d-table}
 use Rattle.pixel_cube.specs.Corners.{KeepsCorners, LutKeeps}
-use Rattle.pixel_cube.specs.CornersLaws.{keeps}
+use Rattle.pixel_cube.proofs.CornersLaws.{keeps}
 use Rattle.pixel_room.proofs.Known.{number-known}
 
 entry_known : (m : Room) (at n component : ℕ) (c : Corner) → T (not (is_nan (entry_at m at n component c)))

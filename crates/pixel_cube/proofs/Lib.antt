@@ -1,1 +1,4 @@
 pub mod Keeps
+pub mod WaysLaws
+pub mod CountLaws
+pub mod CornersLaws

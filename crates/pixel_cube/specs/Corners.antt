@@ -17,7 +17,7 @@ use Rattle.pixel_cube.specs.Cube.{all_axes, low, remainder_on, steps_along, smal
 use Rattle.pixel_cube.specs.Table.{entry_at, cube_in}
 
 -- the corners used are counted by passes, each along some axes; the last pass stands first. 'Trilinear works along blue, then green, then red', tetrahedral along all three at once.
--- CornersLaws proves that each method's formula is that of its passes.
+-- `proofs/CornersLaws` proves that each method's formula is that of its passes.
 abbrev pub passes : Interpolation → List (List Axis)
 passes Trilinear = (Red ∷ []) ∷ (Green ∷ []) ∷ (Blue ∷ []) ∷ []
 passes Tetrahedral = all_axes ∷ []

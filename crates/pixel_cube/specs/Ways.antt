@@ -1,4 +1,4 @@
--- The two methods as the code takes them: by a pixel's place on each axis, which is worked out once, and over the axes in their order. WaysLaws says that they are those of Cube. Definitions only.
+-- The two methods as the code takes them: by a pixel's place on each axis, which is worked out once, and over the axes in their order. `proofs/WaysLaws` says that they are those of Cube. Definitions only.
 use Rattle.std.specs.Prelude.{◌≡◌, false, cond, List, [], ◌∷◌, ℕ, ◌+◌, ◌<◌, Float}
 use Rattle.std.specs.Float.Ieee.{eq}
 use Rattle.process_list.specs.declared.Interpolation.{Interpolation}

@@ -24,7 +24,7 @@ use Rattle.pixel_cube.specs.Cube.{fraction_on, remainder_on, corner, low, raised
 use Rattle.pixel_cube.specs.Cube.{interpolated_by}
 use Rattle.pixel_cube.specs.Cube as Cube
 use Rattle.pixel_cube.specs.Corners.{passes, listed_for, used_from, corners_used, Inside, Every, KeepsCorners}
-use Rattle.pixel_cube.specs.CountLaws.{corners-many}
+use Rattle.pixel_cube.proofs.CountLaws.{corners-many}
 
 -- ---- each of a list of corners
 every_map : (P Q : Corner → Type 0) → ((c : Corner) → P c → Q c) → (cs : List Corner) → Every P cs → Every Q cs

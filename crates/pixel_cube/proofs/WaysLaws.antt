@@ -23,7 +23,7 @@ use Rattle.pixel_cube.specs.declared.Sum.{Sum}
 use Rattle.pixel_cube.specs.Cube.{remainder_on, low, raised, falling, leaving, Step, steps_from, steps_along, summed, smallest, largest, summed_and_held, all_axes, interpolated_by}
 use Rattle.pixel_cube.specs.Cube as Cube
 use Rattle.pixel_cube.specs.Corners.{Inside, Every}
-use Rattle.pixel_cube.specs.CornersLaws.{next-on, index_on, raised-inside}
+use Rattle.pixel_cube.proofs.CornersLaws.{next-on, index_on, raised-inside}
 use Rattle.pixel_cube.specs.Ways.{cell_of, part_on, low_of, PlaceInside, CellInside, along, leg_from, legs_from, legs_in, added, added_all, held_sum, walked, walked_all, way_by}
 use Rattle.pixel_cube.specs.Ways as Ways
 
