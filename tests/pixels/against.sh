@@ -1,5 +1,5 @@
 #!/usr/bin/env bash
-# against.sh NAME [PROGRAM]: what cube.sh and one_end.sh share. Links NAME.c with the archive of clf_c_c (the one that ARCHIVE names, else one that is proved and built) and runs it; with PROGRAM
+# against.sh NAME [PROGRAM]: what cube.sh and one_end.sh share. Links NAME.c with the archive for C (the one that ARCHIVE names, else that of capi/build) and runs it; with PROGRAM
 # it compares NAME.c with that program over the line protocol (PROTOCOL.md) instead. Everything is written to a temporary folder.
 set -eu
 here=$(cd "$(dirname "$0")" && pwd)
@@ -16,7 +16,7 @@ if [ $# -gt 0 ]; then
     cmp "$work/expected" "$work/answers" && echo "all alike"
     exit
 fi
-archive=${ARCHIVE:-$root/crates/clf_c_c/out/libclf_c_c.a}
-[ -n "${ARCHIVE:-}" ] || (cd "$root/crates/clf_c_c" && rt lib)
+archive=${ARCHIVE:-$root/target/staticlib/libclf_c.a}
+[ -n "${ARCHIVE:-}" ] || "$root/capi/build"
 ${CC:-cc} $flags "$here/$name.c" "$archive" -lm -o "$work/$name"
 "$work/$name"
