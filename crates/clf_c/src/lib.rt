@@ -38,11 +38,7 @@ pub fn clf_check_file(file: &[u8]) -> FileCheck
 }
 
 // Reads a file into the table room.
-pub fn clf_read_file(
-    file: &[u8],
-    coefficients: &mut [i64],
-    powers: &mut [i8],
-) -> FileRead
+pub fn clf_read_file(file: &[u8], coefficients: &mut [i64], powers: &mut [i8]) -> FileRead
     ensures { FileReads file.now result (lent coefficients.old powers.old) (lent coefficients.new powers.new) }
 {
     let answer = reading::read(file, coefficients, powers);
