@@ -1,4 +1,4 @@
-// pixels FILE..: how fast libclf_c_c.a (clf_apply, f64) and OpenColorIO's CPU processor (f32) run the same picture through each look, in one
+// pixels FILE..: how fast libclf_c.a (clf_apply, f64) and OpenColorIO's CPU processor (f32) run the same picture through each look, in one
 // thread, one after the other in each round. README.md says what each column is.
 #include "../capi/clf.h"
 

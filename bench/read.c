@@ -1,4 +1,4 @@
-/* read FILE..: how fast libclf_c_c.a reads each file, and beside it a plain loop over the same bytes that counts tokens (runs of bytes that
+/* read FILE..: how fast libclf_c.a reads each file, and beside it a plain loop over the same bytes that counts tokens (runs of bytes that
    are no white space). Figures are of processor time; each is the best of five runs of at least a quarter of a second. */
 #include "../capi/clf.h"
 

@@ -1,4 +1,4 @@
-/* Reading Common LUT Format files and running pixels through them: the functions of libclf_c_c.a (rt lib in crates/clf_c_c). */
+/* Reading Common LUT Format files and running pixels through them: the functions of libclf_c.a (capi/build). */
 #ifndef CLF_H
 #define CLF_H
 

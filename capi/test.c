@@ -1,4 +1,4 @@
-/* Calls the functions of libclf_c_c.a from C and compares their answers with those of document 01. Run by tests/capi. */
+/* Calls the functions of libclf_c.a from C and compares their answers with those of document 01. Run by tests/capi. */
 #include "clf.h"
 
 #include <stdio.h>

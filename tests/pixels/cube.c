@@ -1,6 +1,6 @@
 /* LUT3D (document 02, W-201), written again in C from its sentences, and compared bit for bit with the proved code.
 
-     cube                        a million pixels for each size and method through clf_apply (needs the archive libclf_c_c.a)
+     cube                        a million pixels for each size and method through clf_apply (needs the archive target/staticlib/libclf_c.a)
      cube lines LINES ANSWERS    writes protocol lines (PROTOCOL.md) to the file LINES, an R and an X for each cube, and the answers that the
                                  X lines are to get to the file ANSWERS: so any program that speaks the protocol can be compared
 

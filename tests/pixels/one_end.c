@@ -1,6 +1,6 @@
 /* A Range with one end (document 02, W-202), written again in C from its sentences, and compared bit for bit with the proved code.
 
-     one_end                        a million pixels for each end and limit through clf_apply (needs the archive libclf_c_c.a)
+     one_end                        a million pixels for each end and limit through clf_apply (needs the archive target/staticlib/libclf_c.a)
      one_end lines LINES ANSWERS    writes protocol lines (PROTOCOL.md) to the file LINES, an R and an X for each look, and the answers that the
                                     X lines are to get to the file ANSWERS: so any program that speaks the protocol can be compared
 
