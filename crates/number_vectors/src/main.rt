@@ -73,8 +73,12 @@ fn run(rt: &impl Print, s: &[u8]) -> io::Result<Counts> {
     Ok(Counts { tokens, numbers })
 }
 
+// A file that cannot be opened is told on standard error.
 fn main(rt: HostRuntime) -> io::Result<()> {
-    let mut file = File::open(&rt, "tokens")?;
+    let mut file = match File::open(&rt, "tokens") {
+        Ok(file) => file,
+        Err(e) => return eprintln!(rt; "tokens: {e}"),
+    };
     let mut buffer = [0u8; 65536];
     let n = read_full(&mut file, &mut buffer)?;
     let c = run(&rt, &buffer[..n])?;
