@@ -7,28 +7,27 @@ ghost use Rattle.clf.specs.List as List;
 ghost use Rattle.around_root.specs.Code.{root_scan, before_root};
 
 use markup::NextTag;
-use xml::Scan;
+use xml::{Scan, Stop};
 
 // A start tag before the root: the root's own, or another.
+#[tactic(auto, unfolding(crate::specs::Code::root_scan))]
 fn root_name(s: &[u8], at: usize, e: usize) -> Scan
     requires { at < length s.now }
     ensures { result ≡ root_scan s.now at e }
 {
     if xml::same(tags::part(s, at + 1, e), b"ProcessList") {
-        return Scan::At(e);
+        return Ok(e);
     }
-    Scan::Fault(refusals::WRONG_ELEMENT, at)
+    Err(Stop::Fault(refusals::WRONG_ELEMENT, at))
 }
 
 // What stands before the root, to the end of its name.
 fn prologue(s: &[u8], at: usize) -> Scan
     ensures { Reads 1 (List.prologue).run no_value s.now at result }
 {
-    let l = markup::next_tag(s, at);
-    match l {
+    match markup::next_tag(s, at)? {
         NextTag::Start(a, e) => root_name(s, a, e),
         NextTag::End(a) => markup::stray_end(s, a),
-        NextTag::Failed(a, r) => r,
     }
 }
 
@@ -36,15 +35,14 @@ fn prologue(s: &[u8], at: usize) -> Scan
 pub fn epilogue(s: &[u8], at: usize) -> Scan
     ensures { ReadsFrom 0 List.tail no_value s.now at result }
 {
-    let l = markup::next_tag(s, at);
-    match l {
-        NextTag::Start(a, e) => Scan::Fault(refusals::WRONG_ELEMENT, a),
-        NextTag::End(a) => markup::stray_end(s, a),
-        NextTag::Failed(a, r) => {
-            if s.len() <= a {
-                return Scan::At(a);
+    match markup::next_tag(s, at) {
+        Ok(NextTag::Start(a, _)) => Err(Stop::Fault(refusals::WRONG_ELEMENT, a)),
+        Ok(NextTag::End(a)) => markup::stray_end(s, a),
+        Err(halt) => {
+            if s.len() <= halt.at {
+                return Ok(halt.at);
             }
-            r
+            Err(halt.stop)
         }
     }
 }
@@ -53,15 +51,12 @@ pub fn epilogue(s: &[u8], at: usize) -> Scan
 pub fn to_root(s: &[u8]) -> Scan
     ensures { Reads 1 before_root no_value s.now 0 result }
 {
-    let r = xml::word(
+    let declaration = xml::word(
         s,
         0,
         b"<?xml version=\"1.0\" encoding=\"UTF-8\"?>",
         refusals::FORM_NOT_CARRIED,
     );
-    match r {
-        Scan::At(e) => prologue(s, e),
-        Scan::Fault(k, p) => Scan::Fault(k, 0),
-        Scan::Cut => Scan::Cut,
-    }
+    let e = xml::blamed(declaration, 0)?;
+    prologue(s, e)
 }

@@ -1,5 +1,5 @@
 -- Matrix, LUT1D and LUT3D by their name in the code, and what the answers of the code mean.
-use Rattle.std.specs.Prelude.{◌≡◌, Bool, true, false, List, [], ℕ, length}
+use Rattle.std.specs.Prelude.{◌≡◌, List, [], ℕ, length}
 use Rattle.std.proofs.Math.Option.{Option, none, some}
 use Rattle.decimal.specs.declared.Decimal.{Decimal}
 use Rattle.process_list.specs.declared.Kind.{Kind}
@@ -7,21 +7,20 @@ use Rattle.process_list.specs.List.{Element, numbers_of}
 use Rattle.grammar.specs.Grammar.{G}
 use Rattle.xml.specs.Bytes.{bytes}
 use Rattle.xml.specs.Elements.{Holder}
-use Rattle.room.specs.Room.{Room, cleared_from}
+use Rattle.room.specs.Room.{Room}
 use Rattle.values.specs.Code.{Laid}
 use Rattle.xml.specs.Xml.{Attribute, text_of}
 use Rattle.clf.specs.Nodes.{matrix_shape, lut_shape, cube_shape, lut_names, lut_texts, cube_texts, interpolation_of, ArrayState, array_holder, Table, matrix, lut1d, lut3d}
-use Rattle.xml.specs.declared.Scan.{Scan}
-use Rattle.xml.specs.declared.Scan.TheVariants.{At}
-use Rattle.process_list.specs.declared.Kind.TheVariants.{Matrix}
-use Rattle.array_node.specs.declared.ArrayStep.{ArrayStep}
-use Rattle.array_node.specs.declared.TableStep.{TableStep}
+use Rattle.xml.specs.Code.{Scan}
+use Rattle.std.specs.Prelude.{Result, Ok, Err}
+use Rattle.std.specs.Prelude as Std
+use Rattle.xml.specs.declared.Stop.{Stop}
+use Rattle.array_node.specs.declared.TableRead.{TableRead}
+use Rattle.array_node.specs.declared.ChildRead.{ChildRead}
 use Rattle.array_node.specs.declared.TableNode.{TableNode}
 use Rattle.array_node.specs.declared.TableNode.TheVariants as Named
 use Rattle.array_node.specs.declared.TableKind.{TableKind}
 use Rattle.array_node.specs.declared.TableKind.TheVariants as Tables
-use Rattle.array_node.specs.declared.KindRead.{KindRead}
-use Rattle.array_node.specs.declared.KindRead.TheVariants as Kinds
 
 -- the grammar and the rules of each
 abbrev pub node_for : TableNode → G Element
@@ -59,35 +58,29 @@ name_of (Tables.Lut3d interpolation) = bytes "LUT3D"
 abbrev pub holder_of : TableKind → Holder ArrayState
 holder_of table = array_holder (name_of table) (shape_of table)
 
-abbrev pub kind_read : KindRead → Option Kind
-kind_read (Kinds.Is k) = some k
-kind_read Kinds.Other = none
+-- an optional kind of the code, as the definitions have it
+abbrev pub kind_read : Std.Option Kind → Option Kind
+kind_read (Std.Some k) = some k
+kind_read Std.None = none
 
--- the state with another answer
-abbrev pub with_scan : ArrayStep → Scan → ArrayStep
-with_scan r scan = record { scan = scan; found = r.found; kind = r.kind }
+-- the places behind what was read
+abbrev pub table_end : Result TableRead Stop → Scan
+table_end (Ok t) = Ok t.end
+table_end (Err x) = Err x
 
--- the state with an Array
-abbrev pub with_table : TableStep → ArrayStep
-with_table t = record { scan = t.scan; found = true; kind = t.kind }
-
--- nothing found yet
-abbrev pub none_found : ℕ → ArrayStep
-none_found at = record { scan = At at; found = false; kind = Matrix false }
+abbrev pub child_end : Result ChildRead Stop → Scan
+child_end (Ok c) = Ok c.end
+child_end (Err x) = Err x
 
 -- the table of an Array, if it was there
-abbrev pub table_of : Bool → Kind → List Decimal → Option Table
-table_of true kind xs = some (kind, xs)
-table_of false kind xs = none
+abbrev pub table_of : Std.Option Kind → List Decimal → Option Table
+table_of (Std.Some kind) xs = some (kind, xs)
+table_of Std.None xs = none
 
 -- as many numbers as its kind asks for; none where no Array was there
-abbrev pub Filled : Bool → Kind → List Decimal → Type 0
-Filled true kind xs = length xs ≡ numbers_of kind
-Filled false kind xs = xs ≡ []
-
--- cleared from `base` on, the room is as it was before, cleared so
-abbrev pub SameCleared : ℕ → Room → Room → Type 0
-SameCleared base m₀ m₁ = cleared_from base m₁ ≡ cleared_from base m₀
+abbrev pub Filled : Std.Option Kind → List Decimal → Type 0
+Filled (Std.Some kind) xs = length xs ≡ numbers_of kind
+Filled Std.None xs = xs ≡ []
 
 -- an Array of this kind, whose numbers stand in the room
 pub record TableIn (base : ℕ) (m₀ m₁ : Room) (kind : Kind) (t : Table) : Type 0 where
@@ -95,14 +88,9 @@ pub record TableIn (base : ℕ) (m₀ m₁ : Room) (kind : Kind) (t : Table) : T
   pub all : length t.1 ≡ numbers_of kind
   pub room : Laid base t.1 m₀ m₁
 
--- the code's state r stands for the state st, and the numbers read so far are laid in the room
-pub record ArrayStands (base : ℕ) (m₀ m₁ : Room) (r : ArrayStep) (st : ArrayState) : Type 0 where
+-- the Array that the code has found, if any, stands for the state st, and the numbers read so far are laid in the room
+pub record ArrayStands (base : ℕ) (m₀ m₁ : Room) (found : Std.Option Kind) (st : ArrayState) : Type 0 where
   pub xs : List Decimal
-  pub table : st.table ≡ table_of r.found r.kind xs
-  pub all : Filled r.found r.kind xs
+  pub table : st.table ≡ table_of found xs
+  pub all : Filled found xs
   pub room : Laid base xs m₀ m₁
-
--- the same at the end tag, with the Array there
-pub record ArrayWhole (base : ℕ) (m₀ m₁ : Room) (r : ArrayStep) (st : ArrayState) : Type 0 where
-  pub found : r.found ≡ true
-  pub stands : ArrayStands base m₀ m₁ r st

@@ -1,7 +1,7 @@
 #![tactic(auto)]
 
 // Matrix, LUT1D and LUT3D: Descriptions, then one Array, whose numbers go into the table room from `base` on.
-ghost use Rattle.std.specs.Prelude.{◌≡◌, cond, ◌+◌, ◌≤◌, length};
+ghost use Rattle.std.specs.Prelude.{◌≡◌, cond, ◌+◌, ◌≤◌, length, Some, is_some, IfOk};
 ghost use Rattle.xml.specs.Bytes.{bytes};
 ghost use Rattle.xml.specs.Xml.{text_of, end_tag};
 ghost use Rattle.xml.specs.Elements.{held};
@@ -11,18 +11,18 @@ ghost use Rattle.tags.specs.Rules.{rules_of};
 ghost use Rattle.tags.specs.Code.{attributes_of};
 ghost use Rattle.room.specs.Room.{Room, lent};
 ghost use Rattle.node_parts.specs.Code.{NodeReads};
-ghost use Rattle.node_parts.specs.Held.{Goes, ReadsTo};
+ghost use Rattle.node_parts.specs.Held.{Goes, ReadsTo, SameCleared, NodeStored};
 ghost use Rattle.array_node.specs.Code as Code;
 
 use markup::NextTag;
-use node_parts::NodeStep;
+use node_parts::NodeRead;
 use process_list::{Interpolation, Kind};
-use tags::{Attributes, PointsRead, ShapeRead, TagKind};
+use tags::{Attributes, Shape, TagKind};
 use values::Rule;
-use xml::Scan;
+use xml::{Scan, Stop};
 
 // The three nodes that hold an Array.
-#[derive(Clone, Copy)]
+#[derive(Clone, Copy, Debug, PartialEq, Eq)]
 pub enum TableNode {
     Matrix,
     Lut1d,
@@ -30,77 +30,62 @@ pub enum TableNode {
 }
 
 // The same behind the start tag, which says a LUT3D's method.
-#[derive(Clone, Copy)]
+#[derive(Clone, Copy, Debug, PartialEq, Eq)]
 enum TableKind {
     Matrix,
     Lut1d,
     Lut3d { interpolation: Interpolation },
 }
 
-// The content of such a node so far: its Array's shape, if the Array was there.
-#[derive(Clone, Copy)]
-pub struct ArrayStep {
-    pub scan: Scan,
-    pub found: bool,
+// An Array that was read: the place behind it, and the shape that its `dim` says. The same of the content that holds it.
+#[derive(Clone, Copy, Debug, PartialEq, Eq)]
+pub struct TableRead {
+    pub end: usize,
     pub kind: Kind,
 }
 
-// An Array, and the shape that its `dim` says.
-#[derive(Clone, Copy)]
-pub struct TableStep {
-    pub scan: Scan,
-    pub kind: Kind,
+// A child of such a node that was read: the place behind it, and the shape of the Array, if that was there by then.
+#[derive(Clone, Copy, Debug, PartialEq, Eq)]
+pub struct ChildRead {
+    pub end: usize,
+    pub found: Option<Kind>,
 }
 
-#[derive(Clone, Copy)]
-pub enum KindRead {
-    Is(Kind),
-    Other,
-}
-
-fn matrix_kind(text: &[u8]) -> KindRead
+fn matrix_kind(text: &[u8]) -> Option<Kind>
     ensures { Code.kind_read result ≡ Nodes.matrix_shape text.now }
 {
     if xml::same(text, b"3 3") {
-        return KindRead::Is(Kind::Matrix { wide: false });
+        Some(Kind::Matrix { wide: false })
+    } else if xml::same(text, b"3 4") {
+        Some(Kind::Matrix { wide: true })
+    } else {
+        None
     }
-    if xml::same(text, b"3 4") {
-        return KindRead::Is(Kind::Matrix { wide: true });
-    }
-    KindRead::Other
 }
 
-fn lut_kind(text: &[u8]) -> KindRead
+fn lut_kind(text: &[u8]) -> Option<Kind>
     ensures { Code.kind_read result ≡ Nodes.lut_shape text.now }
 {
-    let shape = tags::shape_of(text);
-    match shape {
-        ShapeRead::Is { entries, columns } => KindRead::Is(Kind::Lut1d { entries, columns }),
-        ShapeRead::Other => KindRead::Other,
-    }
+    let Shape { entries, columns } = tags::shape_of(text)?;
+    Some(Kind::Lut1d { entries, columns })
 }
 
-fn cube_kind(text: &[u8], interpolation: Interpolation) -> KindRead
+fn cube_kind(text: &[u8], interpolation: Interpolation) -> Option<Kind>
     ensures { Code.kind_read result ≡ Nodes.cube_shape interpolation text.now }
 {
-    let points = tags::points_of(text);
-    match points {
-        PointsRead::Is(n) => KindRead::Is(Kind::Lut3d {
-            points: n,
-            interpolation,
-        }),
-        PointsRead::Other => KindRead::Other,
-    }
+    let points = tags::points_of(text)?;
+    Some(Kind::Lut3d {
+        points,
+        interpolation,
+    })
 }
 
 // The shape that an Array's tag says.
-fn kind_of(s: &[u8], attributes: Attributes, table: TableKind) -> KindRead
+fn kind_of(s: &[u8], attributes: Attributes, table: TableKind) -> Option<Kind>
     ensures { Code.kind_read result ≡ Code.shape_of table (text_of (bytes "dim") (attributes_of s.now attributes)) }
 {
     let span = tags::text_of(s, attributes, b"dim");
-    let a = span.start;
-    let e = span.end;
-    let text = tags::part(s, a, e);
+    let text = tags::part(s, span.start, span.end);
     match table {
         TableKind::Matrix => matrix_kind(text),
         TableKind::Lut1d => lut_kind(text),
@@ -118,15 +103,6 @@ fn array_tag(table: TableKind) -> TagKind
     }
 }
 
-fn no_table(scan: Scan) -> TableStep
-    ensures { result.scan ≡ scan }
-{
-    TableStep {
-        scan,
-        kind: Kind::Matrix { wide: false },
-    }
-}
-
 // An Array behind its name.
 fn array(
     s: &[u8],
@@ -135,88 +111,68 @@ fn array(
     coefficients: &mut [i64],
     powers: &mut [i8],
     base: usize,
-) -> TableStep
-    ensures { ReadsTo (Nodes.array (Code.shape_of table)).run s.now at result.scan
-        (Code.TableIn base (lent coefficients.old powers.old) (lent coefficients.new powers.new) result.kind)
-        (Code.SameCleared base (lent coefficients.old powers.old) (lent coefficients.new powers.new)) }
+) -> Result<TableRead, Stop>
+    ensures { ReadsTo (Nodes.array (Code.shape_of table)).run s.now at (Code.table_end result)
+        (λ t. IfOk result (λ a. Code.TableIn base (lent coefficients.old powers.old) (lent coefficients.new powers.new) a.kind t))
+        (SameCleared base (lent coefficients.old powers.old) (lent coefficients.new powers.new)) }
 {
-    let tag = tags::start_tag(s, at, array_tag(table));
-    let end = tag.end;
-    let attributes = tag.attributes;
-    let r = tags::behind(end);
-    let Scan::At(q) = r else {
-        return no_table(r);
-    };
-    let k = kind_of(s, attributes, table);
-    match k {
-        KindRead::Is(kind) => {
-            let n = process_list::numbers_of(kind);
-            let scan = values::numbers(s, q, b"Array", n, Rule::Any, coefficients, powers, base);
-            TableStep { scan, kind }
-        }
-        KindRead::Other => no_table(Scan::Fault(refusals::WRONG_ATTRIBUTE, q)),
-    }
+    let tag = tags::start_tag(s, at, array_tag(table))?;
+    let behind = tag.end.behind();
+    let wrong = Stop::Fault(refusals::WRONG_ATTRIBUTE, behind);
+    let kind = kind_of(s, tag.attributes, table).ok_or(wrong)?;
+    let n = process_list::numbers_of(kind);
+    let end = values::numbers(
+        s,
+        behind,
+        b"Array",
+        n,
+        Rule::Any,
+        coefficients,
+        powers,
+        base,
+    )?;
+    Ok(TableRead { end, kind })
 }
 
-// The state with an Array.
-fn with_table(table: TableStep) -> ArrayStep
-    ensures { result ≡ Code.with_table table }
-{
-    let scan = table.scan;
-    let kind = table.kind;
-    ArrayStep {
-        scan,
-        found: true,
-        kind,
-    }
-}
-
-// The state with another answer.
-fn array_with(state: ArrayStep, scan: Scan) -> ArrayStep
-    ensures { result ≡ Code.with_scan state scan }
-{
-    let found = state.found;
-    let kind = state.kind;
-    ArrayStep { scan, found, kind }
-}
-
-// A child of such a node: its `<` stands at `at`, and its name ends at e.
+// A child of such a node: its `<` stands at `at`, and its name ends at e. `found`: the shape of the Array, if it was there.
 fn array_child(
     s: &[u8],
     at: usize,
     e: usize,
     table: TableKind,
-    state: ArrayStep,
+    found: Option<Kind>,
     coefficients: &mut [i64],
     powers: &mut [i8],
     base: usize,
-) -> ArrayStep
+) -> Result<ChildRead, Stop>
     requires { (at + 2 ≤ e) × (e ≤ length s.now) }
-    ensures { (m₀ : Room) (st : Nodes.ArrayState) → Code.ArrayStands base m₀ (lent coefficients.old powers.old) state st
-        → Goes (Code.holder_of table) st s.now at e result.scan (Code.ArrayStands base m₀ (lent coefficients.new powers.new) result)
-        (Code.SameCleared base m₀ (lent coefficients.new powers.new)) }
+    ensures { (m₀ : Room) (st : Nodes.ArrayState) → Code.ArrayStands base m₀ (lent coefficients.old powers.old) found st
+        → Goes (Code.holder_of table) st s.now at e (Code.child_end result) (λ x. IfOk result (λ c. Code.ArrayStands base m₀ (lent coefficients.new powers.new) c.found x))
+        (SameCleared base m₀ (lent coefficients.new powers.new)) }
 {
-    let found = state.found;
     let w = tags::part(s, at + 1, e);
-    if found {
-        return array_with(state, Scan::Fault(refusals::WRONG_ELEMENT, at));
+    if found.is_some() {
+        return Err(Stop::Fault(refusals::WRONG_ELEMENT, at));
     }
     if xml::same(w, b"Array") {
-        return with_table(array(s, e, table, coefficients, powers, base));
+        let array = array(s, e, table, coefficients, powers, base)?;
+        return Ok(ChildRead {
+            end: array.end,
+            found: Some(array.kind),
+        });
     }
     if xml::same(w, b"Description") {
-        return array_with(state, info::text_element(s, e, w));
+        let end = info::text_element(s, e, w)?;
+        return Ok(ChildRead { end, found });
     }
-    array_with(state, Scan::Fault(refusals::WRONG_ELEMENT, at))
+    Err(Stop::Fault(refusals::WRONG_ELEMENT, at))
 }
 
-fn array_missing(found: bool) -> u8
-    ensures { result ≡ cond found 0 5 }
+// What is wrong at the end tag, its number or 0: so the definitions of what an element holds have it, which the contract cites.
+fn array_missing(found: Option<Kind>) -> u8
+    ensures { result ≡ cond (is_some found) 0 5 }
 {
-    if found {
-        return 0;
-    }
-    refusals::WRONG_ELEMENT
+    tags::unless(found.is_some(), refusals::WRONG_ELEMENT)
 }
 
 // The end tag of such a node.
@@ -230,17 +186,8 @@ fn node_end(s: &[u8], at: usize, table: TableKind, missing: u8) -> Scan
     }
 }
 
-fn no_array(at: usize) -> ArrayStep
-    ensures { result ≡ Code.none_found at }
-{
-    ArrayStep {
-        scan: Scan::At(at),
-        found: false,
-        kind: Kind::Matrix { wide: false },
-    }
-}
-
-// The content of such a node, and its end tag.
+// The content of such a node, and its end tag. The loops over children here, in `range_node` and in `cdl_node` stay apart, since one for all would take two closures over each node's own state and room,
+// which is no plainer.
 fn array_content(
     s: &[u8],
     at: usize,
@@ -248,29 +195,26 @@ fn array_content(
     coefficients: &mut [i64],
     powers: &mut [i8],
     base: usize,
-) -> ArrayStep
-    ensures { ReadsTo (held (Code.holder_of table) Nodes.no_array).run s.now at result.scan
-        (Code.ArrayWhole base (lent coefficients.old powers.old) (lent coefficients.new powers.new) result)
-        (Code.SameCleared base (lent coefficients.old powers.old) (lent coefficients.new powers.new)) }
+) -> Result<TableRead, Stop>
+    ensures { ReadsTo (held (Code.holder_of table) Nodes.no_array).run s.now at (Code.table_end result)
+        (λ x. IfOk result (λ a. Code.ArrayStands base (lent coefficients.old powers.old) (lent coefficients.new powers.new) (Some a.kind) x))
+        (SameCleared base (lent coefficients.old powers.old) (lent coefficients.new powers.new)) }
 {
-    let mut state = no_array(at);
+    let mut found = None;
     let mut i = at;
     loop {
-        let l = markup::next_tag(s, i);
-        match l {
+        match markup::next_tag(s, i)? {
             NextTag::Start(a, e) => {
-                state = array_child(s, a, e, table, state, coefficients, powers, base);
-                let r = state.scan;
-                let Scan::At(q) = r else {
-                    return state;
-                };
-                i = q;
+                let child = array_child(s, a, e, table, found, coefficients, powers, base)?;
+                i = child.end;
+                found = child.found;
             }
             NextTag::End(a) => {
-                let r = node_end(s, a, table, array_missing(state.found));
-                return array_with(state, r);
+                let end = node_end(s, a, table, array_missing(found))?;
+                // without an Array the end tag is at fault
+                let kind = found.unwrap();
+                return Ok(TableRead { end, kind });
             }
-            NextTag::Failed(a, r) => return array_with(state, r),
         }
     }
 }
@@ -290,13 +234,12 @@ fn interpolation_of(s: &[u8], attributes: Attributes) -> Interpolation
     ensures { result ≡ Nodes.interpolation_of (text_of (bytes "interpolation") (attributes_of s.now attributes)) }
 {
     let span = tags::text_of(s, attributes, b"interpolation");
-    let a = span.start;
-    let e = span.end;
-    let text = tags::part(s, a, e);
+    let text = tags::part(s, span.start, span.end);
     if xml::same(text, b"tetrahedral") {
-        return Interpolation::Tetrahedral;
+        Interpolation::Tetrahedral
+    } else {
+        Interpolation::Trilinear
     }
-    Interpolation::Trilinear
 }
 
 // What a node's Array may be, by its tag.
@@ -312,6 +255,27 @@ fn table_kind(s: &[u8], attributes: Attributes, node: TableNode) -> TableKind
     }
 }
 
+// A Matrix, a LUT1D or a LUT3D, behind its name, before the room is cleared where there is none.
+fn stored_node(
+    s: &[u8],
+    at: usize,
+    node: TableNode,
+    coefficients: &mut [i64],
+    powers: &mut [i8],
+    base: usize,
+) -> Result<NodeRead, Stop>
+    ensures { NodeStored (Code.node_for node).run s.now at base result
+        (lent coefficients.old powers.old) (lent coefficients.new powers.new) }
+{
+    let tag = tags::start_tag(s, at, node_tag(node))?;
+    let table = table_kind(s, tag.attributes, node);
+    let content = array_content(s, tag.end.behind(), table, coefficients, powers, base)?;
+    Ok(NodeRead {
+        end: content.end,
+        node: node_parts::finished(s, tag.attributes, content.kind),
+    })
+}
+
 // A Matrix, a LUT1D or a LUT3D, behind its name.
 pub fn table_node(
     s: &[u8],
@@ -320,23 +284,10 @@ pub fn table_node(
     coefficients: &mut [i64],
     powers: &mut [i8],
     base: usize,
-) -> NodeStep
+) -> Result<NodeRead, Stop>
     ensures { NodeReads (Code.node_for node).run s.now at base result
         (lent coefficients.old powers.old) (lent coefficients.new powers.new) }
 {
-    let tag = tags::start_tag(s, at, node_tag(node));
-    let end = tag.end;
-    let attributes = tag.attributes;
-    let r = tags::behind(end);
-    let Scan::At(q) = r else {
-        return node_parts::failed(r, coefficients, powers, base);
-    };
-    let table = table_kind(s, attributes, node);
-    let c = array_content(s, q, table, coefficients, powers, base);
-    let scan = c.scan;
-    let Scan::At(e) = scan else {
-        return node_parts::failed(scan, coefficients, powers, base);
-    };
-    let kind = c.kind;
-    node_parts::finished(s, attributes, scan, kind)
+    let read = stored_node(s, at, node, coefficients, powers, base);
+    node_parts::kept_or_cleared(read, coefficients, powers, base)
 }

@@ -2,7 +2,7 @@
 use mathlib.Core.Path.{◌≡◌, refl, sym, ap, ◌∙◌, subst}
 use mathlib.Core.Bool.{Bool, true, false, cond}
 use mathlib.Core.List.{List, [], ◌∷◌, ◌++◌}
-use Prim.Native.Nat.{ℕ, suc, ◌+◌, ◌-◌, ◌≤◌, ◌<◌}
+use Prim.Native.Nat.{ℕ, suc, ◌+◌, ◌≤◌, ◌<◌}
 use native.Mathlib.Omega.{arith}
 use lib.Dec.{eqb, ltb}
 use lib.ListN.{length, length-append, length-take, length-drop}
@@ -13,9 +13,11 @@ use Rattle.grammar.specs.Laws.{nope}
 use Rattle.xml.specs.Bytes.{same, bytes}
 use Rattle.xml.specs.Xml.{Tag, start_tag, end_tag}
 use Rattle.xml.specs.Elements.{held}
-use Rattle.xml.specs.Code.{Reads, no_value, Failed}
-use Rattle.xml.specs.declared.Scan.{Scan}
-use Rattle.xml.specs.declared.Scan.TheVariants.{At, Fault, Cut}
+use Rattle.xml.specs.Code.{Reads, no_value}
+use Rattle.xml.specs.Code.{Scan}
+use Rattle.std.specs.Prelude.{Ok, Err}
+use Rattle.xml.specs.declared.Stop.{Stop}
+use Rattle.xml.specs.declared.Stop.TheVariants.{Fault}
 use Rattle.markup.specs.Next.{Behind}
 use Rattle.markup.specs.declared.Item.TheVariants as Items
 use Rattle.tags.specs.Code.{part_in}
@@ -28,7 +30,7 @@ use Rattle.node_parts.specs.Held.{Went, Goes, HeldAt, ReadsTo}
 use Rattle.room.specs.Room.{Room, cleared_from}
 use Rattle.values.proofs.Stored.{laid-none-yet, laid_then}
 use Rattle.node_parts.proofs.Held.{end-lacks, child-refused, child-body, held-end}
-use Rattle.node_parts.proofs.Reading.{to_map, to-then, to-failed, to_part, numbers-to}
+use Rattle.node_parts.proofs.Reading.{no_tag, to_map, to-then, to-failed, to_part, numbers-to}
 use Rattle.cdl_node.specs.declared.CdlPart.{CdlPart}
 use Rattle.cdl_node.specs.declared.CdlPart.TheVariants.{Sop, Sat}
 use Rattle.cdl_node.specs.Code.{name_of, width_of, top_of, base_of, part_fault_of, rules_in, inner_holder, inner_node, InnerStands}
@@ -88,7 +90,7 @@ module _ (part : CdlPart) (s : List ℕ) (at e : ℕ) (w : List ℕ) (n : w ≡ 
   blame : part_fault_of part (length xs) w ≡ k
   blame = ap (λ (j : ℕ). part_fault_of part j w) (sym v.counted) ∙ sym q
 
-  pub inner-refused : (R : List Decimal → Type 0) → (k ≡ 0 → ⊥) → Goes (inner_holder part) xs s at e (Fault k at) R (Unit {0})
+  pub inner-refused : (R : List Decimal → Type 0) → (k ≡ 0 → ⊥) → Goes (inner_holder part) xs s at e (Err (Fault k at)) R (Unit {0})
   inner-refused R z = child-refused (inner_holder part) xs s at e w n l i R (Unit {0}) k blame z tt
 
   module _ (z : k ≡ 0) (width base : ℕ) (rule : Decimal → ℕ) (r : Scan) (m₁ : Room) (ew : width ≡ width_of part) (er : rule ≡ rules_in part count)
@@ -132,20 +134,19 @@ pub inner-few : (part : CdlPart) (m₀ m : Room) (count : ℕ) (l : List Decimal
 inner-few part m₀ m count l v = omega (arith, v.counted, v.few, top-nine part)
 
 module _ (part : CdlPart) (s : List ℕ) (at i : ℕ) (m₀ m : Room) (count : ℕ) (v : HeldAt (inner_holder part) [] s at i (InnerStands part m₀ m count))
-    (j : ℕ) (l : Behind s i Items.EndTag j) (missing : ℕ) (q : missing ≡ cond (ltb count (top_of part)) 5 0) where
+    (j : ℕ) (l : Behind s i (Ok Items.EndTag) j) (missing : ℕ) (q : missing ≡ cond (ltb count (top_of part)) 5 0) where
   abbrev All : List Decimal → Type 0
   All = NumbersIn (top_of part) (base_of part) m₀ m
 
   whole : (r : Scan) (xs : List Decimal) → InnerStands part m₀ m count xs → Reads 1 (end_tag (name_of part) missing).run no_value s j r → Went r (All xs) (Unit {0})
-  whole (At e) xs z w = go (ltb count (top_of part)) refl
+  whole (Ok e) xs z w = go (ltb count (top_of part)) refl
     where
       go : (b : Bool) → ltb count (top_of part) ≡ b → All xs
       go true x =
           let y : missing ≡ 5 = q ∙ ap (λ (b : Bool). cond b 5 0) x in
           absurd (end-lacks (name_of part) missing 1 s j e (λ n. omega arith) w)
       go false x = record { counted = omega (arith, ltb-false count (top_of part) x, z.counted, z.few); room = z.room }
-  whole (Fault k e) xs z w = tt
-  whole Cut xs z w = tt
+  whole (Err x) xs z w = tt
 
   lacking : (xs : List Decimal) → InnerStands part m₀ m count xs → cond (ltb (length xs) (top_of part)) 5 0 ≡ missing
   lacking xs z = ap (λ (n : ℕ). cond (ltb n (top_of part)) 5 0) (sym z.counted) ∙ sym q
@@ -158,13 +159,13 @@ module _ (part : CdlPart) (s : List ℕ) (at i : ℕ) (m₀ m : Room) (count : �
 
 -- ---- the element itself
 
-module _ (part : CdlPart) (s : List ℕ) (at : ℕ) (tag : Tag) (R : List Decimal → Type 0) where
+module _ (part : CdlPart) (s : List ℕ) (at : ℕ) (R : List Decimal → Type 0) where
   abbrev opens : Parser Tag
   opens = (start_tag not_empty_rules).run
 
-  pub inner-failed : (r : Scan) → Failed r → Reads 1 opens (λ e. tag) s at r → ReadsTo (inner_node part).run s at r R (Unit {0})
-  inner-failed r f v = to-failed opens s at R (Unit {0}) (λ t. (held (inner_holder part) []).run) (λ e. tag) r f [] tt v
+  pub inner-failed : (x : Stop) → Reads 1 opens no_tag s at (Err x) → ReadsTo (inner_node part).run s at (Err x) R (Unit {0})
+  inner-failed x v = to-failed opens s at R (Unit {0}) (λ t. (held (inner_holder part) []).run) no_tag (Err x) tt [] tt v
 
-  pub inner-then : (q : ℕ) (r : Scan) → Reads 1 opens (λ e. tag) s at (At q) → ReadsTo (held (inner_holder part) []).run s q r R (Unit {0})
+  pub inner-then : (tag : Tag) (q : ℕ) (r : Scan) → Reads 1 opens (λ e. tag) s at (Ok q) → ReadsTo (held (inner_holder part) []).run s q r R (Unit {0})
       → ReadsTo (inner_node part).run s at r R (Unit {0})
-  inner-then q r v w = to-then opens s at R (Unit {0}) (λ t. (held (inner_holder part) []).run) (λ e. tag) q r v w
+  inner-then tag q r v w = to-then opens s at R (Unit {0}) (λ t. (held (inner_holder part) []).run) (λ e. tag) q r v w

@@ -1,12 +1,13 @@
 -- SOPNode and SatNode as parts of an ASC_CDL, and what the answers of the code mean: the ten numbers stand in a small room, in the order in which the list holds them.
-use Rattle.std.specs.Prelude.{◌≡◌, Bool, true, false, cond, ◌||◌, List, [], ◌∷◌, ◌++◌, ℕ, ◌≤◌, ltb, length}
+use Rattle.std.specs.Prelude.{◌≡◌, Bool, cond, ◌||◌, List, [], ◌++◌, ℕ, ◌≤◌, ltb, length}
 use Rattle.decimal.specs.declared.Decimal.{Decimal}
 use Rattle.grammar.specs.Grammar.{G, ret, seq, ◌>>◌}
 use Rattle.xml.specs.Bytes.{bytes, same}
 use Rattle.xml.specs.Xml.{start_tag}
 use Rattle.xml.specs.Elements.{Holder, held}
-use Rattle.xml.specs.declared.Scan.{Scan}
-use Rattle.xml.specs.declared.Scan.TheVariants as Scans
+use Rattle.xml.specs.Code.{Scan}
+use Rattle.std.specs.Prelude.{Result, Ok, Err}
+use Rattle.xml.specs.declared.Stop.{Stop}
 use Rattle.tags.specs.declared.TagEnd.{TagEnd}
 use Rattle.tags.specs.declared.TagEnd.TheVariants as Ends
 use Rattle.room.specs.Room.{Room}
@@ -17,7 +18,7 @@ use Rattle.node_parts.specs.Code.{small_numbers}
 use Rattle.node_parts.specs.Held.{ReadsTo}
 use Rattle.cdl_node.specs.declared.CdlPart.{CdlPart}
 use Rattle.cdl_node.specs.declared.CdlPart.TheVariants.{Sop, Sat}
-use Rattle.cdl_node.specs.declared.CdlStep.{CdlStep}
+use Rattle.cdl_node.specs.declared.CdlRead.{CdlRead}
 use Rattle.refusals.specs.Refusals as Refusal
 
 -- ---- SOPNode and SatNode
@@ -80,25 +81,24 @@ cdl_fault_of sop sat w =
 abbrev pub absent_parts : List Decimal
 absent_parts = sop_numbers no_cdl ++ sat_numbers no_cdl
 
--- the state with another answer
-abbrev pub with_scan : CdlStep → Scan → CdlStep
-with_scan r scan = record { scan = scan; sop = r.sop; sat = r.sat }
+-- the place behind a child
+abbrev pub cdl_end : Result CdlRead Stop → Scan
+cdl_end (Ok r) = Ok r.end
+cdl_end (Err x) = Err x
 
--- nothing found yet
-abbrev pub none_found : Scan → CdlStep
-none_found scan = record { scan = scan; sop = false; sat = false }
-
--- the code's state r and the small room stand for the state st
-pub record CdlStands (m : Room) (r : CdlStep) (st : CdlState) : Type 0 where
-  pub sop : r.sop ≡ is_some st.sop
-  pub sat : r.sat ≡ is_some st.sat
+-- the numbers of a small room are those of the state st
+pub record CdlNumbers (m : Room) (st : CdlState) : Type 0 where
   pub numbers : small_numbers m ≡ sop_numbers st ++ sat_numbers st
   pub nine : length (sop_numbers st) ≡ 9
   pub one : length (sat_numbers st) ≡ 1
 
+-- the code's flags and the small room stand for the state st
+pub record CdlStands (m : Room) (sop sat : Bool) (st : CdlState) : Type 0 where
+  pub sop_is : sop ≡ is_some st.sop
+  pub sat_is : sat ≡ is_some st.sat
+  pub held : CdlNumbers m st
+
 -- what follows a start tag that ended so
-abbrev pub Followed : List ℕ → TagEnd → Room → CdlStep → Type 0
-Followed s (Ends.Open q) m r = ReadsTo (held cdl_holder no_cdl).run s q r.scan (CdlStands m r) (Unit {0})
-Followed s (Ends.Empty q) m r = (r.scan ≡ Scans.At q) × CdlStands m r no_cdl
-Followed s (Ends.Fault k q) m r = r.scan ≡ Scans.Fault k q
-Followed s Ends.Cut m r = r.scan ≡ Scans.Cut
+abbrev pub Followed : List ℕ → TagEnd → Room → Scan → Type 0
+Followed s (Ends.Open q) m r = ReadsTo (held cdl_holder no_cdl).run s q r (CdlNumbers m) (Unit {0})
+Followed s (Ends.Empty q) m r = (r ≡ Ok q) × CdlNumbers m no_cdl

@@ -1,7 +1,7 @@
 #![tactic(auto)]
 
 // ASC_CDL: Descriptions, then an optional SOPNode, then an optional SatNode.
-ghost use Rattle.std.specs.Prelude.{◌≡◌, cond, ◌||◌, List, [], ◌+◌, ◌≤◌, ltb, length};
+ghost use Rattle.std.specs.Prelude.{◌≡◌, cond, ◌||◌, List, [], ◌+◌, ◌≤◌, ltb, length, IfOk};
 ghost use Rattle.decimal.specs.declared.Decimal as Decimals;
 ghost use Rattle.process_list.specs.declared.CdlStyle.TheVariants.{Fwd, FwdNoClamp};
 ghost use Rattle.xml.specs.Bytes.{same};
@@ -13,27 +13,27 @@ ghost use Rattle.room.specs.Room.{lent};
 ghost use Rattle.values.specs.Code.{rule_of};
 ghost use Rattle.clf.specs.Nodes as Nodes;
 ghost use Rattle.node_parts.specs.Code.{NodeReads, NumbersIn, small_numbers};
-ghost use Rattle.node_parts.specs.Held.{Goes, ReadsTo};
+ghost use Rattle.node_parts.specs.Held.{Goes, ReadsTo, NodeStored};
 ghost use Rattle.cdl_node.specs.Code as Code;
 
 use markup::NextTag;
-use node_parts::NodeStep;
+use node_parts::NodeRead;
 use process_list::{CdlStyle, Kind};
 use tags::{TagEnd, TagKind};
 use values::Rule;
-use xml::Scan;
+use xml::{Scan, Stop};
 
 // The part of an ASC_CDL that is read: its SOPNode or its SatNode.
-#[derive(Clone, Copy)]
+#[derive(Clone, Copy, Debug, PartialEq, Eq)]
 enum CdlPart {
     Sop,
     Sat,
 }
 
-// The content of an ASC_CDL so far: whether its SOPNode and SatNode were there.
-#[derive(Clone, Copy)]
-pub struct CdlStep {
-    pub scan: Scan,
+// A child of an ASC_CDL that was read: the place behind it, and whether its SOPNode and SatNode were there by then.
+#[derive(Clone, Copy, Debug, PartialEq, Eq)]
+pub struct CdlRead {
+    pub end: usize,
     pub sop: bool,
     pub sat: bool,
 }
@@ -42,37 +42,26 @@ pub struct CdlStep {
 fn is_next_sop(w: &[u8], count: usize) -> bool
     ensures { result ≡ same w.now (Nodes.sop_name count) }
 {
-    if count == 0 {
-        return xml::same(w, b"Slope");
+    match count {
+        0 => xml::same(w, b"Slope"),
+        3 => xml::same(w, b"Offset"),
+        6 => xml::same(w, b"Power"),
+        _ => w.is_empty(),
     }
-    if count == 3 {
-        return xml::same(w, b"Offset");
-    }
-    if count == 6 {
-        return xml::same(w, b"Power");
-    }
-    w.len() == 0
 }
 
-// What is wrong with the name of an element in a part, after `count` numbers.
+// What is wrong with the name of an element in a part, after `count` numbers. A fault is its number here, 0 is none:
+// so the definitions of what an element holds have it, which the contracts cite.
 fn inner_fault(w: &[u8], part: CdlPart, count: usize) -> u8
     ensures { result ≡ Code.part_fault_of part count w.now }
 {
     match part {
-        CdlPart::Sop => {
-            if is_next_sop(w, count) {
-                return 0;
-            }
-            refusals::WRONG_ELEMENT
-        }
+        CdlPart::Sop => tags::unless(is_next_sop(w, count), refusals::WRONG_ELEMENT),
         CdlPart::Sat => {
             if 1 <= count {
                 return refusals::WRONG_ELEMENT;
             }
-            if xml::same(w, b"Saturation") {
-                return 0;
-            }
-            refusals::WRONG_ELEMENT
+            tags::unless(xml::same(w, b"Saturation"), refusals::WRONG_ELEMENT)
         }
     }
 }
@@ -82,15 +71,11 @@ fn inner_rule(part: CdlPart, count: usize) -> Rule
     ensures { rule_of result ≡ Code.rules_in part count }
 {
     match part {
-        CdlPart::Sop => {
-            if count == 0 {
-                return Rule::NotNegative;
-            }
-            if count == 3 {
-                return Rule::Any;
-            }
-            Rule::One
-        }
+        CdlPart::Sop => match count {
+            0 => Rule::NotNegative,
+            3 => Rule::Any,
+            _ => Rule::One,
+        },
         CdlPart::Sat => Rule::NotNegative,
     }
 }
@@ -128,10 +113,7 @@ fn inner_base(part: CdlPart) -> usize
 fn inner_missing(part: CdlPart, count: usize) -> u8
     ensures { result ≡ cond (ltb count (Code.top_of part)) 5 0 }
 {
-    if count < inner_top(part) {
-        return refusals::WRONG_ELEMENT;
-    }
-    0
+    tags::unless(inner_top(part) <= count, refusals::WRONG_ELEMENT)
 }
 
 // An element in a part after `count` numbers: its `<` stands at `at`, and its name ends at e.
@@ -151,7 +133,7 @@ fn inner_child(
     let w = tags::part(s, at + 1, e);
     let k = inner_fault(w, part, count);
     if k != 0 {
-        return Scan::Fault(k, at);
+        return Err(Stop::Fault(k, at));
     }
     let n = inner_width(part);
     let rule = inner_rule(part, count);
@@ -184,18 +166,12 @@ fn inner_content(
     let mut count: usize = 0;
     let mut i = at;
     loop {
-        let l = markup::next_tag(s, i);
-        match l {
+        match markup::next_tag(s, i)? {
             NextTag::Start(a, e) => {
-                let r = inner_child(s, a, e, part, count, coefficients, powers);
-                let Scan::At(q) = r else {
-                    return r;
-                };
+                i = inner_child(s, a, e, part, count, coefficients, powers)?;
                 count += width;
-                i = q;
             }
             NextTag::End(a) => return inner_end(s, a, part, inner_missing(part, count)),
-            NextTag::Failed(a, r) => return r,
         }
     }
 }
@@ -211,26 +187,15 @@ fn inner_node(
     ensures { ReadsTo (Code.inner_node part).run s.now at result
         (NumbersIn (Code.top_of part) (Code.base_of part) (lent coefficients.old powers.old) (lent coefficients.new powers.new)) (Unit {0}) }
 {
-    let tag = tags::start_tag(s, at, TagKind::Holder);
-    let end = tag.end;
-    let r = tags::behind(end);
-    let Scan::At(q) = r else {
-        return r;
-    };
-    inner_content(s, q, part, coefficients, powers)
+    let tag = tags::start_tag(s, at, TagKind::Holder)?;
+    inner_content(s, tag.end.behind(), part, coefficients, powers)
 }
 
 // The fault of what must stand before a SOPNode and a SatNode.
 fn cdl_late(sop: bool, sat: bool) -> u8
     ensures { result ≡ cond (sop || sat) 5 0 }
 {
-    if sop {
-        return refusals::WRONG_ELEMENT;
-    }
-    if sat {
-        return refusals::WRONG_ELEMENT;
-    }
-    0
+    tags::unless(!(sop || sat), refusals::WRONG_ELEMENT)
 }
 
 // What is wrong with the name of a child of an ASC_CDL.
@@ -238,28 +203,13 @@ fn cdl_fault(w: &[u8], sop: bool, sat: bool) -> u8
     ensures { result ≡ Code.cdl_fault_of sop sat w.now }
 {
     if xml::same(w, b"Description") {
-        return cdl_late(sop, sat);
-    }
-    if xml::same(w, b"SOPNode") {
-        return cdl_late(sop, sat);
-    }
-    if xml::same(w, b"SatNode") {
-        if sat {
-            return refusals::WRONG_ELEMENT;
-        }
-        return 0;
-    }
-    refusals::WRONG_ELEMENT
-}
-
-// The state with another answer.
-fn cdl_with(state: CdlStep, scan: Scan) -> CdlStep
-    ensures { result ≡ Code.with_scan state scan }
-{
-    CdlStep {
-        scan,
-        sop: state.sop,
-        sat: state.sat,
+        cdl_late(sop, sat)
+    } else if xml::same(w, b"SOPNode") {
+        cdl_late(sop, sat)
+    } else if xml::same(w, b"SatNode") {
+        tags::unless(!sat, refusals::WRONG_ELEMENT)
+    } else {
+        refusals::WRONG_ELEMENT
     }
 }
 
@@ -268,102 +218,87 @@ fn cdl_body(
     s: &[u8],
     at: usize,
     w: &[u8],
-    state: CdlStep,
+    sop: bool,
+    sat: bool,
     coefficients: &mut [i64],
     powers: &mut [i8],
-) -> CdlStep
-    ensures { (st : Nodes.CdlState) → Code.CdlStands (lent coefficients.old powers.old) state st
-        → ReadsTo (Nodes.cdl_body st w.now).run s.now at result.scan (Code.CdlStands (lent coefficients.new powers.new) result) (Unit {0}) }
+) -> Result<CdlRead, Stop>
+    ensures { (st : Nodes.CdlState) → Code.CdlStands (lent coefficients.old powers.old) sop sat st
+        → ReadsTo (Nodes.cdl_body st w.now).run s.now at (Code.cdl_end result)
+        (λ x. IfOk result (λ r. Code.CdlStands (lent coefficients.new powers.new) r.sop r.sat x)) (Unit {0}) }
 {
-    let sop = state.sop;
-    let sat = state.sat;
     if xml::same(w, b"SOPNode") {
-        let scan = inner_node(s, at, CdlPart::Sop, coefficients, powers);
-        return CdlStep {
-            scan,
+        let end = inner_node(s, at, CdlPart::Sop, coefficients, powers)?;
+        return Ok(CdlRead {
+            end,
             sop: true,
             sat,
-        };
+        });
     }
     if xml::same(w, b"SatNode") {
-        let scan = inner_node(s, at, CdlPart::Sat, coefficients, powers);
-        return CdlStep {
-            scan,
+        let end = inner_node(s, at, CdlPart::Sat, coefficients, powers)?;
+        return Ok(CdlRead {
+            end,
             sop,
             sat: true,
-        };
+        });
     }
-    cdl_with(state, info::text_element(s, at, w))
+    let end = info::text_element(s, at, w)?;
+    Ok(CdlRead { end, sop, sat })
 }
 
-// A child of an ASC_CDL: its `<` stands at `at`, and its name ends at e.
+// A child of an ASC_CDL: its `<` stands at `at`, and its name ends at e. `sop` and `sat`: whether its SOPNode and SatNode were there before it.
 fn cdl_child(
     s: &[u8],
     at: usize,
     e: usize,
-    state: CdlStep,
+    sop: bool,
+    sat: bool,
     coefficients: &mut [i64],
     powers: &mut [i8],
-) -> CdlStep
+) -> Result<CdlRead, Stop>
     requires { (at + 2 ≤ e) × (e ≤ length s.now) }
-    ensures { (st : Nodes.CdlState) → Code.CdlStands (lent coefficients.old powers.old) state st
-        → Goes Nodes.cdl_holder st s.now at e result.scan (Code.CdlStands (lent coefficients.new powers.new) result) (Unit {0}) }
+    ensures { (st : Nodes.CdlState) → Code.CdlStands (lent coefficients.old powers.old) sop sat st
+        → Goes Nodes.cdl_holder st s.now at e (Code.cdl_end result)
+        (λ x. IfOk result (λ r. Code.CdlStands (lent coefficients.new powers.new) r.sop r.sat x)) (Unit {0}) }
 {
     let w = tags::part(s, at + 1, e);
-    let k = cdl_fault(w, state.sop, state.sat);
+    let k = cdl_fault(w, sop, sat);
     if k != 0 {
-        return cdl_with(state, Scan::Fault(k, at));
+        return Err(Stop::Fault(k, at));
     }
-    cdl_body(s, e, w, state, coefficients, powers)
-}
-
-fn no_cdl(scan: Scan) -> CdlStep
-    ensures { result ≡ Code.none_found scan }
-{
-    CdlStep {
-        scan,
-        sop: false,
-        sat: false,
-    }
+    cdl_body(s, e, w, sop, sat, coefficients, powers)
 }
 
 // The content of an ASC_CDL, and its end tag. Its numbers go into a room of ten, where those of absent parts stand already.
-fn cdl_content(s: &[u8], at: usize, coefficients: &mut [i64], powers: &mut [i8]) -> CdlStep
+fn cdl_content(s: &[u8], at: usize, coefficients: &mut [i64], powers: &mut [i8]) -> Scan
     requires { small_numbers (lent coefficients.old powers.old) ≡ Code.absent_parts }
-    ensures { ReadsTo (held Nodes.cdl_holder Nodes.no_cdl).run s.now at result.scan (Code.CdlStands (lent coefficients.new powers.new) result) (Unit {0}) }
+    ensures { ReadsTo (held Nodes.cdl_holder Nodes.no_cdl).run s.now at result (Code.CdlNumbers (lent coefficients.new powers.new)) (Unit {0}) }
 {
-    let mut state = no_cdl(Scan::At(at));
+    let mut sop = false;
+    let mut sat = false;
     let mut i = at;
     loop {
-        let l = markup::next_tag(s, i);
-        match l {
+        match markup::next_tag(s, i)? {
             NextTag::Start(a, e) => {
-                state = cdl_child(s, a, e, state, coefficients, powers);
-                let r = state.scan;
-                let Scan::At(q) = r else {
-                    return state;
-                };
-                i = q;
+                let child = cdl_child(s, a, e, sop, sat, coefficients, powers)?;
+                i = child.end;
+                sop = child.sop;
+                sat = child.sat;
             }
-            NextTag::End(a) => {
-                let r = markup::end_tag(s, a, b"ASC_CDL", 0);
-                return cdl_with(state, r);
-            }
-            NextTag::Failed(a, r) => return cdl_with(state, r),
+            NextTag::End(a) => return markup::end_tag(s, a, b"ASC_CDL", 0),
         }
     }
 }
 
 // What follows the start tag of an ASC_CDL, which may be empty.
-fn cdl_followed(s: &[u8], end: TagEnd, coefficients: &mut [i64], powers: &mut [i8]) -> CdlStep
+fn cdl_followed(s: &[u8], end: TagEnd, coefficients: &mut [i64], powers: &mut [i8]) -> Scan
     requires { small_numbers (lent coefficients.old powers.old) ≡ Code.absent_parts }
     ensures { Code.Followed s.now end (lent coefficients.new powers.new) result }
 {
     match end {
         TagEnd::Open(q) => cdl_content(s, q, coefficients, powers),
-        TagEnd::Empty(q) => no_cdl(Scan::At(q)),
-        TagEnd::Fault(k, p) => no_cdl(Scan::Fault(k, p)),
-        TagEnd::Cut => no_cdl(Scan::Cut),
+        TagEnd::Empty(q) => Ok(q),
     }
 }
 
@@ -372,9 +307,32 @@ fn cdl_style(unclamped: bool) -> CdlStyle
     ensures { result ≡ cond unclamped FwdNoClamp Fwd }
 {
     if unclamped {
-        return CdlStyle::FwdNoClamp;
+        CdlStyle::FwdNoClamp
+    } else {
+        CdlStyle::Fwd
     }
-    CdlStyle::Fwd
+}
+
+// An ASC_CDL, behind its name, before the room is cleared where there is none.
+fn stored_cdl(
+    s: &[u8],
+    at: usize,
+    coefficients: &mut [i64],
+    powers: &mut [i8],
+    base: usize,
+) -> Result<NodeRead, Stop>
+    ensures { NodeStored (Nodes.asc_cdl).run s.now at base result (lent coefficients.old powers.old) (lent coefficients.new powers.new) }
+{
+    let tag = tags::start_tag(s, at, TagKind::Cdl)?;
+    let mut small: [i64; 10] = [1, 1, 1, 0, 0, 0, 1, 1, 1, 1];
+    let mut small_powers = [0i8; 10];
+    let end = cdl_followed(s, tag.end, &mut small, &mut small_powers)?;
+    node_parts::store_all(&small, &small_powers, coefficients, powers, base);
+    let style = cdl_style(node_parts::style_is(s, tag.attributes, b"FwdNoClamp"));
+    Ok(NodeRead {
+        end,
+        node: node_parts::finished(s, tag.attributes, Kind::Cdl { style }),
+    })
 }
 
 // An ASC_CDL, behind its name.
@@ -384,20 +342,9 @@ pub fn read_cdl(
     coefficients: &mut [i64],
     powers: &mut [i8],
     base: usize,
-) -> NodeStep
+) -> Result<NodeRead, Stop>
     ensures { NodeReads (Nodes.asc_cdl).run s.now at base result (lent coefficients.old powers.old) (lent coefficients.new powers.new) }
 {
-    let tag = tags::start_tag(s, at, TagKind::Cdl);
-    let end = tag.end;
-    let attributes = tag.attributes;
-    let mut small: [i64; 10] = [1, 1, 1, 0, 0, 0, 1, 1, 1, 1];
-    let mut small_powers = [0i8; 10];
-    let c = cdl_followed(s, end, &mut small, &mut small_powers);
-    let scan = c.scan;
-    let Scan::At(e) = scan else {
-        return node_parts::failed(scan, coefficients, powers, base);
-    };
-    node_parts::store_all(&small, &small_powers, coefficients, powers, base);
-    let style = cdl_style(node_parts::style_is(s, attributes, b"FwdNoClamp"));
-    node_parts::finished(s, attributes, scan, Kind::Cdl { style })
+    let read = stored_cdl(s, at, coefficients, powers, base);
+    node_parts::kept_or_cleared(read, coefficients, powers, base)
 }

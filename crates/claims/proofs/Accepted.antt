@@ -3,9 +3,8 @@ use mathlib.Core.Path.{◌≡◌, refl, subst}
 use mathlib.Core.Bool.{true}
 use mathlib.Core.List.{List, [], ◌∷◌}
 use Prim.Native.Nat.{ℕ}
-use Rattle.process_list.specs.declared.Verdict.{Verdict}
-use Rattle.process_list.specs.declared.Verdict.TheVariants.{Accepted, NoNode, TooManyNodes, DepthDiffers, IdSeen, TooManyNumbers}
-use Rattle.process_list.specs.List.{Element, verdict}
+use Rattle.std.proofs.Common.{Ok, Err}
+use Rattle.process_list.specs.List.{Verdict, Element, verdict}
 use Rattle.valid.specs.Valid.{sound}
 use Rattle.grammar.specs.Parse.{Out, done, fault, cut, Turn, again, last}
 use Rattle.grammar.specs.Laws.{nope}
@@ -103,21 +102,17 @@ nodes-sound (x ∷ l) h = with_part_lem x.0 (nodes_among l) h.0 (nodes-sound l h
 -- ---- reading
 
 -- a list that is accepted is the list that was judged
-pub judged-same : (room : ℕ) (m l : List Element) → list_reading room m ≡ accepted l → (m ≡ l) × (verdict room m ≡ Accepted)
+pub judged-same : (room : ℕ) (m l : List Element) → list_reading room m ≡ accepted l → (m ≡ l) × (verdict room m ≡ Ok tt)
 unfolding list_reading
 judged-same room m l e = go (verdict room m) refl e
   where
-    go : (v : Verdict) → verdict room m ≡ v → reading_by m v ≡ accepted l → (m ≡ l) × (verdict room m ≡ Accepted)
-    go Accepted q z = (cc, q)
-    go NoNode q z = nope cc
-    go TooManyNodes q z = nope cc
-    go (DepthDiffers k) q z = nope cc
-    go (IdSeen k) q z = nope cc
-    go TooManyNumbers q z = nope cc
+    go : (v : Verdict) → verdict room m ≡ v → reading_by m v ≡ accepted l → (m ≡ l) × (verdict room m ≡ Ok tt)
+    go (Ok u) q z = (cc, q)
+    go (Err why) q z = nope cc
 
 pub record Whole (room : ℕ) (l : List Element) : Type 0 where
   pub nodes : Each SoundNode l
-  pub fits : verdict room l ≡ Accepted
+  pub fits : verdict room l ≡ Ok tt
 
 pub text-whole : (room : ℕ) (s : List ℕ) (l : List Element) → read_text room s ≡ accepted l → Whole room l
 unfolding read_text
@@ -125,8 +120,8 @@ text-whole room s l e = by-document (document.run s) refl e
   where
     by-list : (m : List Element) → Each SoundNode m → list_reading room m ≡ accepted l → Whole room l
     by-list m h q =
-        let k : (m ≡ l) × (verdict room m ≡ Accepted) = judged-same room m l q in
-        record { nodes = subst (Each SoundNode) k.0 h; fits = subst (λ (x : List Element). verdict room x ≡ Accepted) k.0 k.1 }
+        let k : (m ≡ l) × (verdict room m ≡ Ok tt) = judged-same room m l q in
+        record { nodes = subst (Each SoundNode) k.0 h; fits = subst (λ (x : List Element). verdict room x ≡ Ok tt) k.0 k.1 }
 
     by-tail : (d : Document) → SoundItems d.parts → (o : Out (Unit {0})) → tail_reading room s d o ≡ accepted l → Whole room l
     by-tail d h (done u r) q = by-list (nodes_among d.parts) (nodes-sound d.parts h) q

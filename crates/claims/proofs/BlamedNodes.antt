@@ -8,8 +8,9 @@ use native.Mathlib.Omega.{arith}
 use lib.Dec.{eqb, leb, ltb}
 use lib.ListN.{length, set}
 use Rattle.decimal.specs.declared.Decimal.{Decimal}
-use Rattle.decimal.specs.declared.Token.{Token}
-use Rattle.decimal.specs.declared.Token.TheVariants.{Number, Malformed, OutOfBounds}
+use Rattle.decimal.specs.Decimal.{Token}
+use Rattle.std.specs.Prelude.{Ok, Err}
+use Rattle.decimal.specs.declared.NumberFault.TheVariants.{Malformed, OutOfBounds}
 use Rattle.decimal_read.specs.Number.{token_of}
 use Rattle.decimal_read.proofs.Told.{tells-apart}
 use Rattle.decimal_value.specs.Value.{not_negative, positive, is_one}
@@ -53,12 +54,12 @@ twenty_four = right 24 refl
 module _ (n : ℕ) (rule : Decimal → ℕ) (h : (d : Decimal) → Right (rule d)) (count : ℕ) (r : List ℕ) where
   -- a token w that stands where r begins, by what the number reader says of it
   token-textual : (w u : List ℕ) → token.run r ≡ done (tt, w) u → 1 ≤ length w → (t : Token) → token_of w ≡ t → (k : ℕ) → fault_of n rule count t ≡ suc k → Textual (suc k) r
-  token-textual w u q i (Number d) e k z = (fair-cond (leb n count) twenty_two (h d)).is k z r
-  token-textual w u q i Malformed e k z = subst (λ (m : ℕ). Textual m r) z (record {
+  token-textual w u q i (Ok d) e k z = (fair-cond (leb n count) twenty_two (h d)).is k z r
+  token-textual w u q i (Err Malformed) e k z = subst (λ (m : ℕ). Textual m r) z (record {
     known = refl;
     told = record { malformed = λ y. record { bytes = w; rest = u; stands = q; some = i; holds = (tells-apart w).malformed.0 e }; out_of_bounds = λ y. absurd (omega arith) };
   })
-  token-textual w u q i OutOfBounds e k z = by (leb n count) z
+  token-textual w u q i (Err OutOfBounds) e k z = by (leb n count) z
     where
       long : Textual 25 r
       long = record {

@@ -6,9 +6,9 @@ use mathlib.Core.List.{List, [], ◌∷◌}
 use Prim.Native.Nat.{ℕ, zero, suc, ◌-◌}
 use lib.Dec.{eqb, ltb}
 use lib.ListN.{length, set}
-use Rattle.process_list.specs.declared.Verdict.{Verdict}
-use Rattle.process_list.specs.declared.Verdict.TheVariants.{Accepted, NoNode, TooManyNodes, DepthDiffers, IdSeen, TooManyNumbers}
-use Rattle.process_list.specs.List.{Element, verdict}
+use Rattle.process_list.specs.declared.Unfit.TheVariants.{NoNode, TooManyNodes, DepthDiffers, IdSeen, TooManyNumbers}
+use Rattle.std.proofs.Common.{Ok, Err}
+use Rattle.process_list.specs.List.{Verdict, Element, verdict}
 use Rattle.valid.specs.Valid.{every, sound}
 use Rattle.valid.proofs.Readings.{every-cons, every_made}
 use Rattle.grammar.specs.Parse.{Out, done, fault, cut}
@@ -31,15 +31,11 @@ pub record Put (room : ℕ) (kept : List ℕ) (es : List Element) (c : Call) (ne
   pub value : Element
   pub parsed : element.run c.element ≡ done value []
   pub is : new ≡ set es (c.node - 1) value
-  pub fits : verdict room (set es (c.node - 1) value) ≡ Accepted
+  pub fits : verdict room (set es (c.node - 1) value) ≡ Ok tt
 
-verdict-put : (es : List Element) (v : Verdict) (new : List Element) → replacing_by es v ≡ replaced new → (new ≡ es) × (v ≡ Accepted)
-verdict-put es Accepted new e = (cc, refl)
-verdict-put es NoNode new e = nope cc
-verdict-put es TooManyNodes new e = nope cc
-verdict-put es (DepthDiffers k) new e = nope cc
-verdict-put es (IdSeen k) new e = nope cc
-verdict-put es TooManyNumbers new e = nope cc
+verdict-put : (es : List Element) (v : Verdict) (new : List Element) → replacing_by es v ≡ replaced new → (new ≡ es) × (v ≡ Ok tt)
+verdict-put es (Ok u) new e = (cc, refl)
+verdict-put es (Err why) new e = nope cc
 
 module _ (room : ℕ) (kept : List ℕ) (es : List Element) (c : Call) where
   abbrev tested : Bool → Bool → Bool → Replacing
@@ -117,12 +113,12 @@ abbrev pub is_call_fault : ℕ → Bool
 is_call_fault n = eqb n 28 || is_replace_fault n
 
 verdict-number : (es : List Element) (v : Verdict) (n p : ℕ) → replacing_by es v ≡ refused n p → is_replace_fault n ≡ true
-verdict-number es Accepted n p e = nope cc
-verdict-number es NoNode n p e = let q : 12 ≡ n = cc in rw (← q) refl
-verdict-number es TooManyNodes n p e = let q : 11 ≡ n = cc in rw (← q) refl
-verdict-number es (DepthDiffers k) n p e = let q : 10 ≡ n = cc in rw (← q) refl
-verdict-number es (IdSeen k) n p e = let q : 23 ≡ n = cc in rw (← q) refl
-verdict-number es TooManyNumbers n p e = let q : 13 ≡ n = cc in rw (← q) refl
+verdict-number es (Ok u) n p e = nope cc
+verdict-number es (Err NoNode) n p e = let q : 12 ≡ n = cc in rw (← q) refl
+verdict-number es (Err TooManyNodes) n p e = let q : 11 ≡ n = cc in rw (← q) refl
+verdict-number es (Err (DepthDiffers k)) n p e = let q : 10 ≡ n = cc in rw (← q) refl
+verdict-number es (Err (IdSeen k)) n p e = let q : 23 ≡ n = cc in rw (← q) refl
+verdict-number es (Err TooManyNumbers) n p e = let q : 13 ≡ n = cc in rw (← q) refl
 
 module _ (room : ℕ) (es : List Element) (k : ℕ) (e : List ℕ) (n p : ℕ) where
   element-number : (o : Out Element) → element.run e ≡ o → by_element room es k e o ≡ refused n p → is_replace_fault n ≡ true

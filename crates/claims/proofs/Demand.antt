@@ -7,9 +7,9 @@ use native.Mathlib.Omega.{arith}
 use lib.Dec.{eqb, leb, ltb}
 use lib.ListN.{length, set}
 use borrow.Author.Tests.{eqb-true, eqb-false, ltb-true, leb-true, le-ltb}
-use Rattle.process_list.specs.declared.Verdict.{Verdict}
-use Rattle.process_list.specs.declared.Verdict.TheVariants.{Accepted, NoNode, TooManyNodes, DepthDiffers, IdSeen, TooManyNumbers}
-use Rattle.process_list.specs.List.{Element, verdict}
+use Rattle.process_list.specs.declared.Unfit.TheVariants.{NoNode, TooManyNodes, DepthDiffers, IdSeen, TooManyNumbers}
+use Rattle.std.proofs.Common.{Ok, Err}
+use Rattle.process_list.specs.List.{Verdict, Element, verdict}
 use Rattle.grammar.specs.Parse.{Out, done, fault, cut}
 use Rattle.clf.specs.Places.{node_span}
 use Rattle.clf.specs.Reading.{Reading, accepted, faulty, unfit, most_bytes, place_in, is_numbered, list_reading, read_text, read}
@@ -37,12 +37,12 @@ module _ (room : ℕ) (s : List ℕ) (l : List Element) (old : read_text room s 
   -- the list with the new node, judged
   by-verdict : (at : ℕ) (t : List ℕ) (m : List Element) (v : Verdict) → read_text room t ≡ R.reading_by m v
       → Agree room (answered_by at s t (R.reading_by m v)) (replacing_by m v, list_after l (replacing_by m v))
-  by-verdict at t m Accepted q = record { answer = refl; l = m; reads = q; same = refl }
-  by-verdict at t m NoNode q = stays (refused 12 0) 12 0 refl
-  by-verdict at t m TooManyNodes q = stays (refused 11 33) 11 33 refl
-  by-verdict at t m (DepthDiffers k) q = stays (refused 10 k) 10 k refl
-  by-verdict at t m (IdSeen k) q = stays (refused 23 k) 23 k refl
-  by-verdict at t m TooManyNumbers q = stays (refused 13 0) 13 0 refl
+  by-verdict at t m (Ok u) q = record { answer = refl; l = m; reads = q; same = refl }
+  by-verdict at t m (Err NoNode) q = stays (refused 12 0) 12 0 refl
+  by-verdict at t m (Err TooManyNodes) q = stays (refused 11 33) 11 33 refl
+  by-verdict at t m (Err (DepthDiffers k)) q = stays (refused 10 k) 10 k refl
+  by-verdict at t m (Err (IdSeen k)) q = stays (refused 23 k) 23 k refl
+  by-verdict at t m (Err TooManyNumbers) q = stays (refused 13 0) 13 0 refl
 
   by-list : (at : ℕ) (t : List ℕ) (m : List Element) → read_text room t ≡ list_reading room m
       → Agree room (answered_by at s t (read_text room t)) (listed room m, list_after l (listed room m))
@@ -114,12 +114,8 @@ module _ (room : ℕ) (s : List ℕ) (l : List Element) (old : read_text room s 
   list-in at m = go (verdict room m)
     where
       go : (v : Verdict) → NotBefore at (R.reading_by m v)
-      go Accepted = tt
-      go NoNode = tt
-      go TooManyNodes = tt
-      go (DepthDiffers k) = tt
-      go (IdSeen k) = tt
-      go TooManyNumbers = tt
+      go (Ok u) = tt
+      go (Err why) = tt
 
   module _ (k : ℕ) (e : List ℕ) (there : k - 1 < length l) where
     fault-in : (j : ℕ) (r : List ℕ) → element.run e ≡ fault j r → (v : Bool) → eqb j 20 ≡ v

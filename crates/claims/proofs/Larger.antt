@@ -5,9 +5,9 @@ use mathlib.Core.List.{List, [], ◌∷◌, map}
 use Prim.Native.Nat.{ℕ, ◌-◌, min}
 use lib.Dec.{ltb}
 use lib.ListN.{length, set}
-use Rattle.process_list.specs.declared.Verdict.{Verdict}
-use Rattle.process_list.specs.declared.Verdict.TheVariants.{Accepted, NoNode, TooManyNodes, DepthDiffers, IdSeen, TooManyNumbers}
-use Rattle.process_list.specs.List.{Element, most_numbers, node_of, total, judged, verdict}
+use Rattle.process_list.specs.declared.Unfit.TheVariants.{TooManyNumbers}
+use Rattle.std.proofs.Common.{Ok, Err}
+use Rattle.process_list.specs.List.{Verdict, Element, most_numbers, node_of, total, judged, verdict}
 use Rattle.process_list.proofs.RoomLast.{in_room, room-last}
 use Rattle.grammar.specs.Parse.{Out, done, fault, cut}
 use Rattle.clf.specs.Reading.{most_bytes, is_numbered}
@@ -28,17 +28,13 @@ listed-last : (room : ℕ) (es : List Element) → listed room es ≡ replace_as
 unfolding listed verdict
 listed-last room es = ap (Replacing.replacing_by es) (room-last room (map node_of es)) ∙ go (judged most_numbers (map node_of es))
   where
-    by : (b : Bool) → Replacing.replacing_by es (cond b TooManyNumbers Accepted) ≡ cond b (refused 13 0) (replaced es)
+    by : (b : Bool) → Replacing.replacing_by es (cond b (Err TooManyNumbers) (Ok tt)) ≡ cond b (refused 13 0) (replaced es)
     by true = refl
     by false = refl
 
     go : (v : Verdict) → Replacing.replacing_by es (in_room room (counted es) v) ≡ replace_as room (Replacing.replacing_by es v)
-    go Accepted = by (ltb (min room most_numbers) (counted es))
-    go NoNode = refl
-    go TooManyNodes = refl
-    go (DepthDiffers k) = refl
-    go (IdSeen k) = refl
-    go TooManyNumbers = refl
+    go (Ok u) = by (ltb (min room most_numbers) (counted es))
+    go (Err why) = refl
 
 -- 13 COMES LAST, of replacing
 pub replace-last : (room : ℕ) (es : List Element) (k : ℕ) (e : List ℕ) → replace room es k e ≡ replace_as room (replace most_numbers es k e)

@@ -8,8 +8,9 @@ use lib.Dec.{eqb, leb, ltb}
 use lib.ListN.{length, length-append}
 use borrow.Author.Tests.{leb-false, ltb-false}
 use Rattle.decimal.specs.declared.Decimal.{Decimal}
-use Rattle.decimal.specs.declared.Token.{Token}
-use Rattle.decimal.specs.declared.Token.TheVariants.{Number, Malformed, OutOfBounds}
+use Rattle.decimal.specs.Decimal.{Token}
+use Rattle.std.specs.Prelude.{Ok, Err}
+use Rattle.decimal.specs.declared.NumberFault.TheVariants.{Malformed, OutOfBounds}
 use Rattle.decimal.specs.Decimal.{in_range}
 use Rattle.decimal_read.specs.Number.{token_of}
 use Rattle.decimal_write.specs.Written.{is_normal}
@@ -65,13 +66,13 @@ pub record Kept (rule : Decimal → ℕ) (d : Decimal) : Type 0 where
 
 -- a token that is not at fault, after `count` numbers of n
 token-kept : (n : ℕ) (rule : Decimal → ℕ) (count : ℕ) (l : List ℕ) (t : Token) → token_of l ≡ t → fault_of n rule count t ≡ 0 → (count < n) × Kept rule (said_by t)
-token-kept n rule count l Malformed e q = absurd (omega arith)
-token-kept n rule count l OutOfBounds e q = absurd (go (leb n count) q)
+token-kept n rule count l (Err Malformed) e q = absurd (omega arith)
+token-kept n rule count l (Err OutOfBounds) e q = absurd (go (leb n count) q)
   where
     go : (v : Bool) → ◌≡◌ {A = ℕ} (cond v 22 25) 0 → ⊥
     go true z = omega arith
     go false z = omega arith
-token-kept n rule count l (Number d) e q = go (leb n count) refl q
+token-kept n rule count l (Ok d) e q = go (leb n count) refl q
   where
     go : (v : Bool) → leb n count ≡ v → cond v 22 (rule d) ≡ 0 → (count < n) × Kept rule d
     go true f z = absurd (omega arith)

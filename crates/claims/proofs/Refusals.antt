@@ -8,9 +8,9 @@ use native.Mathlib.Omega.{arith}
 use lib.Dec.{eqb, ltb}
 use lib.ListN.{length}
 use borrow.Author.Tests.{ltb-true}
-use Rattle.process_list.specs.declared.Verdict.{Verdict}
-use Rattle.process_list.specs.declared.Verdict.TheVariants.{Accepted, NoNode, TooManyNodes, DepthDiffers, IdSeen, TooManyNumbers}
-use Rattle.process_list.specs.List.{Element, verdict}
+use Rattle.process_list.specs.declared.Unfit.TheVariants.{NoNode, TooManyNodes, DepthDiffers, IdSeen, TooManyNumbers}
+use Rattle.std.proofs.Common.{Ok, Err}
+use Rattle.process_list.specs.List.{Verdict, Element, verdict}
 use Rattle.grammar.specs.Parse.{Out, done, fault, cut, then_out, judged_to as judgement, judge_out, turn_out, loop_p}
 use Rattle.grammar.specs.Laws.{nope, loop-step}
 use Rattle.grammar.specs.Grammar.{bad, added}
@@ -112,12 +112,12 @@ tail-well s k r e = tail_all (suc (length s)) s k r (omega arith) e
 -- ---- reading
 
 by-verdict : (n : ℕ) (l : List Element) (v : Verdict) → Answered n (reading_by l v)
-by-verdict n l Accepted = whole l
-by-verdict n l NoNode = list 12 0 refl
-by-verdict n l TooManyNodes = list 11 33 refl
-by-verdict n l (DepthDiffers k) = list 10 k refl
-by-verdict n l (IdSeen k) = list 23 k refl
-by-verdict n l TooManyNumbers = list 13 0 refl
+by-verdict n l (Ok u) = whole l
+by-verdict n l (Err NoNode) = list 12 0 refl
+by-verdict n l (Err TooManyNodes) = list 11 33 refl
+by-verdict n l (Err (DepthDiffers k)) = list 10 k refl
+by-verdict n l (Err (IdSeen k)) = list 23 k refl
+by-verdict n l (Err TooManyNumbers) = list 13 0 refl
 
 by-list : (n room : ℕ) (l : List Element) → Answered n (list_reading room l)
 unfolding list_reading

@@ -7,7 +7,7 @@ use native.Mathlib.Omega.{arith}
 use borrow.Author.Tests.{ltb-false}
 use lib.Dec.{ltb}
 use lib.ListN.{length}
-use Rattle.process_list.specs.declared.Verdict.TheVariants.{Accepted}
+use Rattle.std.proofs.Common.{Ok}
 use Rattle.process_list.specs.List.{Element, node_of, verdict}
 use Rattle.process_list.proofs.Lists.{heads-length, Fine, accepted-fine}
 use Rattle.room.specs.Room.{room_length}
@@ -37,7 +37,7 @@ read_short room s l e = go (ltb most_bytes (length s)) refl e
 -- the elements of an accepted list
 pub record WholeElements (room : ℕ) (es : List Element) : Type 0 where
   pub sounds : every sound es ≡ true
-  pub fits : verdict room es ≡ Accepted
+  pub fits : verdict room es ≡ Ok tt
 
 pub text-elements : (room : ℕ) (s : List ℕ) (l : List Element) → read_text room s ≡ accepted l → WholeElements room l
 text-elements room s l e =

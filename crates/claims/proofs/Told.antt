@@ -8,9 +8,9 @@ use native.Mathlib.Omega.{arith}
 use lib.Dec.{eqb, ltb}
 use lib.ListN.{length, drop, set, length-append}
 use lib.Seq.{drop-append_seam}
-use Rattle.process_list.specs.declared.Verdict.{Verdict}
-use Rattle.process_list.specs.declared.Verdict.TheVariants.{Accepted, NoNode, TooManyNodes, DepthDiffers, IdSeen, TooManyNumbers}
-use Rattle.process_list.specs.List.{Element, verdict}
+use Rattle.process_list.specs.declared.Unfit.TheVariants.{NoNode, TooManyNodes, DepthDiffers, IdSeen, TooManyNumbers}
+use Rattle.std.proofs.Common.{Ok, Err}
+use Rattle.process_list.specs.List.{Verdict, Element, verdict}
 use Rattle.grammar.specs.Parse.{Out, done, fault, cut}
 use Rattle.grammar.specs.Laws.{nope, StrongPrefix, cuts, faults, dones, follows-refl}
 use Rattle.grammar.specs.Grammar.{G}
@@ -56,12 +56,8 @@ same-faulty s j i k p e t =
 
 -- a finished list is judged by other numbers
 list-no-fault : (l : List Element) (v : Verdict) (k p : ℕ) → reading_by l v ≡ faulty k p → ⊥
-list-no-fault l Accepted k p e = nope cc
-list-no-fault l NoNode k p e = nope cc
-list-no-fault l TooManyNodes k p e = nope cc
-list-no-fault l (DepthDiffers n) k p e = nope cc
-list-no-fault l (IdSeen n) k p e = nope cc
-list-no-fault l TooManyNumbers k p e = nope cc
+list-no-fault l (Ok u) k p e = nope cc
+list-no-fault l (Err why) k p e = nope cc
 
 sound-list : (room : ℕ) (l : List Element) (k p : ℕ) → list_reading room l ≡ faulty k p → ⊥
 unfolding list_reading
@@ -125,12 +121,12 @@ module _ (e : List ℕ) (n p : ℕ) where
   other-refused j i z a b h = same-refused j i z (elsewhere (eqb j) a b j h (drop i e))
 
   by-verdict : (es : List Element) (v : Verdict) → replacing_by es v ≡ refused n p → ToldApart n (drop p e)
-  by-verdict es Accepted z = nope cc
-  by-verdict es NoNode z = other-refused 12 0 z refl refl refl
-  by-verdict es TooManyNodes z = other-refused 11 33 z refl refl refl
-  by-verdict es (DepthDiffers i) z = other-refused 10 i z refl refl refl
-  by-verdict es (IdSeen i) z = other-refused 23 i z refl refl refl
-  by-verdict es TooManyNumbers z = other-refused 13 0 z refl refl refl
+  by-verdict es (Ok u) z = nope cc
+  by-verdict es (Err NoNode) z = other-refused 12 0 z refl refl refl
+  by-verdict es (Err TooManyNodes) z = other-refused 11 33 z refl refl refl
+  by-verdict es (Err (DepthDiffers i)) z = other-refused 10 i z refl refl refl
+  by-verdict es (Err (IdSeen i)) z = other-refused 23 i z refl refl refl
+  by-verdict es (Err TooManyNumbers) z = other-refused 13 0 z refl refl refl
 
   by-element : (room : ℕ) (es : List Element) (k : ℕ) (o : Out Element) → element.run e ≡ o → by_element room es k e o ≡ refused n p → ToldApart n (drop p e)
   unfolding listed

@@ -7,9 +7,9 @@ use native.Mathlib.Omega.{arith}
 use lib.Dec.{ltb}
 use lib.ListN.{length}
 use borrow.Author.Tests.{lt-ltb, le-ltb, ltb-false}
-use Rattle.process_list.specs.declared.Verdict.{Verdict}
-use Rattle.process_list.specs.declared.Verdict.TheVariants.{Accepted, NoNode, TooManyNodes, DepthDiffers, IdSeen, TooManyNumbers}
-use Rattle.process_list.specs.List.{Element, node_of, total, judged, verdict, most_numbers}
+use Rattle.process_list.specs.declared.Unfit.TheVariants.{TooManyNumbers}
+use Rattle.std.proofs.Common.{Ok, Err}
+use Rattle.process_list.specs.List.{Verdict, Element, node_of, total, judged, verdict, most_numbers}
 use Rattle.process_list.proofs.RoomLast.{in_room, room-last}
 use Rattle.grammar.specs.Parse.{Out, done, fault, cut}
 use Rattle.grammar.specs.Laws.{nope}
@@ -27,16 +27,12 @@ read_in room (faulty k p) = faulty k p
 read_in room (unfit k p) = unfit k p
 
 by-verdict : (room : ℕ) (l : List Element) (v : Verdict) → reading_by l (in_room room (number_count l) v) ≡ read_in room (reading_by l v)
-by-verdict room l Accepted = by (ltb (min room most_numbers) (number_count l))
+by-verdict room l (Ok u) = by (ltb (min room most_numbers) (number_count l))
   where
-    by : (t : Bool) → reading_by l (cond t TooManyNumbers Accepted) ≡ cond t (unfit 13 0) (accepted l)
+    by : (t : Bool) → reading_by l (cond t (Err TooManyNumbers) (Ok tt)) ≡ cond t (unfit 13 0) (accepted l)
     by true = refl
     by false = refl
-by-verdict room l NoNode = refl
-by-verdict room l TooManyNodes = refl
-by-verdict room l (DepthDiffers k) = refl
-by-verdict room l (IdSeen k) = refl
-by-verdict room l TooManyNumbers = refl
+by-verdict room l (Err why) = refl
 
 list-in : (room : ℕ) (l : List Element) → list_reading room l ≡ read_in room (list_reading most_numbers l)
 unfolding list_reading verdict

@@ -1,8 +1,9 @@
 -- The numbers of value elements and Arrays (document 01, The file we carry, Numbers, Refusal numbers 9, 22, 21, 7; document 02, W-204, 25).
 use Rattle.std.specs.Prelude.{Bool, cond, ◌||◌, List, [], ◌∷◌, ◌++◌, ℕ, eqb, leb, ltb, length}
 use Rattle.decimal.specs.declared.Decimal.{Decimal}
-use Rattle.decimal.specs.declared.Token.{Token}
-use Rattle.decimal.specs.declared.Token.TheVariants.{Number, Malformed, OutOfBounds}
+use Rattle.decimal.specs.Decimal.{Token}
+use Rattle.std.specs.Prelude.{Ok, Err}
+use Rattle.decimal.specs.declared.NumberFault.TheVariants.{Malformed, OutOfBounds}
 use Rattle.decimal.specs.Decimal as Decimals
 use Rattle.decimal_read.specs.Number.{token_of}
 use Rattle.decimal_value.specs.Value.{not_negative, positive, is_one}
@@ -22,16 +23,16 @@ token = text ends_token
 
 -- the number that a token says. One that says none is at fault (`fault_of`), so that the zero is never taken
 abbrev pub said_by : Token → Decimal
-said_by (Number d) = d
-said_by Malformed = Decimals.zero
-said_by OutOfBounds = Decimals.zero
+said_by (Ok d) = d
+said_by (Err Malformed) = Decimals.zero
+said_by (Err OutOfBounds) = Decimals.zero
 
 -- what a token is at fault of, after so many numbers of n. 9 if it is no number, whatever else it breaks. 22 if it is of the right form and one too many: the rules are on the numbers that the element
 -- asks for, and of 22 and 25 at one place the lowest is given. 25 if it is one of these and out of bounds (02, W-204), whatever the rule. Else what the rule says of the number
 abbrev pub fault_of : ℕ → (Decimal → ℕ) → ℕ → Token → ℕ
-fault_of n rule count (Number d) = cond (leb n count) Refusal.wrong_count (rule d)
-fault_of n rule count Malformed = Refusal.no_number
-fault_of n rule count OutOfBounds = cond (leb n count) Refusal.wrong_count Refusal.out_of_bounds
+fault_of n rule count (Ok d) = cond (leb n count) Refusal.wrong_count (rule d)
+fault_of n rule count (Err Malformed) = Refusal.no_number
+fault_of n rule count (Err OutOfBounds) = cond (leb n count) Refusal.wrong_count Refusal.out_of_bounds
 
 -- 'A token is judged at its end', and placed at its first byte; at the end tag too few numbers are 22
 abbrev pub number_byte : List ℕ → ℕ → (Decimal → ℕ) → List Decimal → ℕ → G (Turn (List Decimal) (List Decimal))

@@ -1,7 +1,6 @@
 -- Reading a file (document 01, Refusal numbers): 4 first; then the fault with the smallest place; then, only over text without fault, 12, 11, 10, 23 (document 02, W-203), 13.
 use Rattle.std.specs.Prelude.{Bool, cond, ◌&&◌, List, [], ◌∷◌, ℕ, ◌-◌, ltb, leb, length}
-use Rattle.process_list.specs.declared.Verdict.{Verdict}
-use Rattle.process_list.specs.List.{Element, verdict, by_verdict, most_numbers}
+use Rattle.process_list.specs.List.{Verdict, Element, verdict, by_verdict, most_numbers}
 use Rattle.grammar.specs.Parse.{Out, done, fault, cut}
 use Rattle.xml.specs.Elements.{Part, misc, child, close}
 use Rattle.clf.specs.List.{Child, node, description, input_descriptor, output_descriptor, info_child, Document, document, tail}

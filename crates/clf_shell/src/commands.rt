@@ -6,7 +6,6 @@ use process_list::ProcessList;
 use reading::Answer;
 use shell_text::Command;
 use shell_text::commands::command;
-use shell_text::lines::least;
 use std::io;
 use tags::part;
 
@@ -48,8 +47,8 @@ fn read_file(
     coefficients: &mut [i64],
     powers: &mut [i8],
 ) -> io::Result<State> {
-    let n = least(room, powers.len());
-    let answer = reading::read(file, coefficients, &mut powers[0..n]);
+    let n = room.min(powers.len());
+    let answer = reading::read(file, coefficients, &mut powers[..n]);
     print_answer(rt, answer, room, coefficients, powers)
 }
 
@@ -63,8 +62,8 @@ fn replace_by(
     powers: &mut [i8],
 ) -> io::Result<State> {
     let room = state.room;
-    let n = least(room, powers.len());
-    let answer = replacing::replace(state.list, coefficients, &mut powers[0..n], k, element);
+    let n = room.min(powers.len());
+    let answer = replacing::replace(state.list, coefficients, &mut powers[..n], k, element);
     print_answer(rt, answer, room, coefficients, powers)
 }
 
@@ -80,8 +79,8 @@ fn replace_numbered_by(
 ) -> io::Result<State> {
     let list = state.list;
     let room = state.room;
-    let n = least(room, powers.len());
-    let lent = &mut powers[0..n];
+    let n = room.min(powers.len());
+    let lent = &mut powers[..n];
     let answer = replacing::replace_numbered(list, coefficients, lent, k, number, element);
     print_answer(rt, answer, room, coefficients, powers)
 }
@@ -109,8 +108,7 @@ fn description(rt: &impl Print, file: &[u8], k: usize) -> io::Result<()> {
 // `K HEX`: the check program's line.
 fn check_line(rt: &impl Print, input: &[u8]) -> io::Result<()> {
     let text = check_line::check_line(input);
-    let bytes = text.bytes;
-    flush(rt, &bytes, text.length)
+    flush(rt, &text.bytes, text.length)
 }
 
 // Answers a command that changes no state.
@@ -123,10 +121,9 @@ fn answer_alone(
     powers: &[i8],
 ) -> io::Result<()> {
     let bytes = part(line, c.start, c.end);
-    let n = least(state.room, powers.len());
-    let room = &powers[0..n];
-    let letter = c.letter;
-    match letter {
+    let n = state.room.min(powers.len());
+    let room = &powers[..n];
+    match c.letter {
         b'C' => check(rt, bytes),
         b'D' => description(rt, bytes, c.number),
         b'K' => check_line(rt, bytes),
@@ -144,11 +141,13 @@ pub fn answer(
     coefficients: &mut [i64],
     powers: &mut [i8],
 ) -> io::Result<State> {
-    let c = command(line);
+    let Some(c) = command(line) else {
+        unknown(rt)?;
+        return Ok(state);
+    };
     let number = c.number;
     let bytes = part(line, c.start, c.end);
-    let letter = c.letter;
-    match letter {
+    match c.letter {
         b'R' => read_file(rt, bytes, number, coefficients, powers),
         b'P' => replace_by(rt, bytes, number, state, coefficients, powers),
         b'N' => replace_numbered_by(rt, bytes, number, c.feed, state, coefficients, powers),

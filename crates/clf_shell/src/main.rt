@@ -10,28 +10,23 @@ mod show;
 mod writes;
 
 use commands::State;
-use shell_text::lines::{least, line_end};
+use shell_text::lines::line_end;
 use std::io;
 use std::io::Read;
 use tags::part;
 
-// A line of the input: it stands in the buffer from `start` up to `stop`, or is dropped since it was too long; `some` is false where there is
-// none, at the end of the input. The next line starts at `next`, and the buffer holds the bytes before `end`.
-#[derive(Clone, Copy)]
-struct Line {
-    start: usize,
-    stop: usize,
-    next: usize,
-    end: usize,
-    dropped: bool,
-    some: bool,
+// A line of the input: it stands in the buffer from `start` up to `stop`, or was dropped since it is too long.
+#[derive(Clone, Copy, Debug, PartialEq, Eq)]
+enum Line {
+    Kept { start: usize, stop: usize },
+    TooLong,
 }
 
-// The beginning of a line: how many bytes of it stand at the start of the buffer, and whether it is too long and its bytes are dropped.
-#[derive(Clone, Copy)]
-struct Kept {
-    held: usize,
-    dropped: bool,
+// How far the input is read: the next line starts in the buffer at `next`, and the buffer holds the bytes before `end`.
+#[derive(Clone, Copy, Debug, PartialEq, Eq)]
+struct Progress {
+    next: usize,
+    end: usize,
 }
 
 // One read behind the bytes that are held: how many bytes the buffer holds then.
@@ -43,88 +38,71 @@ fn read_more(input: &mut impl Read, buffer: &mut [u8], held: usize) -> io::Resul
     Ok(held)
 }
 
-// Moves the bytes from `start` up to `end` to the start of the buffer, and answers how many they are.
-fn keep(buffer: &mut [u8], start: usize, end: usize) -> usize {
-    if start == 0 {
-        return end;
+// Moves the beginning of a line, which stands from `start` up to `end`, to the start of the buffer, and answers how many bytes it has. A line
+// that fills the buffer is too long: of that one none is kept.
+fn unfinished(buffer: &mut [u8], start: usize, end: usize) -> Option<usize> {
+    let end = end.min(buffer.len());
+    if end <= start {
+        return Some(0);
     }
-    let mut i = start;
-    let mut kept = 0;
-    while i < end {
-        if buffer.len() <= i {
-            return kept;
-        }
-        buffer[kept] = buffer[i];
-        kept += 1;
-        i += 1;
+    let held = end - start;
+    if held == buffer.len() {
+        return None;
     }
-    kept
+    if 0 < start {
+        buffer.copy_within(start..end, 0);
+    }
+    Some(held)
 }
 
-// Keeps the beginning of a line, which stands from `start` up to `end`: a line that fills the buffer is too long, and so are its later bytes.
-fn unfinished(buffer: &mut [u8], start: usize, end: usize, dropped: bool) -> Kept {
+// The line of these bytes, unless it is dropped.
+fn line_of(start: usize, stop: usize, dropped: bool) -> Line {
     if dropped {
-        return Kept {
-            held: 0,
-            dropped: true,
-        };
+        return Line::TooLong;
     }
-    let held = keep(buffer, start, end);
-    if buffer.len() <= held {
-        return Kept {
-            held: 0,
-            dropped: true,
-        };
-    }
-    Kept {
-        held,
-        dropped: false,
-    }
+    Line::Kept { start, stop }
 }
 
-// A line that is not ended by a line feed, at the end of the input.
-fn last_line(held: usize, dropped: bool) -> Line {
-    Line {
-        start: 0,
-        stop: held,
-        next: held,
-        end: held,
-        dropped,
-        some: dropped || 0 < held,
+// A line that is not ended by a line feed, at the end of the input: none where there is no byte of it.
+fn last_line(held: usize, dropped: bool) -> Option<Line> {
+    if dropped || 0 < held {
+        return Some(line_of(0, held, dropped));
     }
+    None
 }
 
-// The line behind this one, read as far as its line feed. A proved loop has to end, and nothing says that the input does. So this loop and
-// that of `serve` have a number of turns that no run uses up.
-fn next_line(input: &mut impl Read, buffer: &mut [u8], line: Line) -> io::Result<Line> {
-    let mut start = line.next;
-    let mut seen = line.next;
-    let mut end = line.end;
+// The next line, read as far as its line feed; none at the end of the input. A proved loop has to end, and nothing says that the input does. So this
+// loop and that of `serve` have a number of turns that no run uses up.
+fn next_line(
+    input: &mut impl Read,
+    buffer: &mut [u8],
+    read: &mut Progress,
+) -> io::Result<Option<Line>> {
+    let mut start = read.next;
+    let mut seen = read.next;
     let mut dropped = false;
     for _ in 0..u64::MAX {
-        let limit = least(end, buffer.len());
+        let limit = read.end.min(buffer.len());
         let stop = line_end(part(buffer, 0, limit), seen);
         if stop < limit {
-            return Ok(Line {
-                start,
-                stop,
-                next: stop + 1,
-                end,
-                dropped,
-                some: true,
-            });
+            read.next = stop + 1;
+            return Ok(Some(line_of(start, stop, dropped)));
         }
-        let kept = unfinished(buffer, start, end, dropped);
-        let held = kept.held;
-        dropped = kept.dropped;
+        let mut held = 0;
+        if !dropped {
+            let kept = unfinished(buffer, start, read.end);
+            dropped = kept.is_none();
+            held = kept.unwrap_or(0);
+        }
         start = 0;
         seen = held;
-        end = read_more(input, buffer, held)?;
-        if end <= held {
+        read.end = read_more(input, buffer, held)?;
+        if read.end <= held {
+            read.next = held;
             return Ok(last_line(held, dropped));
         }
     }
-    Ok(last_line(0, false))
+    Ok(None)
 }
 
 // Answers a line.
@@ -136,19 +114,18 @@ fn answered(
     coefficients: &mut [i64],
     powers: &mut [i8],
 ) -> io::Result<State> {
-    if line.dropped {
-        rt.write_all(b"too long\n")?;
-        return Ok(state);
+    match line {
+        Line::TooLong => {
+            rt.write_all(b"too long\n")?;
+            Ok(state)
+        }
+        Line::Kept { start, stop } => {
+            if let Some(bytes) = buffer.get_mut(start..stop) {
+                return commands::answer(rt, bytes, state, coefficients, powers);
+            }
+            Ok(state)
+        }
     }
-    let start = line.start;
-    let stop = line.stop;
-    if stop < start {
-        return Ok(state);
-    }
-    if buffer.len() < stop {
-        return Ok(state);
-    }
-    commands::answer(rt, &mut buffer[start..stop], state, coefficients, powers)
 }
 
 fn serve(
@@ -162,12 +139,11 @@ fn serve(
         list: process_list::empty(),
         room: 0,
     };
-    let mut line = last_line(0, false);
+    let mut read = Progress { next: 0, end: 0 };
     for _ in 0..u64::MAX {
-        line = next_line(input, buffer, line)?;
-        if !line.some {
+        let Some(line) = next_line(input, buffer, &mut read)? else {
             return Ok(());
-        }
+        };
         state = answered(rt, buffer, line, state, coefficients, powers)?;
     }
     Ok(())

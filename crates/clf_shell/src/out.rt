@@ -23,10 +23,8 @@ pub fn put_byte(rt: &impl Print, buffer: &mut [u8], at: usize, b: u8) -> io::Res
 
 pub fn put(rt: &impl Print, buffer: &mut [u8], at: usize, text: &[u8]) -> io::Result<usize> {
     let mut held = at;
-    let mut i = 0;
-    while i < text.len() {
-        held = put_byte(rt, buffer, held, text[i])?;
-        i += 1;
+    for b in text {
+        held = put_byte(rt, buffer, held, *b)?;
     }
     Ok(held)
 }
@@ -44,16 +42,12 @@ pub fn put_piece(
 
 // Bytes in hex, `-` for none.
 pub fn put_hex(rt: &impl Print, buffer: &mut [u8], at: usize, bytes: &[u8]) -> io::Result<usize> {
-    if bytes.len() == 0 {
+    if bytes.is_empty() {
         return put_byte(rt, buffer, at, b'-');
     }
     let mut held = at;
-    let mut i = 0;
-    while i < bytes.len() {
-        let b = bytes[i];
-        let pair = hex_pair(b);
-        held = put(rt, buffer, held, &pair)?;
-        i += 1;
+    for b in bytes {
+        held = put(rt, buffer, held, &hex_pair(*b))?;
     }
     Ok(held)
 }

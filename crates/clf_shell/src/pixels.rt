@@ -1,46 +1,30 @@
 // Pixels through the list: `X WORD WORD ..`, each word the 16 hex digits of an f64's bits.
 use crate::out::{flush, put_answer, put_byte, put_piece};
 use process_list::ProcessList;
-use shell_text::Word;
 use shell_text::words::{bits, number};
 use std::io;
 use tags::part;
 
-// What the words of a line are: so many numbers, which stand in the room; one of them is malformed; or they are more than the room has.
-#[derive(Clone, Copy)]
-enum WordsRead {
-    Numbers(usize),
+// Why the words of a line are no numbers for the room: one of them is malformed, or they are more than the room has.
+#[derive(Clone, Copy, Debug, PartialEq, Eq)]
+enum WordsFault {
     Malformed,
     TooMany,
 }
 
-// The numbers of the words of a line, from behind its first byte.
-fn words(line: &[u8], room: &mut [f64]) -> WordsRead {
-    let mut at = 1;
+// The numbers of the words of a line, from behind its first byte, into the room: how many they are.
+fn words(line: &[u8], room: &mut [f64]) -> Result<usize, WordsFault> {
     let mut count = 0;
-    while at < line.len() {
-        let field = fields::next_field(line, at);
-        let start = field.start;
-        let end = field.end;
-        if end <= start {
-            return WordsRead::Numbers(count);
+    let fields = part(line, 1, line.len()).split(|b| *b == b' ');
+    for word in fields.filter(|w| !w.is_empty()) {
+        let n = bits(word).ok_or(WordsFault::Malformed)?;
+        if room.len() <= count {
+            return Err(WordsFault::TooMany);
         }
-        if end <= at {
-            return WordsRead::Numbers(count);
-        }
-        let word = bits(part(line, start, end));
-        if let Word::Bits(n) = word {
-            if room.len() <= count {
-                return WordsRead::TooMany;
-            }
-            room[count] = number(n);
-            count += 1;
-            at = end;
-        } else {
-            return WordsRead::Malformed;
-        }
+        room[count] = number(n);
+        count += 1;
     }
-    WordsRead::Numbers(count)
+    Ok(count)
 }
 
 // The word of a number, a space before it.
@@ -53,10 +37,8 @@ fn put_float(rt: &impl Print, buffer: &mut [u8], at: usize, x: f64) -> io::Resul
 // The words of the numbers.
 fn put_floats(rt: &impl Print, buffer: &mut [u8], at: usize, xs: &[f64]) -> io::Result<usize> {
     let mut held = at;
-    let mut i = 0;
-    while i < xs.len() {
-        held = put_float(rt, buffer, held, xs[i])?;
-        i += 1;
+    for x in xs {
+        held = put_float(rt, buffer, held, *x)?;
     }
     Ok(held)
 }
@@ -80,18 +62,18 @@ fn run_pixels(
 // Runs the pixels of a line whose words were read into the room.
 fn run_words(
     rt: &impl Print,
-    read: WordsRead,
+    read: Result<usize, WordsFault>,
     list: ProcessList,
     coefficients: &[i64],
     powers: &[i8],
     room: &mut [f64],
 ) -> io::Result<()> {
     match read {
-        WordsRead::Malformed => rt.write_all(b"?\n"),
-        WordsRead::TooMany => rt.write_all(b"too long\n"),
-        WordsRead::Numbers(n) => {
+        Err(WordsFault::Malformed) => rt.write_all(b"?\n"),
+        Err(WordsFault::TooMany) => rt.write_all(b"too long\n"),
+        Ok(n) => {
             if n <= room.len() {
-                return run_pixels(rt, list, coefficients, powers, &mut room[0..n]);
+                return run_pixels(rt, list, coefficients, powers, &mut room[..n]);
             }
             Ok(())
         }

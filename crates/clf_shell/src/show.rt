@@ -15,12 +15,9 @@ fn put_nodes(
     at: usize,
     list: ProcessList,
 ) -> io::Result<usize> {
-    let count = list.count;
     let mut held = at;
-    let mut k = 0;
-    while k < count {
-        held = put_node(rt, buffer, held, process_list::get(list, k))?;
-        k += 1;
+    for node in list.nodes.iter().take(list.count) {
+        held = put_node(rt, buffer, held, *node)?;
     }
     Ok(held)
 }
@@ -37,21 +34,7 @@ fn put_decimal(
     put_piece(rt, buffer, at, &piece, n)
 }
 
-// The number of index i, `/` before it if it is the first, else a comma.
-fn put_item(
-    rt: &impl Print,
-    buffer: &mut [u8],
-    at: usize,
-    i: usize,
-    coefficient: i64,
-    power: i8,
-) -> io::Result<usize> {
-    let mark = if i == 0 { b'/' } else { b',' };
-    let held = put_byte(rt, buffer, at, mark)?;
-    put_decimal(rt, buffer, held, coefficient, power)
-}
-
-// The first numbers of the room, so many as are in use; `/` alone where there are none.
+// The first numbers of the room, so many as are in use, `/` before the first and a comma before each other one; `/` alone where there are none.
 fn put_numbers(
     rt: &impl Print,
     buffer: &mut [u8],
@@ -64,16 +47,11 @@ fn put_numbers(
         return put_byte(rt, buffer, at, b'/');
     }
     let mut held = at;
-    let mut i = 0;
-    while i < used {
-        if coefficients.len() <= i {
-            return Ok(held);
-        }
-        if powers.len() <= i {
-            return Ok(held);
-        }
-        held = put_item(rt, buffer, held, i, coefficients[i], powers[i])?;
-        i += 1;
+    let mut mark = b'/';
+    for (coefficient, power) in coefficients.iter().zip(powers).take(used) {
+        held = put_byte(rt, buffer, held, mark)?;
+        held = put_decimal(rt, buffer, held, *coefficient, *power)?;
+        mark = b',';
     }
     Ok(held)
 }

@@ -1,7 +1,7 @@
 // The command W: the list written out.
 use crate::out::{flush, put_answer, put_byte, put_count, put_hex};
 use process_list::ProcessList;
-use shell_text::lines::{is_too_long, least};
+use shell_text::lines::is_too_long;
 use std::io;
 use tags::part;
 
@@ -27,8 +27,8 @@ fn write_in(
     coefficients: &[i64],
     powers: &[i8],
 ) -> io::Result<()> {
-    let room = least(length, output.len());
-    let w = writing::write(list, coefficients, powers, id, &mut output[0..room]);
+    let room = length.min(output.len());
+    let w = writing::write(list, coefficients, powers, id, &mut output[..room]);
     if is_too_long(w.number, room, length) {
         return rt.write_all(b"too long\n");
     }

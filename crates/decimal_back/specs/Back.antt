@@ -9,7 +9,7 @@ use Rattle.std.proofs.Math.Dec.{eqb}
 use Rattle.std.proofs.Math.IntN.{+ℤ_idr}
 use Rattle.std.proofs.Math.ListN.{length}
 use Rattle.decimal.specs.declared.Decimal.{Decimal}
-use Rattle.decimal.specs.declared.Token.TheVariants.{Number}
+use Rattle.std.specs.Prelude.{Ok}
 use Rattle.decimal.specs.Decimal.{size, in_range}
 use Rattle.decimal_read.specs.Number.{Form, is_mark, is_empty, is_minus, behind_sign, digits_of, behind_digits, fraction_of, behind_fraction, is_exponent, exponent_minus, exponent_digits}
 use Rattle.decimal_read.specs.Number.{form_of, append, with_sign, scale, zeros, trailing, token_by, token_of}
@@ -186,12 +186,12 @@ and_right : (a b : Bool) → (a && b) ≡ true → b ≡ true
 and_right true b h = h
 and_right false b h = absurd (false≢true h)
 
-judged-is : (k : ℕ) (o : Option Form) (f : Form) (d : Decimal) → k ≤ 64 → o ≡ some f → Read.normal f ≡ d → in_range d ≡ true → token_by k o ≡ Number d
+judged-is : (k : ℕ) (o : Option Form) (f : Form) (d : Decimal) → k ≤ 64 → o ≡ some f → Read.normal f ≡ d → in_range d ≡ true → token_by k o ≡ Ok d
 unfolding token_by
 judged-is k o f d l e n h = rw (e, le-leb k 64 l, n, h)
 
 -- a number that a token can stand for, written, is read as that number
-pub reads-back : (d : Decimal) → in_range d ≡ true → is_normal d ≡ true → token_of (written_of d) ≡ Number d
+pub reads-back : (d : Decimal) → in_range d ≡ true → is_normal d ≡ true → token_of (written_of d) ≡ Ok d
 unfolding token_of
 reads-back d h n =
     let p : size d.power ≤ 22 = leb-true (size d.power) 22 (and_right (ltb (size d.coefficient) (10 ^ 15)) (leb (size d.power) 22) h) in

@@ -8,7 +8,8 @@ use borrow.Author.Tests.{ne_eqb, eqb-false}
 use Rattle.std.proofs.Math.Dec.{eqb}
 use Rattle.std.proofs.Math.IntN.{pos}
 use Rattle.decimal.specs.declared.Decimal.{Decimal}
-use Rattle.decimal.specs.declared.Token.TheVariants.{Number, OutOfBounds}
+use Rattle.std.specs.Prelude.{Ok, Err}
+use Rattle.decimal.specs.declared.NumberFault.TheVariants.{OutOfBounds}
 use Rattle.decimal.specs.Decimal.{size, in_range}
 use Rattle.decimal_read.specs.Number.{Form, behind_sign, digits_of, behind_digits, fraction_of, behind_fraction, is_exponent, form_of, append, with_sign, scale, trailing, token_by, token_of}
 use Rattle.decimal_read.specs.Number as Read
@@ -46,21 +47,21 @@ module _ (f : Form) (small : Small (f.whole ++ f.fraction)) where
           (λ z. (stripped (let n = eqb-false (Read.digits_number f) 0 e in omega arith)).ends (ap (λ (k : ℕ). k % 10) (sym (signed-size f.negative (Read.digits_number f / 10 ^ trailing f))) ∙ z))
 
 -- ---- the number of a token
-judged-held : (k : ℕ) (f : Form) (d : Decimal) → Small (f.whole ++ f.fraction) → token_by k (some f) ≡ Number d → (in_range d ≡ true) × (is_normal d ≡ true)
+judged-held : (k : ℕ) (f : Form) (d : Decimal) → Small (f.whole ++ f.fraction) → token_by k (some f) ≡ Ok d → (in_range d ≡ true) × (is_normal d ≡ true)
 unfolding token_by
 judged-held k f d small = go (leb k 64) (in_range (Read.normal f)) refl
   where
-    go : (a b : Bool) → in_range (Read.normal f) ≡ b → cond (a && b) (Number (Read.normal f)) OutOfBounds ≡ Number d → (in_range d ≡ true) × (is_normal d ≡ true)
+    go : (a b : Bool) → in_range (Read.normal f) ≡ b → cond (a && b) (Ok (Read.normal f)) (Err OutOfBounds) ≡ Ok d → (in_range d ≡ true) × (is_normal d ≡ true)
     go true true r e = let g : Read.normal f ≡ d = cc in (subst (λ (x : Decimal). in_range x ≡ true) g r, subst (λ (x : Decimal). is_normal x ≡ true) g (form-normal f small))
     go true false r e = absurd (let z : ◌≡◌ {A = ℕ} 0 1 = cc in omega arith)
     go false b r e = absurd (let z : ◌≡◌ {A = ℕ} 0 1 = cc in omega arith)
 
-none_read : (d : Decimal) (k : ℕ) → token_by k none ≡ Number d → ⊥
+none_read : (d : Decimal) (k : ℕ) → token_by k none ≡ Ok d → ⊥
 unfolding token_by
 none_read d k e = let z : ◌≡◌ {A = ℕ} 0 1 = cc in omega arith
 
 -- a number that a token stands for is in range and normal
-pub read_held : (l : List ℕ) (d : Decimal) → token_of l ≡ Number d → (in_range d ≡ true) × (is_normal d ≡ true)
+pub read_held : (l : List ℕ) (d : Decimal) → token_of l ≡ Ok d → (in_range d ≡ true) × (is_normal d ≡ true)
 unfolding token_of form_of
 read_held l d = go (leb 1 (length (digits_of (behind_sign l)) + length (fraction_of (behind_digits (behind_sign l)))) && is_exponent (behind_fraction (behind_digits (behind_sign l))))
   where
@@ -74,6 +75,6 @@ read_held l d = go (leb 1 (length (digits_of (behind_sign l)) + length (fraction
           exponent = Read.exponent_digits (behind_fraction (behind_digits (behind_sign l)));
         }
 
-    go : (t : Bool) → token_by (length l) (cond t (some f) none) ≡ Number d → (in_range d ≡ true) × (is_normal d ≡ true)
+    go : (t : Bool) → token_by (length l) (cond t (some f) none) ≡ Ok d → (in_range d ≡ true) × (is_normal d ≡ true)
     go true e = judged-held (length l) f d (both_small (digits-small (behind_sign l)) (fraction-small (behind_digits (behind_sign l)))) e
     go false e = absurd (none_read d (length l) e)

@@ -7,14 +7,14 @@ use Prim.Native.Nat.{ℕ, ◌+◌}
 use lib.Dec.{leb}
 use lib.ListN.{length}
 use Rattle.decimal.specs.declared.Decimal.{Decimal}
-use Rattle.decimal.specs.declared.Token.TheVariants.{Number}
+use Rattle.std.specs.Prelude.{Ok}
 use Rattle.decimal_read.specs.Number.{Form, behind_sign, digits_of, behind_digits, fraction_of, behind_fraction, is_exponent, is_minus, exponent_minus, exponent_digits, form_of, token_of}
 use Rattle.decimal_read.specs.Told.{Accepted}
 use Rattle.decimal_read.proofs.Stands.{Small, digits-small, fraction-small, both_small}
 use Rattle.decimal_read.proofs.Told.{tells-apart}
 
 -- an accepted token has at most 64 bytes and a form, and is that form's normal form, within the limits
-pub accepted : (t : List ℕ) (d : Decimal) → token_of t ≡ Number d → Accepted t d
+pub accepted : (t : List ℕ) (d : Decimal) → token_of t ≡ Ok d → Accepted t d
 accepted t d e = ((tells-apart t).number d).0 e
 
 -- ── The digits of a form are digits ──

@@ -4,13 +4,14 @@ use mathlib.Core.Path.{◌≡◌, refl}
 use mathlib.Core.List.{List, [], ◌∷◌, ◌++◌, map}
 use Prim.Native.Nat.{ℕ}
 use lib.IntN.{ℤ, pos, negsuc}
-use Rattle.decimal.specs.declared.Token.{Token}
-use Rattle.decimal.specs.declared.Token.TheVariants.{Number, Malformed, OutOfBounds}
+use Rattle.decimal.specs.Decimal.{Token}
+use Rattle.std.specs.Prelude.{Ok, Err}
+use Rattle.decimal.specs.declared.NumberFault.TheVariants.{Malformed, OutOfBounds}
 use Rattle.decimal_read.specs.Number.{is_digit, is_mark, is_minus, behind_sign, digits_of, behind_digits, fraction_of, behind_fraction, is_empty, is_exponent, exponent_minus, exponent_digits}
 use Rattle.decimal_read.specs.Number.{form_of, append, with_sign, digits_number, scale, zeros, trailing, normal, token_by, token_of}
 
 number : ℤ → ℤ → Token
-number c p = Number (record { coefficient = c; power = p })
+number c p = Ok (record { coefficient = c; power = p })
 
 pub tokens : List (List ℕ)
 tokens =
@@ -93,39 +94,39 @@ answers =
     number (pos 5) (negsuc 0) ∷
     number (pos 0) (pos 0) ∷
     number (pos 1) (pos 22) ∷
-    OutOfBounds ∷
+    (Err OutOfBounds) ∷
     number (pos 1) (pos 22) ∷
     number (pos 1) (pos 15) ∷
-    OutOfBounds ∷
-    Malformed ∷
+    (Err OutOfBounds) ∷
+    (Err Malformed) ∷
     number (pos 1) (pos 0) ∷
     number (pos 5) (negsuc 0) ∷
     number (pos 1) (pos 5) ∷
     number (pos 1) (pos 0) ∷
-    Malformed ∷
-    OutOfBounds ∷
+    (Err Malformed) ∷
+    (Err OutOfBounds) ∷
     number (pos 1) (negsuc 21) ∷
     number (pos 0) (pos 0) ∷
     number (negsuc 124) (negsuc 3) ∷
-    Malformed ∷
-    Malformed ∷
+    (Err Malformed) ∷
+    (Err Malformed) ∷
     number (pos 1) (pos 0) ∷
-    OutOfBounds ∷
-    Malformed ∷
-    OutOfBounds ∷
+    (Err OutOfBounds) ∷
+    (Err Malformed) ∷
+    (Err OutOfBounds) ∷
     number (pos 999999999999999) (pos 0) ∷
-    Malformed ∷
-    OutOfBounds ∷
+    (Err Malformed) ∷
+    (Err OutOfBounds) ∷
     number (pos 1) (negsuc 21) ∷
-    OutOfBounds ∷
-    OutOfBounds ∷
+    (Err OutOfBounds) ∷
+    (Err OutOfBounds) ∷
     number (pos 0) (pos 0) ∷
-    OutOfBounds ∷
-    Malformed ∷
+    (Err OutOfBounds) ∷
+    (Err Malformed) ∷
     number (negsuc 0) (pos 5) ∷
-    OutOfBounds ∷
-    Malformed ∷
-    Malformed ∷
+    (Err OutOfBounds) ∷
+    (Err Malformed) ∷
+    (Err Malformed) ∷
     []
 
 pub examples : map token_of tokens ≡ answers

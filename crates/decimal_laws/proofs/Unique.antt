@@ -11,7 +11,7 @@ use lib.Dec.{ltb, eqb}
 use lib.IntN.{ℤ, pos, negsuc, sub_ℕ, ◌+ℤ◌}
 use Rattle.decimal.specs.Decimal as D
 use Rattle.decimal.specs.declared.Decimal.{Decimal}
-use Rattle.decimal.specs.declared.Token.TheVariants.{Number}
+use Rattle.std.specs.Prelude.{Ok}
 use Rattle.decimal_read.specs.Number.{Form, digits_number, scale, trailing, with_sign, normal, form_of, token_of}
 use Rattle.decimal_read.proofs.Zeros.{Stripped, unique, pow-above}
 use Rattle.decimal_read.proofs.Stands.{Small}
@@ -83,7 +83,7 @@ module _ (f g : Form) (fs : Small (f.whole ++ f.fraction)) (gs : Small (g.whole 
       go false e = other-form (eqb-false (digits_number f) 0 e)
 
 -- (b)
-pub one_number : (t u : List ℕ) (d e : Decimal) (f g : Form) → token_of t ≡ Number d → token_of u ≡ Number e → form_of t ≡ some f → form_of u ≡ some g → Same (said f) (said g) → d ≡ e
+pub one_number : (t u : List ℕ) (d e : Decimal) (f g : Form) → token_of t ≡ Ok d → token_of u ≡ Ok e → form_of t ≡ some f → form_of u ≡ some g → Same (said f) (said g) → d ≡ e
 one_number t u d e f g p q v w s =
     let a : Accepted t d = accepted t d p in
     let b : Accepted u e = accepted u e q in
@@ -116,7 +116,7 @@ form-normal f small h = go (eqb (digits_number f) 0) refl
         let n : digits_number f ≡ 0 → ⊥ = eqb-false (digits_number f) 0 e in
         subst Normal (sym (normal-other f n)) (other-normal f small n (subst (λ (d : Decimal). D.in_range d ≡ true) (normal-other f n) h))
 
-pub in-normal : (t : List ℕ) (d : Decimal) → token_of t ≡ Number d → Normal d
+pub in-normal : (t : List ℕ) (d : Decimal) → token_of t ≡ Ok d → Normal d
 in-normal t d e =
     let a : Accepted t d = accepted t d e in
     subst Normal (sym a.is) (form-normal (form_said t a.right) (form_small t (form_said t a.right) (right-form t a.right)) (ap D.in_range (sym a.is) ∙ a.within))

@@ -12,7 +12,8 @@ use lib.IntN.{ℤ, pos, negsuc, ◌+ℤ◌}
 use lib.Pow.{pow-add}
 use Rattle.decimal.specs.Decimal as D
 use Rattle.decimal.specs.declared.Decimal.{Decimal}
-use Rattle.decimal.specs.declared.Token.TheVariants.{Number, OutOfBounds}
+use Rattle.std.specs.Prelude.{Ok, Err}
+use Rattle.decimal.specs.declared.NumberFault.TheVariants.{OutOfBounds}
 use Rattle.decimal_read.specs.Number.{Form, digits_number, scale, trailing, with_sign, normal, form_of, token_of}
 use Rattle.decimal_read.proofs.Zeros.{Stripped}
 use Rattle.decimal_read.proofs.Stands.{Small}
@@ -75,14 +76,14 @@ module _ (f : Form) (small : Small (f.whole ++ f.fraction)) where
       go false e = rw (normal-other f (eqb-false (digits_number f) 0 e)) (other-same (eqb-false (digits_number f) 0 e))
 
 -- an accepted token says the coefficient times 10 to the power
-pub value : (t : List ℕ) (d : Decimal) → token_of t ≡ Number d → (f : Form) × (form_of t ≡ some f) × Same (said f) (held d)
+pub value : (t : List ℕ) (d : Decimal) → token_of t ≡ Ok d → (f : Form) × (form_of t ≡ some f) × Same (said f) (held d)
 value t d e =
     let a : Accepted t d = accepted t d e in
     let f : Form = form_said t a.right in
     (f, right-form t a.right, subst (λ (x : Decimal). Same (said f) (held x)) (sym a.is) (normal-same f (form_small t f (right-form t a.right))))
 
 -- and one out of bounds says the coefficient times 10 to the power of the pair that is beyond the limits, if it is not the token that is too long
-pub beyond : (t : List ℕ) → token_of t ≡ OutOfBounds → (b : Beyond t) × Same (said (form_said t b.right)) (held (normal (form_said t b.right)))
+pub beyond : (t : List ℕ) → token_of t ≡ (Err OutOfBounds) → (b : Beyond t) × Same (said (form_said t b.right)) (held (normal (form_said t b.right)))
 beyond t e =
     let b : Beyond t = (tells-apart t).out_of_bounds.0 e in
     (b, normal-same (form_said t b.right) (form_small t (form_said t b.right) (right-form t b.right)))

@@ -1,14 +1,14 @@
 -- The clauses of the definitions as equations: a proof rewrites with them, and leaves the definitions shut. Assumes nothing.
-use Prim.Native.Nat.{ℕ, ◌+◌, ◌-◌, ◌*◌, ◌^◌, ◌≤◌, ◌<◌}
+use Prim.Native.Nat.{ℕ, ◌-◌, ◌≤◌, ◌<◌}
 use mathlib.Core.Path.{◌≡◌, refl, sym, ◌∙◌}
 use mathlib.Core.List.{List, [], ◌∷◌}
 use mathlib.Core.Bool.{Bool, true, false, cond, ◌&&◌, ◌||◌, false≢true}
 use lib.Dec.{eqb, leb}
 use lib.ListN.{length}
-use native.Mathlib.Omega.{arith}
-use borrow.Author.Tests.{leb-true, lt-leb, le-leb, lt-ltb, le-ltb, eq-eqb, ne_eqb}
+use borrow.Author.Tests.{leb-true, lt-leb, le-leb}
 use Rattle.decimal_read.specs.declared.Held.{Held}
-use Rattle.decimal_read.specs.declared.Exponent.TheVariants.{Up, Down, Wrong}
+use Rattle.std.specs.Prelude.{Some, None}
+use Rattle.decimal_read.specs.declared.Exponent.TheVariants.{Up}
 use Rattle.decimal_read.specs.Number.{is_digit, is_mark, is_minus, behind_sign, digits_of, behind_digits, fraction_of, behind_fraction, is_empty, append}
 use Rattle.decimal_read.specs.Steps.{held_with, held_all, exponent_of, exponent_at}
 
@@ -28,8 +28,6 @@ digit_low b r e h = leb-true 48 b (and_left (leb 48 b) (leb b 57) (sym e ∙ h))
 pub digit-high : (b : ℕ) (r : Bool) → r ≡ is_digit b → r ≡ true → b ≤ 57
 unfolding is_digit
 digit-high b r e h = leb-true b 57 (and_right (leb 48 b) (leb b 57) (sym e ∙ h))
-
-pub ruleset digit = (digit_low, digit-high)
 
 pub is_minus-nil : is_minus [] ≡ false
 unfolding is_minus
@@ -59,8 +57,6 @@ pub digits_of-cons : (b : ℕ) (l : List ℕ) → digits_of (b ∷ l) ≡ cond (
 unfolding digits_of
 digits_of-cons b l = refl
 
-pub ruleset digits_of-laws = (digits_of-nil, digits_of-cons)
-
 pub behind_digits-nil : behind_digits [] ≡ []
 unfolding behind_digits
 behind_digits-nil = refl
@@ -68,8 +64,6 @@ behind_digits-nil = refl
 pub behind_digits-cons : (b : ℕ) (l : List ℕ) → behind_digits (b ∷ l) ≡ cond (is_digit b) (behind_digits l) (b ∷ l)
 unfolding behind_digits
 behind_digits-cons b l = refl
-
-pub ruleset behind_digits-laws = (behind_digits-nil, behind_digits-cons)
 
 pub fraction_of-nil : fraction_of [] ≡ []
 unfolding fraction_of
@@ -79,8 +73,6 @@ pub fraction_of-cons : (b : ℕ) (l : List ℕ) → fraction_of (b ∷ l) ≡ co
 unfolding fraction_of
 fraction_of-cons b l = refl
 
-pub ruleset fraction_of-laws = (fraction_of-nil, fraction_of-cons)
-
 pub behind_fraction-nil : behind_fraction [] ≡ []
 unfolding behind_fraction
 behind_fraction-nil = refl
@@ -88,8 +80,6 @@ behind_fraction-nil = refl
 pub behind_fraction-cons : (b : ℕ) (l : List ℕ) → behind_fraction (b ∷ l) ≡ cond (eqb b 46) (behind_digits l) (b ∷ l)
 unfolding behind_fraction
 behind_fraction-cons b l = refl
-
-pub ruleset behind_fraction-laws = (behind_fraction-nil, behind_fraction-cons)
 
 pub is_empty-nil : is_empty [] ≡ true
 unfolding is_empty
@@ -99,8 +89,6 @@ pub is_empty-cons : (b : ℕ) (l : List ℕ) → is_empty (b ∷ l) ≡ false
 unfolding is_empty
 is_empty-cons b l = refl
 
-pub ruleset is_empty-laws = (is_empty-nil, is_empty-cons)
-
 pub held_all-nil : (h : Held) → held_all h [] ≡ h
 unfolding held_all
 held_all-nil h = refl
@@ -109,49 +97,22 @@ pub held_all-cons : (h : Held) (d : ℕ) (l : List ℕ) → held_all h (d ∷ l)
 unfolding held_all
 held_all-cons h d l = refl
 
-pub ruleset held_all-laws = (held_all-nil, held_all-cons)
-
-pub exponent_at-nil : exponent_at [] ≡ Up 0
+pub exponent_at-nil : exponent_at [] ≡ Some (Up 0)
 unfolding exponent_at
 exponent_at-nil = refl
 
 pub exponent_at-cons : (b : ℕ) (l : List ℕ)
-    → exponent_at (b ∷ l) ≡ cond (is_mark b) (cond (is_empty (behind_digits (behind_sign l))) (exponent_of (is_minus l) (length (digits_of (behind_sign l))) (append 0 (digits_of (behind_sign l)))) Wrong) Wrong
+    → exponent_at (b ∷ l) ≡ cond (is_mark b) (cond (is_empty (behind_digits (behind_sign l))) (exponent_of (is_minus l) (length (digits_of (behind_sign l))) (append 0 (digits_of (behind_sign l)))) None) None
 unfolding exponent_at
 exponent_at-cons b l = refl
 
-pub ruleset exponent_at-laws = (exponent_at-nil, exponent_at-cons)
-
--- ── One digit more, by the three ways of the code ──
-
-module _ (h : Held) where
-  pub held_small : (d : ℕ) → h.value < 10 ^ 18 → record { value = h.value * 10 + d; dropped = h.dropped } ≡ held_with h d
-  unfolding held_with
-  held_small d p = rw (lt-ltb h.value (10 ^ 18) p)
-
-  pub held-zero : (b : ℕ) → 10 ^ 18 ≤ h.value → b ≡ 48 → record { value = h.value; dropped = h.dropped + 1 } ≡ held_with h (b - 48)
-  unfolding held_with
-  held-zero b p e = rw (le-ltb h.value (10 ^ 18) p, eq-eqb (b - 48) 0 (omega arith))
-
-  pub held-lost : (b : ℕ) → 10 ^ 18 ≤ h.value → 48 ≤ b → (b ≡ 48 → ⊥) → record { value = 10 ^ 18 + 1; dropped = h.dropped + 1 } ≡ held_with h (b - 48)
-  unfolding held_with
-  held-lost b p l e = rw (le-ltb h.value (10 ^ 18) p, ne_eqb (b - 48) 0 (λ q. e (omega arith)))
-
--- ── An exponent, by the ways of the code ──
+-- ── An exponent of no digits, and of more than two ──
 
 module _ (m : Bool) (k v : ℕ) where
-  pub exponent-none : k < 1 → Wrong ≡ exponent_of m k v
+  pub exponent-none : k < 1 → None ≡ exponent_of m k v
   unfolding exponent_of
   exponent-none h = rw (lt-leb 1 k h)
 
-  pub exponent-long : 1 ≤ k → 2 < k → Wrong ≡ exponent_of m k v
+  pub exponent-long : 1 ≤ k → 2 < k → None ≡ exponent_of m k v
   unfolding exponent_of
   exponent-long p h = rw (le-leb 1 k p, lt-leb k 2 h)
-
-  pub exponent-down : 1 ≤ k → k ≤ 2 → m ≡ true → Down v ≡ exponent_of m k v
-  unfolding exponent_of
-  exponent-down p h e = rw (le-leb 1 k p, le-leb k 2 h, e)
-
-  pub exponent-up : 1 ≤ k → k ≤ 2 → m ≡ false → Up v ≡ exponent_of m k v
-  unfolding exponent_of
-  exponent-up p h e = rw (le-leb 1 k p, le-leb k 2 h, e)

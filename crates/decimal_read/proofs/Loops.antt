@@ -1,12 +1,14 @@
 -- The loops of the reader: what holds at each turn of the loop over digits, and of the loop that takes zeros off. Assumes nothing.
 use Prim.Native.Nat.{ℕ, ◌+◌, ◌-◌, ◌*◌, ◌^◌, ◌/◌, ◌%◌, ◌≤◌, ◌<◌}
-use mathlib.Core.Path.{◌≡◌, refl, sym, ap, ◌∙◌}
+use mathlib.Core.Path.{◌≡◌, refl, sym, ap, ◌∙◌, subst}
 use mathlib.Core.Bool.{Bool, true, false, cond}
 use mathlib.Core.List.{List, [], ◌∷◌}
 use native.Mathlib.Nat.{mul-one}
 use native.Mathlib.Numerals.{add-one}
 use native.Mathlib.Omega.{arith}
-use lib.ListN.{length, drop, get_or}
+use lib.ListN.{length, take, drop, get_or}
+use Rattle.std.specs.Char.{is_ascii_digit}
+use Rattle.std.proofs.lemmas.List.{length-drop, take_all}
 use Rattle.scanning.specs.Steps.{here, past}
 use Rattle.decimal_read.specs.declared.Held.{Held}
 use Rattle.decimal_read.specs.Number.{is_digit, digits_of, behind_digits}
@@ -26,9 +28,6 @@ pub record Going (t : List ℕ) (at : ℕ) (start h : Held) (i : ℕ) : Type 0 w
   pub count : length (digits_of (drop at t)) + at ≡ length (digits_of (drop i t)) + i
   pub rest : behind_digits (drop at t) ≡ behind_digits (drop i t)
 
-pub going_start : (t : List ℕ) (at : ℕ) (start : Held) → at ≤ length t → start.value < 10 ^ 19 → start.dropped ≤ at → Going t at start start at
-going_start t at start h s f = record { within = h; begun = omega arith; small = s; few = f; held = refl; count = refl; rest = refl }
-
 -- a digit at i, and none there
 module _ (t : List ℕ) (i : ℕ) (l : i < length t) (b : Bool) (e : b ≡ is_digit (get_or t i 0)) where
   a-digit : b ≡ true → digits_of (drop i t) ≡ (get_or t i 0 - 48) ∷ digits_of (drop (i + 1) t)
@@ -46,7 +45,7 @@ module _ (t : List ℕ) (i : ℕ) (l : i < length t) (b : Bool) (e : b ≡ is_di
       ∙ sym (here t i l)
 
 module _ (t : List ℕ) (at : ℕ) (start h : Held) (i : ℕ) (g : Going t at start h i) where
-  pub going_more : (b : Bool) → i < length t → b ≡ is_digit (get_or t i 0) → b ≡ true → (n : Held) → n ≡ held_with h (get_or t i 0 - 48) → n.value < 10 ^ 19 → n.dropped ≤ h.dropped + 1
+  going_more : (b : Bool) → i < length t → b ≡ is_digit (get_or t i 0) → b ≡ true → (n : Held) → n ≡ held_with h (get_or t i 0 - 48) → n.value < 10 ^ 19 → n.dropped ≤ h.dropped + 1
       → Going t at start n (i + 1)
   going_more b l e q n m s f =
       let d : digits_of (drop i t) ≡ (get_or t i 0 - 48) ∷ digits_of (drop (i + 1) t) = a-digit t i l b e q in
@@ -71,11 +70,62 @@ module _ (t : List ℕ) (at : ℕ) (start h : Held) (i : ℕ) (g : Going t at st
     few = g.few;
   }
 
-  pub going-stop : (b : Bool) → i < length t → b ≡ is_digit (get_or t i 0) → b ≡ false → RunOf t at start (record { held = h; count = i - at; end = i })
+  going-stop : (b : Bool) → i < length t → b ≡ is_digit (get_or t i 0) → b ≡ false → RunOf t at start (record { held = h; count = i - at; end = i })
   going-stop b l e q = ended (no_digit t i l b e q) (behind-none t i l b e q)
 
-  pub going_end : length t ≤ i → RunOf t at start (record { held = h; count = i - at; end = i })
+  going_end : length t ≤ i → RunOf t at start (record { held = h; count = i - at; end = i })
   going_end l = ended (ap digits_of (past t i l) ∙ digits_of-nil) (ap behind_digits (past t i l) ∙ behind_digits-nil ∙ sym (past t i l))
+
+-- what is left to read is the rest of t
+pub record Left (t : List ℕ) (at : ℕ) (start h : Held) (rest : List ℕ) : Type 0 where
+  pub within : length rest ≤ length t
+  pub is : rest ≡ drop (length t - length rest) t
+  pub going : Going t at start h (length t - length rest)
+
+pub left_all : (t : List ℕ) (at : ℕ) (start : Held) → at ≤ length t → start.value < 10 ^ 19 → start.dropped ≤ at → Left t at start start (take (length t - at) (drop at t))
+left_all t at start h s f =
+    rw (take_all (length t - at) (drop at t) (omega (arith, length-drop at t))) (record {
+      within = omega (arith, length-drop at t);
+      is = ap (λ (k : ℕ). drop k t) e;
+      going = subst (λ (k : ℕ). Going t at start start k) e g;
+    })
+  where
+    e : at ≡ length t - length (drop at t)
+    e = omega (arith, length-drop at t)
+
+    g : Going t at start start at
+    g = record { within = h; begun = omega arith; small = s; few = f; held = refl; count = refl; rest = refl }
+
+module _ (t : List ℕ) (at : ℕ) (start h : Held) (rest : List ℕ) (s : Left t at start h rest) where
+  pub left_end : length rest ≡ 0 → RunOf t at start (record { held = h; count = length t - length rest - at; end = length t - length rest })
+  left_end e = going_end t at start h (length t - length rest) s.going (omega arith)
+
+  module _ (b : ℕ) (more : List ℕ) (e : rest ≡ b ∷ more) where
+    inside : length t - length rest < length t
+    inside = omega (arith, ap length e, s.within)
+
+    both : b ∷ more ≡ get_or t (length t - length rest) 0 ∷ drop (length t - length rest + 1) t
+    both = sym e ∙ s.is ∙ here t (length t - length rest) inside
+
+    byte : b ≡ get_or t (length t - length rest) 0
+    byte = ap (λ (l : List ℕ). get_or l 0 0) both
+
+    behind : more ≡ drop (length t - length rest + 1) t
+    behind = ap (λ (l : List ℕ). drop 1 l) both
+
+    digit-is : (d : Bool) → d ≡ is_ascii_digit b → d ≡ is_digit (get_or t (length t - length rest) 0)
+    unfolding is_digit
+    digit-is d q = q ∙ ap is_ascii_digit byte
+
+    pub left_stop : is_ascii_digit b ≡ false → RunOf t at start (record { held = h; count = length t - length rest - at; end = length t - length rest })
+    left_stop q = going-stop t at start h (length t - length rest) s.going (is_ascii_digit b) inside (digit-is (is_ascii_digit b) refl) q
+
+    pub left_more : is_ascii_digit b ≡ true → (n : Held) → n ≡ held_with h (b - 48) → n.value < 10 ^ 19 → n.dropped ≤ h.dropped + 1 → Left t at start n more
+    left_more q n m v f =
+        let k : length t - length rest + 1 ≡ length t - length more = omega (arith, ap length e, s.within) in
+        let g : Going t at start n (length t - length rest + 1) =
+        going_more t at start h (length t - length rest) s.going (is_ascii_digit b) inside (digit-is (is_ascii_digit b) refl) q n (m ∙ ap (λ (x : ℕ). held_with h (x - 48)) byte) v f in
+        record { within = omega (arith, ap length e, s.within); is = behind ∙ ap (λ (i : ℕ). drop i t) k; going = subst (λ (i : ℕ). Going t at start n i) k g }
 
 -- ── The loop that takes zeros off: what is left, times 10 to the zeros taken, is the number ──
 

@@ -2,25 +2,47 @@
 -- code. Assumes nothing.
 use Prim.Native.Nat.{ℕ, ◌+◌, ◌^◌, ◌≤◌, ◌<◌}
 use mathlib.Core.Path.{◌≡◌, refl, sym, ap, ◌∙◌}
-use mathlib.Core.Bool.{Bool, true, false, cond}
+use mathlib.Core.Bool.{Bool, true, false, cond, ◌||◌}
+use mathlib.Core.Logic.{◌⊎◌, inl, inr}
 use mathlib.Core.List.{List, [], ◌∷◌}
 use native.Mathlib.Omega.{arith}
-use borrow.Author.Tests.{leb-true, leb-false, eq-eqb, ne_eqb, le-leb, lt-leb}
+use borrow.Author.Tests.{leb-true, leb-false, eq-eqb, ne_eqb}
 use lib.Dec.{leb}
 use lib.ListN.{length, drop, get_or}
-use Rattle.decimal.specs.Decimal as D
-use Rattle.decimal.specs.declared.Token.{Token}
-use Rattle.decimal.specs.declared.Token.TheVariants.{Number, Malformed, OutOfBounds}
+use Rattle.std.specs.Prelude.{Option, Some, None}
 use Rattle.scanning.specs.Steps.{here, past}
 use Rattle.decimal_read.specs.declared.Held.{Held}
 use Rattle.decimal_read.specs.declared.Run.{Run}
 use Rattle.decimal_read.specs.declared.Exponent.{Exponent}
-use Rattle.decimal_read.specs.declared.Exponent.TheVariants.{Up, Down, Wrong}
+use Rattle.decimal_read.specs.declared.Exponent.TheVariants.{Up}
 use Rattle.decimal_read.specs.Number.{is_mark, is_minus, behind_sign, digits_of, behind_digits, fraction_of, behind_fraction, append}
-use Rattle.decimal_read.specs.Steps.{no_digits, held_all, RunOf, FractionOf, exponent_of, exponent_at, coefficient_of, zeros_of, ranged, settled, raised}
-use Rattle.decimal_read.proofs.Laws.{fraction_of-nil, fraction_of-cons, behind_fraction-nil, behind_fraction-cons, held_all-nil, is_empty-nil, is_empty-cons, exponent_at-nil}
+use Rattle.decimal_read.specs.Steps.{no_digits, held_all, RunOf, FractionOf, exponent_of, exponent_at}
+use Rattle.decimal_read.proofs.Laws.{behind_sign-cons, fraction_of-nil, fraction_of-cons, behind_fraction-nil, behind_fraction-cons, held_all-nil, is_empty-nil, is_empty-cons, exponent_at-nil}
 use Rattle.decimal_read.proofs.Laws.{exponent_at-cons, exponent-none, exponent-long}
 use Rattle.decimal_read.proofs.Read.{short-lt, short-is}
+
+-- ── A sign ──
+
+module _ (t : List ℕ) (at : ℕ) (l : at < length t) where
+  pub sign_passed : (get_or t at 0 ≡ 45) ⊎ (get_or t at 0 ≡ 43) → drop (at + 1) t ≡ behind_sign (drop at t)
+  sign_passed (inl e) = rw (here t at l, behind_sign-cons, e)
+  sign_passed (inr e) = rw (here t at l, behind_sign-cons, e)
+
+  pub sign_none : (get_or t at 0 ≡ 45 → ⊥) → (get_or t at 0 ≡ 43 → ⊥) → drop at t ≡ behind_sign (drop at t)
+  sign_none m p =
+      here t at l ∙ sym (ap behind_sign (here t at l) ∙ behind_sign-cons (get_or t at 0) (drop (at + 1) t)
+      ∙ (λ i. cond (ne_eqb (get_or t at 0) 45 m i || ne_eqb (get_or t at 0) 43 p i) (drop (at + 1) t) (get_or t at 0 ∷ drop (at + 1) t)))
+
+-- ── A mark ──
+
+pub mark : (b : ℕ) → (b ≡ 101) ⊎ (b ≡ 69) → is_mark b ≡ true
+unfolding is_mark
+mark b (inl e) = rw e
+mark b (inr e) = rw e
+
+pub other : (b : ℕ) → (b ≡ 101 → ⊥) → (b ≡ 69 → ⊥) → is_mark b ≡ false
+unfolding is_mark
+other b p q = rw (ne_eqb b 101 p, ne_eqb b 69 q)
 
 -- ── The digits behind a point ──
 
@@ -68,54 +90,25 @@ exponent_same m k v n f = go (leb k 2) refl (leb 1 k) refl
     go false e false d = sym (exponent-none m k v (leb-false 1 k d)) ∙ exponent-none m k n (leb-false 1 k d)
 
 module _ (t : List ℕ) (at : ℕ) where
-  pub exponent-end : length t ≤ at → Up 0 ≡ exponent_at (drop at t)
+  pub exponent-end : length t ≤ at → Some (Up 0) ≡ exponent_at (drop at t)
   exponent-end l = sym (ap exponent_at (past t at l) ∙ exponent_at-nil)
 
-  module _ (l : at < length t) (b : Bool) (e : b ≡ is_mark (get_or t at 0)) where
-    pub no-mark : b ≡ false → Wrong ≡ exponent_at (drop at t)
-    no-mark q = rw (here t at l, exponent_at-cons, sym e ∙ q)
+  module _ (l : at < length t) where
+    pub no-mark : is_mark (get_or t at 0) ≡ false → None ≡ exponent_at (drop at t)
+    no-mark q = rw (here t at l, exponent_at-cons, q)
 
-    module _ (q : b ≡ true) (from : ℕ) (r : Run) (d : drop from t ≡ behind_sign (drop (at + 1) t)) (o : RunOf t from no_digits r) where
+    module _ (q : is_mark (get_or t at 0) ≡ true) (from : ℕ) (r : Run) (d : drop from t ≡ behind_sign (drop (at + 1) t)) (o : RunOf t from no_digits r) where
       rest : behind_digits (behind_sign (drop (at + 1) t)) ≡ drop r.end t
       rest = ap behind_digits (sym d) ∙ sym o.rest
 
-      pub exponent-more : r.end < length t → Wrong ≡ exponent_at (drop at t)
-      exponent-more h = rw (here t at l, exponent_at-cons, sym e ∙ q, rest, here t r.end h, is_empty-cons)
+      pub exponent-more : r.end < length t → None ≡ exponent_at (drop at t)
+      exponent-more h = rw (here t at l, exponent_at-cons, q, rest, here t r.end h, is_empty-cons)
 
-      pub exponent-whole : length t ≤ r.end → (m : Bool) → m ≡ is_minus (drop (at + 1) t) → (x : Exponent) → x ≡ exponent_of m r.count r.held.value → x ≡ exponent_at (drop at t)
+      pub exponent-whole : length t ≤ r.end → (m : Bool) → m ≡ is_minus (drop (at + 1) t) → (x : Option Exponent) → x ≡ exponent_of m r.count r.held.value → x ≡ exponent_at (drop at t)
       exponent-whole h m s x y =
           let g : List ℕ = digits_of (behind_sign (drop (at + 1) t)) in
           let c : r.count ≡ length g = o.count ∙ ap (λ (z : List ℕ). length (digits_of z)) d in
           let v : r.count ≤ 2 → r.held.value ≡ append 0 g =
           λ k. ap (λ (z : Held). z.value) o.held ∙ short-is (drop from t) (omega (arith, o.count)) ∙ ap (λ (z : List ℕ). append 0 (digits_of z)) d in
           y ∙ exponent_same m r.count r.held.value (append 0 g) v ∙ (λ i. exponent_of (s i) (c i) (append 0 g))
-          ∙ sym (rw (here t at l, exponent_at-cons, sym e ∙ q, rest, past t r.end h, is_empty-nil))
-
--- ── The last step ──
-
-module _ (s : Bool) (n : ℕ) (h : Held) (b u d : ℕ) where
-  pub settled-long : 64 < n → OutOfBounds ≡ settled s n h b u d
-  unfolding settled
-  settled-long l = rw (lt-leb n 64 l)
-
-  pub settled-zero : n ≤ 64 → h.value ≡ 0 → Number D.zero ≡ settled s n h b u d
-  unfolding settled
-  settled-zero l e = rw (le-leb n 64 l, eq-eqb h.value 0 e)
-
-  pub settled-other : n ≤ 64 → (h.value ≡ 0 → ⊥) → (c z : ℕ) → c ≡ coefficient_of h.value → z ≡ zeros_of h.value → (r : Token) → r ≡ ranged s c (22 + h.dropped + z + u) (b + d)
-      → r ≡ settled s n h b u d
-  unfolding settled
-  settled-other l e c z p q r y = rw (le-leb n 64 l, ne_eqb h.value 0 e) (y ∙ (λ i. ranged s (p i) (22 + h.dropped + q i + u) (b + d)))
-
-module _ (s : Bool) (n : ℕ) (h : Held) (b : ℕ) (e : Exponent) where
-  pub raised-up : (k : ℕ) → e ≡ Up k → (r : Token) → r ≡ settled s n h b k 0 → r ≡ raised s n h b e
-  unfolding raised
-  raised-up k q r y = rw q y
-
-  pub raised-down : (k : ℕ) → e ≡ Down k → (r : Token) → r ≡ settled s n h b 0 k → r ≡ raised s n h b e
-  unfolding raised
-  raised-down k q r y = rw q y
-
-  pub raised-wrong : e ≡ Wrong → Malformed ≡ raised s n h b e
-  unfolding raised
-  raised-wrong q = rw q
+          ∙ sym (rw (here t at l, exponent_at-cons, q, rest, past t r.end h, is_empty-nil))

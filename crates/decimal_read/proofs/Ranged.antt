@@ -12,8 +12,9 @@ use mir.Val.{to_z, of_z, SFits}
 use mir.ValLaws.{to_z-of_z, to_z_pos}
 use Rattle.decimal.specs.Decimal.{size, in_range}
 use Rattle.decimal.specs.declared.Decimal.{Decimal}
-use Rattle.decimal.specs.declared.Token.{Token}
-use Rattle.decimal.specs.declared.Token.TheVariants.{Number, OutOfBounds}
+use Rattle.decimal.specs.Decimal.{Token}
+use Rattle.std.specs.Prelude.{Ok, Err}
+use Rattle.decimal.specs.declared.NumberFault.TheVariants.{OutOfBounds}
 use Rattle.decimal_read.specs.Number.{with_sign}
 use Rattle.decimal_read.specs.Steps.{ranged}
 
@@ -71,17 +72,10 @@ mag-lowered : (n : ℕ) → n ≤ 44 → (t : Bool) → ltb n 22 ≡ t → mag (
 mag-lowered n h true e = omega arith
 mag-lowered n h false e = omega arith
 
-module _ (n : ℕ) (h : n ≤ 44) where
-  pub lowered-fits : SFits w8 (to_z w8 n -ℤ pos 22)
-  lowered-fits = subst (λ (z : ℤ). SFits w8 (z -ℤ pos 22)) (sym (to_z_pos w8 n (omega arith))) (record { sfits = mag-lowered n h (ltb n 22) refl })
-
-  pub lowered_is : to_z w8 (of_z w8 (to_z w8 n -ℤ pos 22)) ≡ pos n -ℤ pos 22
-  lowered_is = to_z-of_z w8 (to_z w8 n -ℤ pos 22) lowered-fits ∙ ap (λ (z : ℤ). z -ℤ pos 22) (to_z_pos w8 n (omega arith))
-
 -- ── The limits ──
 
 abbrev pub accepted : Decimal → Token
-accepted d = cond (in_range d) (Number d) OutOfBounds
+accepted d = cond (in_range d) (Ok d) (Err OutOfBounds)
 
 pub size-with : (t : Bool) (n : ℕ) → size (with_sign t n) ≡ n
 unfolding with_sign
@@ -110,10 +104,10 @@ size_small a b h k = go (ltb a b) refl
     go true e = omega (arith, size-lt a b (ltb-true a b e), ltb-true a b e)
     go false e = omega (arith, size-ge a b (ltb-false a b e), ltb-false a b e)
 
-pub refused : (d : Decimal) → in_range d ≡ false → OutOfBounds ≡ accepted d
+pub refused : (d : Decimal) → in_range d ≡ false → (Err OutOfBounds) ≡ accepted d
 refused d h = rw h
 
-pub taken : (d : Decimal) → in_range d ≡ true → Number d ≡ accepted d
+pub taken : (d : Decimal) → in_range d ≡ true → Ok d ≡ accepted d
 taken d h = rw h
 
 pub big : (s : Bool) (c : ℕ) (z : ℤ) → 10 ^ 15 ≤ c → in_range (record { coefficient = with_sign s c; power = z }) ≡ false
@@ -126,15 +120,15 @@ module _ (s : Bool) (c a b : ℕ) where
   d : Decimal
   d = record { coefficient = with_sign s c; power = sub_ℕ a b }
 
-  top : c < 10 ^ 15 → b ≤ 22 + a → (t : Bool) → ltb (44 + b) (22 + a) ≡ t → cond t OutOfBounds (Number (record { coefficient = with_sign s c; power = pos (22 + a - b) -ℤ pos 22 })) ≡ accepted d
+  top : c < 10 ^ 15 → b ≤ 22 + a → (t : Bool) → ltb (44 + b) (22 + a) ≡ t → cond t (Err OutOfBounds) (Ok (record { coefficient = with_sign s c; power = pos (22 + a - b) -ℤ pos 22 })) ≡ accepted d
   unfolding d
   top h k true e = let l : 44 + b < 22 + a = ltb-true (44 + b) (22 + a) e in refused d (fits s c (sub_ℕ a b) h ∙ lt-leb (size (sub_ℕ a b)) 22 (omega (arith, size-ge a b (omega arith))))
   top h k false e =
-      let l : 22 + a ≤ 44 + b = ltb-false (44 + b) (22 + a) e in ap (λ (z : ℤ). Number (record { coefficient = with_sign s c; power = z })) (back a b k)
+      let l : 22 + a ≤ 44 + b = ltb-false (44 + b) (22 + a) e in ap (λ (z : ℤ). Ok (record { coefficient = with_sign s c; power = z })) (back a b k)
       ∙ taken d (fits s c (sub_ℕ a b) h ∙ le-leb (size (sub_ℕ a b)) 22 (size_small a b k l))
 
   bottom : c < 10 ^ 15 → (t : Bool) → ltb (22 + a) b ≡ t
-      → cond t OutOfBounds (cond (ltb (44 + b) (22 + a)) OutOfBounds (Number (record { coefficient = with_sign s c; power = pos (22 + a - b) -ℤ pos 22 }))) ≡ accepted d
+      → cond t (Err OutOfBounds) (cond (ltb (44 + b) (22 + a)) (Err OutOfBounds) (Ok (record { coefficient = with_sign s c; power = pos (22 + a - b) -ℤ pos 22 }))) ≡ accepted d
   unfolding d
   bottom h true e = let l : 22 + a < b = ltb-true (22 + a) b e in refused d (fits s c (sub_ℕ a b) h ∙ lt-leb (size (sub_ℕ a b)) 22 (omega (arith, size-lt a b (omega arith))))
   bottom h false e = top h (ltb-false (22 + a) b e) (ltb (44 + b) (22 + a)) refl
@@ -144,16 +138,16 @@ module _ (s : Bool) (c a b : ℕ) where
   ranged-is = go (leb (10 ^ 15) c) refl
     where
       go : (t : Bool) → leb (10 ^ 15) c ≡ t
-          → cond t OutOfBounds (cond (ltb (22 + a) b) OutOfBounds (cond (ltb (44 + b) (22 + a)) OutOfBounds (Number (record { coefficient = with_sign s c; power = pos (22 + a - b) -ℤ pos 22 })))) ≡ accepted
+          → cond t (Err OutOfBounds) (cond (ltb (22 + a) b) (Err OutOfBounds) (cond (ltb (44 + b) (22 + a)) (Err OutOfBounds) (Ok (record { coefficient = with_sign s c; power = pos (22 + a - b) -ℤ pos 22 })))) ≡ accepted
           d
       go true e = refused d (big s c (sub_ℕ a b) (leb-true (10 ^ 15) c e))
       go false e = bottom (leb-false (10 ^ 15) c e) (ltb (22 + a) b) refl
 
 -- what the code returns where nothing is out of range
 pub in-range : (s : Bool) (c a b : ℕ) → c < 10 ^ 15 → b ≤ a → a ≤ 44 + b → (x y : ℤ) → x ≡ with_sign s c → y ≡ pos (a - b) -ℤ pos 22
-    → Number (record { coefficient = to_z w64 (of_z w64 x); power = to_z w8 (of_z w8 y) }) ≡ ranged s c a b
+    → Ok (record { coefficient = to_z w64 (of_z w64 x); power = to_z w8 (of_z w8 y) }) ≡ ranged s c a b
 unfolding ranged
-in-range s c a b h k l x y e d = rw (lt-leb (10 ^ 15) c h, le-ltb a b k, le-ltb (44 + b) a l) (λ i. Number (record { coefficient = cs i; power = ps i }))
+in-range s c a b h k l x y e d = rw (lt-leb (10 ^ 15) c h, le-ltb a b k, le-ltb (44 + b) a l) (λ i. Ok (record { coefficient = cs i; power = ps i }))
   where
     cs : to_z w64 (of_z w64 x) ≡ with_sign s c
     cs = ap (λ (z : ℤ). to_z w64 (of_z w64 z)) e ∙ to_z-of_z w64 (with_sign s c) (with-fits c h s)

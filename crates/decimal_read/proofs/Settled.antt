@@ -12,8 +12,9 @@ use lib.IntN.{ℤ, pos, sub_ℕ, ◌+ℤ◌}
 use lib.ListN.{length}
 use lib.Pow.{pow-add}
 use Rattle.decimal.specs.Decimal as D
-use Rattle.decimal.specs.declared.Token.{Token}
-use Rattle.decimal.specs.declared.Token.TheVariants.{Number, OutOfBounds}
+use Rattle.decimal.specs.Decimal.{Token}
+use Rattle.std.specs.Prelude.{Ok, Err}
+use Rattle.decimal.specs.declared.NumberFault.TheVariants.{OutOfBounds}
 use Rattle.decimal_read.specs.declared.Held.{Held}
 use Rattle.decimal_read.specs.Number.{Form, digits_number, scale, zeros, trailing, normal, with_sign, token_by}
 use Rattle.decimal_read.specs.Steps.{zeros_of, coefficient_of, ranged, settled}
@@ -61,7 +62,7 @@ lost-is : coefficient_of (10 ^ 18 + 1) ≡ 10 ^ 18 + 1
 unfolding coefficient_of zeros_of zeros
 lost-is = refl
 
-too_large : (s : Bool) (c a b : ℕ) → 10 ^ 15 ≤ c → ranged s c a b ≡ OutOfBounds
+too_large : (s : Bool) (c a b : ℕ) → 10 ^ 15 ≤ c → ranged s c a b ≡ (Err OutOfBounds)
 unfolding ranged
 too_large s c a b h = rw (le-leb (10 ^ 15) c h)
 
@@ -98,7 +99,7 @@ module _ (f : Form) (h : Held) (up down : ℕ) (small : Small (f.whole ++ f.frac
   other n (exact e p) = exactly n e
   other n (lost e s l) = never e s l
 
-  core : (t : Bool) → eqb h.value 0 ≡ t → cond t (Number D.zero) reached ≡ accepted (normal f)
+  core : (t : Bool) → eqb h.value 0 ≡ t → cond t (Ok D.zero) reached ≡ accepted (normal f)
   core true e = ap accepted (sym (normal-zero f (none (eqb-true h.value 0 e) stands)))
   core false e = other (eqb-false h.value 0 e) stands
 
@@ -106,6 +107,6 @@ module _ (f : Form) (h : Held) (up down : ℕ) (small : Small (f.whole ++ f.frac
   unfolding settled token_by
   settled_is n = go (leb n 64)
     where
-      go : (t : Bool) → cond t (cond (eqb h.value 0) (Number D.zero) reached) OutOfBounds ≡ cond (t && D.in_range (normal f)) (Number (normal f)) OutOfBounds
+      go : (t : Bool) → cond t (cond (eqb h.value 0) (Ok D.zero) reached) (Err OutOfBounds) ≡ cond (t && D.in_range (normal f)) (Ok (normal f)) (Err OutOfBounds)
       go true = core (eqb h.value 0) refl
       go false = refl

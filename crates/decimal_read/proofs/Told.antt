@@ -11,24 +11,13 @@ use lib.Dec.{leb, ltb}
 use lib.ListN.{length}
 use Rattle.decimal.specs.Decimal.{size, in_range}
 use Rattle.decimal.specs.declared.Decimal.{Decimal}
-use Rattle.decimal.specs.declared.Token.{Token}
-use Rattle.decimal.specs.declared.Token.TheVariants.{Number, Malformed, OutOfBounds}
+use Rattle.decimal.specs.Decimal.{Token}
+use Rattle.std.specs.Prelude.{Ok, Err}
+use Rattle.decimal.specs.declared.NumberFault.TheVariants.{Malformed, OutOfBounds}
 use Rattle.decimal_read.specs.Number.{Form, form_of, normal, token_by, token_of}
 use Rattle.decimal_read.specs.RightForm.{RightForm, form_said}
 use Rattle.decimal_read.specs.Told.{TellsApart}
 use Rattle.decimal_read.proofs.RightForms.{form-right, right-form}
-
-no_number : {X : Type 0} (d : Decimal) → Malformed ≡ Number d → X
-no_number d e = absurd (let z : ◌≡◌ {A = ℕ} 0 1 = cc in omega arith)
-
-not_beyond : {X : Type 0} → Malformed ≡ OutOfBounds → X
-not_beyond e = absurd (let z : ◌≡◌ {A = ℕ} 0 1 = cc in omega arith)
-
-within-bounds : {X : Type 0} (d : Decimal) → Number d ≡ OutOfBounds → X
-within-bounds d e = absurd (let z : ◌≡◌ {A = ℕ} 0 1 = cc in omega arith)
-
-same_number : (a b : Decimal) → Number a ≡ Number b → a ≡ b
-same_number a b e = cc
 
 -- ── The limits ──
 
@@ -57,11 +46,11 @@ not-over n d h = go (ltb (size d.coefficient) (10 ^ 15)) refl (leb (size d.power
 -- ── A token without a form, and one with a form ──
 
 module _ (t : List ℕ) where
-  formless : form_of t ≡ none → TellsApart t Malformed
+  formless : form_of t ≡ none → TellsApart t (Err Malformed)
   formless q = record {
-    number = λ d. (λ e. no_number d e, λ a. wrong a.right);
+    number = λ d. (λ e. absurd (cc), λ a. wrong a.right);
     malformed = (λ e r. wrong r, λ e. refl);
-    out_of_bounds = (λ e. not_beyond e, λ b. wrong b.right);
+    out_of_bounds = (λ e. absurd (cc), λ b. wrong b.right);
   }
     where
       wrong : {X : Type 0} → RightForm t → X
@@ -75,25 +64,25 @@ module _ (t : List ℕ) where
     right : RightForm t
     right = form-right t f q
 
-    kept : length t ≤ 64 → in_range (normal f) ≡ true → TellsApart t (Number (normal f))
+    kept : length t ≤ 64 → in_range (normal f) ≡ true → TellsApart t (Ok (normal f))
     kept h k = record {
       number = λ d. (
-        λ e. let g : normal f ≡ d = same_number (normal f) d e in
+        λ e. let g : normal f ≡ d = cc in
             record { right = right; short = h; is = sym g ∙ only right; within = ap in_range (sym g) ∙ k },
-        λ a. ap Number (only a.right ∙ sym a.is),
+        λ a. ap Ok (only a.right ∙ sym a.is),
       );
-      malformed = (λ e. no_number (normal f) (sym e), λ e. absurd (e right));
-      out_of_bounds = (λ e. within-bounds (normal f) e, λ b. absurd (not-over (length t) (normal f) h k (subst (Over (length t)) (sym (only b.right)) b.limit)));
+      malformed = (λ e. absurd (cc), λ e. absurd (e right));
+      out_of_bounds = (λ e. absurd (cc), λ b. absurd (not-over (length t) (normal f) h k (subst (Over (length t)) (sym (only b.right)) b.limit)));
     }
 
-    over : Over (length t) (normal f) → TellsApart t OutOfBounds
+    over : Over (length t) (normal f) → TellsApart t (Err OutOfBounds)
     over o = record {
       number = λ d. (
-        λ e. within-bounds d (sym e),
+        λ e. absurd (cc),
         λ a. let g : d ≡ normal f = a.is ∙ sym (only a.right) in
             absurd (not-over (length t) (normal f) a.short (ap in_range (sym g) ∙ a.within) o),
       );
-      malformed = (λ e. not_beyond (sym e), λ e. absurd (e right));
+      malformed = (λ e. absurd (cc), λ e. absurd (e right));
       out_of_bounds = (λ e. record { right = right; limit = subst (Over (length t)) (only right) o }, λ b. refl);
     }
 
@@ -102,7 +91,7 @@ module _ (t : List ℕ) where
   tells none q = formless q
   tells (some f) q = go (leb (length t) 64) refl (in_range (normal f)) refl
     where
-      go : (a : Bool) → leb (length t) 64 ≡ a → (b : Bool) → in_range (normal f) ≡ b → TellsApart t (cond (a && b) (Number (normal f)) OutOfBounds)
+      go : (a : Bool) → leb (length t) 64 ≡ a → (b : Bool) → in_range (normal f) ≡ b → TellsApart t (cond (a && b) (Ok (normal f)) (Err OutOfBounds))
       go false e b k = over f q (inl (leb-false (length t) 64 e))
       go true e false k = over f q (over-range (length t) (normal f) k)
       go true e true k = kept f q (leb-true (length t) 64 e) k

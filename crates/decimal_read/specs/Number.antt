@@ -9,8 +9,9 @@ use Rattle.std.proofs.Math.Option.{Option, none, some}
 use Rattle.decimal.specs.Decimal.{in_range}
 use Rattle.decimal.specs.Decimal as D
 use Rattle.decimal.specs.declared.Decimal.{Decimal}
-use Rattle.decimal.specs.declared.Token.{Token}
-use Rattle.decimal.specs.declared.Token.TheVariants.{Number, Malformed, OutOfBounds}
+use Rattle.decimal.specs.Decimal.{Token}
+use Rattle.std.specs.Prelude.{Ok, Err}
+use Rattle.decimal.specs.declared.NumberFault.TheVariants.{Malformed, OutOfBounds}
 
 -- ── The bytes ──
 
@@ -131,8 +132,8 @@ normal f =
 -- what a token of n bytes says. One without a form 'is no number' (9). One that has the form f says its normal form if that keeps the limits and the token is 'of at most
 -- 64 bytes'; else it is 'a token of the right form that is over 64 bytes or outside coefficient or power' (25; 02, W-204)
 unfoldable pub token_by : ℕ → Option Form → Token
-token_by n none = Malformed
-token_by n (some f) = cond (leb n 64 && in_range (normal f)) (Number (normal f)) OutOfBounds
+token_by n none = Err Malformed
+token_by n (some f) = cond (leb n 64 && in_range (normal f)) (Ok (normal f)) (Err OutOfBounds)
 
 -- what a token says: a number, that it is no number of our form, or that it is one out of bounds
 unfoldable pub token_of : List ℕ → Token

@@ -1,13 +1,14 @@
 -- What the steps of the reader compute, in the shape of the code. The contract of `number` cites none of these.
 use Rattle.std.specs.Prelude.{ℕ, ◌+◌, ◌-◌, ◌*◌, ◌^◌, ◌/◌, ◌<◌, ◌≤◌, ◌≡◌, Bool, cond, List, [], ◌∷◌, ltb, leb, eqb, pos, ◌-ℤ◌, length, drop}
 use Rattle.decimal.specs.Decimal as D
-use Rattle.decimal.specs.declared.Token.{Token}
-use Rattle.decimal.specs.declared.Token.TheVariants.{Number, Malformed, OutOfBounds}
+use Rattle.decimal.specs.Decimal.{Token}
+use Rattle.std.specs.Prelude.{Ok, Err, Option, Some, None}
+use Rattle.decimal.specs.declared.NumberFault.TheVariants.{OutOfBounds}
 use Rattle.decimal_read.specs.Number.{is_mark, is_empty, is_minus, behind_sign, digits_of, behind_digits, fraction_of, behind_fraction, append, with_sign, zeros}
 use Rattle.decimal_read.specs.declared.Held.{Held}
 use Rattle.decimal_read.specs.declared.Run.{Run}
 use Rattle.decimal_read.specs.declared.Exponent.{Exponent}
-use Rattle.decimal_read.specs.declared.Exponent.TheVariants.{Up, Down, Wrong}
+use Rattle.decimal_read.specs.declared.Exponent.TheVariants.{Up, Down}
 
 -- no digit read yet
 abbrev pub no_digits : Held
@@ -45,20 +46,20 @@ pub record FractionOf (t : List ℕ) (w r : Run) : Type 0 where
   pub few : r.held.dropped ≤ r.end
 
 -- an exponent of that many digits and that size
-unfoldable pub exponent_of : Bool → ℕ → ℕ → Exponent
+unfoldable pub exponent_of : Bool → ℕ → ℕ → Option Exponent
 exponent_of minus count n =
-    cond (leb 1 count) (cond (leb count 2) (cond minus (Down n) (Up n)) Wrong) Wrong
+    cond (leb 1 count) (cond (leb count 2) (cond minus (Some (Down n)) (Some (Up n))) None) None
 
--- what stands behind the digits
-unfoldable pub exponent_at : List ℕ → Exponent
-exponent_at [] = Up 0
+-- what stands behind the digits; none where that is neither nothing nor an exponent to the end
+unfoldable pub exponent_at : List ℕ → Option Exponent
+exponent_at [] = Some (Up 0)
 exponent_at (b ∷ l) =
     let rest = behind_sign l in
     cond (is_mark b)
     (cond (is_empty (behind_digits rest))
     (exponent_of (is_minus l) (length (digits_of rest)) (append 0 (digits_of rest)))
-    Wrong)
-    Wrong
+    None)
+    None
 
 -- a number of at most 20 digits without the zeros at its end, and how many there are
 unfoldable pub zeros_of : ℕ → ℕ
@@ -70,20 +71,19 @@ coefficient_of v = v / 10 ^ zeros_of v
 -- a coefficient times 10 to the above, over 10 to the below + 22
 unfoldable pub ranged : Bool → ℕ → ℕ → ℕ → Token
 ranged negative c above below =
-    cond (leb (10 ^ 15) c) OutOfBounds
-    (cond (ltb above below) OutOfBounds
-    (cond (ltb (44 + below) above) OutOfBounds
-    (Number (record { coefficient = with_sign negative c; power = pos (above - below) -ℤ pos 22 }))))
+    cond (leb (10 ^ 15) c) (Err OutOfBounds)
+    (cond (ltb above below) (Err OutOfBounds)
+    (cond (ltb (44 + below) above) (Err OutOfBounds)
+    (Ok (record { coefficient = with_sign negative c; power = pos (above - below) -ℤ pos 22 }))))
 
 -- the digits h, `behind` of them behind the point, times 10 to the up, over 10 to the down
 unfoldable pub settled : Bool → ℕ → Held → ℕ → ℕ → ℕ → Token
 settled negative size h behind up down =
     cond (leb size 64)
-    (cond (eqb h.value 0) (Number D.zero)
+    (cond (eqb h.value 0) (Ok D.zero)
     (ranged negative (coefficient_of h.value) (22 + h.dropped + zeros_of h.value + up) (behind + down)))
-    OutOfBounds
+    (Err OutOfBounds)
 
 unfoldable pub raised : Bool → ℕ → Held → ℕ → Exponent → Token
 raised negative size h behind (Up e) = settled negative size h behind e 0
 raised negative size h behind (Down e) = settled negative size h behind 0 e
-raised negative size h behind Wrong = Malformed

@@ -2,8 +2,9 @@
 use Rattle.std.specs.Prelude.{◌≡◌, true, List, ◌⊎◌, ◌↔◌, ℕ, ◌^◌, ◌≤◌, ◌<◌, length}
 use Rattle.decimal.specs.Decimal.{size, in_range}
 use Rattle.decimal.specs.declared.Decimal.{Decimal}
-use Rattle.decimal.specs.declared.Token.{Token}
-use Rattle.decimal.specs.declared.Token.TheVariants.{Number, Malformed, OutOfBounds}
+use Rattle.decimal.specs.Decimal.{Token}
+use Rattle.std.specs.Prelude.{Ok, Err}
+use Rattle.decimal.specs.declared.NumberFault.TheVariants.{Malformed, OutOfBounds}
 use Rattle.decimal_read.specs.Number.{normal}
 use Rattle.decimal_read.specs.RightForm.{RightForm, form_said}
 
@@ -21,6 +22,6 @@ pub record Beyond (t : List ℕ) : Type 0 where
 
 -- the answer r to a token: its number exactly if it is accepted; no number (9) exactly if its form is wrong, however long it is; out of bounds (25) exactly if its form is right and it is beyond a limit
 pub record TellsApart (t : List ℕ) (r : Token) : Type 0 where
-  pub number : (d : Decimal) → (r ≡ Number d) ↔ Accepted t d
-  pub malformed : (r ≡ Malformed) ↔ (RightForm t → ⊥)
-  pub out_of_bounds : (r ≡ OutOfBounds) ↔ Beyond t
+  pub number : (d : Decimal) → (r ≡ Ok d) ↔ Accepted t d
+  pub malformed : (r ≡ (Err Malformed)) ↔ (RightForm t → ⊥)
+  pub out_of_bounds : (r ≡ (Err OutOfBounds)) ↔ Beyond t

@@ -3,63 +3,53 @@
 // The reader of a number token (document 01, Numbers), in one pass over its bytes: maybe a sign, digits with or without a point, maybe
 // an exponent. `number` is the reader; every other function is a step of it.
 ghost use Rattle.std.specs.Prelude.{◌≡◌, ◌+◌, ◌-◌, ◌≤◌, ◌<◌, ◌^◌, length, drop, pos, ◌-ℤ◌};
-ghost use Rattle.decimal_read.specs.Number.{is_digit, is_mark, is_minus, behind_sign, with_sign, token_of};
+ghost use Rattle.decimal_read.specs.Number.{is_minus, behind_sign, with_sign, token_of};
 ghost use Rattle.decimal_read.specs.Told.{TellsApart};
 ghost use Rattle.decimal_read.specs.Steps.{held_with, RunOf, FractionOf, exponent_of, exponent_at, zeros_of, coefficient_of, ranged, settled, raised};
 
-use decimal::{Decimal, Token};
+use decimal::{Decimal, NumberFault, Token};
 
 // What the digits read so far say. Below 10^18, `value` is their number. From then on a digit 0 is counted in `dropped`, and any other
 // digit makes `value` 10^18 + 1, a number out of range.
-#[derive(Clone, Copy)]
+#[derive(Clone, Copy, Debug, PartialEq, Eq)]
 struct Held {
     value: u64,
     dropped: usize,
 }
 
+// No digit read yet.
+const NO_DIGITS: Held = Held {
+    value: 0,
+    dropped: 0,
+};
+
 // A run of digits: what they say behind the digits before, how many they are, and the place behind them.
-#[derive(Clone, Copy)]
+#[derive(Clone, Copy, Debug, PartialEq, Eq)]
 struct Run {
     held: Held,
     count: usize,
     end: usize,
 }
 
-// The exponent: so many powers of ten up or down, or bytes that are no exponent.
-#[derive(Clone, Copy)]
+// An exponent: so many powers of ten up or down.
+#[derive(Clone, Copy, Debug, PartialEq, Eq)]
 enum Exponent {
     Up(u8),
     Down(u8),
-    Wrong,
 }
 
 // A number without the zeros at its end, and how many there were.
-#[derive(Clone, Copy)]
+#[derive(Clone, Copy, Debug, PartialEq, Eq)]
 struct Stripped {
     coefficient: u64,
     zeros: usize,
 }
 
-fn is_digit(b: u8) -> bool
-    ensures { result ≡ is_digit b }
-{
-    48 <= b && b <= 57
-}
-
-fn is_mark(b: u8) -> bool
-    ensures { result ≡ is_mark b }
-{
-    b == b'e' || b == b'E'
-}
-
+// Whether a minus stands at `at`.
 fn is_minus(t: &[u8], at: usize) -> bool
     ensures { result ≡ is_minus (drop at t.now) }
 {
-    if t.len() <= at {
-        return false;
-    }
-    let b = t[at];
-    b == b'-'
+    at < t.len() && t[at] == b'-'
 }
 
 // The place behind a sign, if one stands at `at`.
@@ -70,36 +60,32 @@ fn behind_sign(t: &[u8], at: usize) -> usize
     if t.len() <= at {
         return at;
     }
-    let b = t[at];
-    if b == b'-' {
-        return at + 1;
-    }
-    if b == b'+' {
+    if t[at] == b'-' || t[at] == b'+' {
         return at + 1;
     }
     at
 }
 
-// One digit more.
-fn with_digit(h: Held, b: u8) -> Held
-    requires { (48 ≤ b) × (b ≤ 57) × (h.value < 10 ^ 19) × (h.dropped + 1 < 2 ^ 64) }
-    ensures { (result ≡ held_with h (b - 48)) × (result.value < 10 ^ 19) × (result.dropped ≤ h.dropped + 1) }
-{
-    if h.value < 1000000000000000000 {
-        return Held {
-            value: h.value * 10 + (b - 48) as u64,
-            dropped: h.dropped,
-        };
-    }
-    if b == 48 {
-        return Held {
-            value: h.value,
-            dropped: h.dropped + 1,
-        };
-    }
-    Held {
-        value: 1000000000000000001,
-        dropped: h.dropped + 1,
+impl Held {
+    // One digit more.
+    fn with_digit(self, b: u8) -> Held
+        requires { (48 ≤ b) × (b ≤ 57) × (self.value < 10 ^ 19) × (self.dropped + 1 < 2 ^ 64) }
+        ensures { (result ≡ held_with self (b - 48)) × (result.value < 10 ^ 19) × (result.dropped ≤ self.dropped + 1) }
+    {
+        if self.value < 1000000000000000000 {
+            return Held {
+                value: self.value * 10 + u64::from(b - b'0'),
+                ..self
+            };
+        }
+        Held {
+            value: if b == b'0' {
+                self.value
+            } else {
+                1000000000000000001
+            },
+            dropped: self.dropped + 1,
+        }
     }
 }
 
@@ -108,25 +94,20 @@ fn run_at(t: &[u8], at: usize, start: Held) -> Run
     requires { (at ≤ length t.now) × (start.value < 10 ^ 19) × (start.dropped ≤ at) }
     ensures { RunOf t.now at start result }
 {
-    let mut h = start;
-    let mut i = at;
-    while i < t.len() {
-        let b = t[i];
-        if is_digit(b) {
-            h = with_digit(h, b);
-        } else {
-            return Run {
-                held: h,
-                count: i - at,
-                end: i,
-            };
+    let mut held = start;
+    let mut rest = &t[at..];
+    while let Some((b, more)) = rest.split_first() {
+        if !b.is_ascii_digit() {
+            break;
         }
-        i += 1;
+        held = held.with_digit(*b);
+        rest = more;
     }
+    let end = t.len() - rest.len();
     Run {
-        held: h,
-        count: i - at,
-        end: i,
+        held,
+        count: end - at,
+        end,
     }
 }
 
@@ -135,70 +116,44 @@ fn fraction(t: &[u8], whole: Run) -> Run
     requires { (whole.end ≤ length t.now) × (whole.held.value < 10 ^ 19) × (whole.held.dropped ≤ whole.end) }
     ensures { FractionOf t.now whole result }
 {
-    let at = whole.end;
-    let h = whole.held;
-    if t.len() <= at {
-        return Run {
-            held: h,
-            count: 0,
-            end: at,
-        };
+    if whole.end < t.len() && t[whole.end] == b'.' {
+        return run_at(t, whole.end + 1, whole.held);
     }
-    let b = t[at];
-    if b == b'.' {
-        return run_at(t, at + 1, h);
-    }
-    Run {
-        held: h,
-        count: 0,
-        end: at,
-    }
+    Run { count: 0, ..whole }
 }
 
 // One or two digits of an exponent as its size.
-fn exponent_of(minus: bool, run: Run) -> Exponent
+fn exponent_of(minus: bool, run: Run) -> Option<Exponent>
     requires { 1 ≤ run.count → run.count ≤ 2 → run.held.value < 100 }
     ensures { result ≡ exponent_of minus run.count run.held.value }
 {
-    if run.count < 1 {
-        return Exponent::Wrong;
+    if run.count < 1 || 2 < run.count {
+        return None;
     }
-    if 2 < run.count {
-        return Exponent::Wrong;
-    }
-    let h = run.held;
+    let size = run.held.value as u8;
     if minus {
-        Exponent::Down(h.value as u8)
+        Some(Exponent::Down(size))
     } else {
-        Exponent::Up(h.value as u8)
+        Some(Exponent::Up(size))
     }
 }
 
-// What stands behind the digits: nothing, or an exponent to the end.
-fn exponent_at(t: &[u8], at: usize) -> Exponent
+// What stands behind the digits: nothing, or an exponent to the end; none where it is something else.
+fn exponent_at(t: &[u8], at: usize) -> Option<Exponent>
     requires { at ≤ length t.now }
     ensures { result ≡ exponent_at (drop at t.now) }
 {
     if t.len() <= at {
-        return Exponent::Up(0);
+        return Some(Exponent::Up(0));
     }
-    let b = t[at];
-    if is_mark(b) {
-        let from = behind_sign(t, at + 1);
-        let run = run_at(
-            t,
-            from,
-            Held {
-                value: 0,
-                dropped: 0,
-            },
-        );
-        if run.end < t.len() {
-            return Exponent::Wrong;
-        }
-        return exponent_of(is_minus(t, at + 1), run);
+    if t[at] != b'e' && t[at] != b'E' {
+        return None;
     }
-    Exponent::Wrong
+    let run = run_at(t, behind_sign(t, at + 1), NO_DIGITS);
+    if run.end < t.len() {
+        return None;
+    }
+    exponent_of(is_minus(t, at + 1), run)
 }
 
 // The number without the zeros at its end.
@@ -206,16 +161,14 @@ fn strip(value: u64) -> Stripped
     requires { (0 < value) × (value < 10 ^ 19) }
     ensures { (result.coefficient ≡ coefficient_of value) × (result.zeros ≡ zeros_of value) × (result.zeros ≤ 20) }
 {
-    let mut c = value;
-    let mut z: usize = 0;
-    while c % 10 == 0 {
-        c /= 10;
-        z += 1;
+    let mut coefficient = value;
+    let mut zeros: usize = 0;
+    // A number is divided, and nothing is gone over: no `for` is plainer.
+    while coefficient % 10 == 0 {
+        coefficient /= 10;
+        zeros += 1;
     }
-    Stripped {
-        coefficient: c,
-        zeros: z,
-    }
+    Stripped { coefficient, zeros }
 }
 
 fn signed(negative: bool, size: u64) -> i64
@@ -223,15 +176,14 @@ fn signed(negative: bool, size: u64) -> i64
     ensures { result ≡ with_sign negative size }
 {
     let z = size as i64;
-    if negative { 0 - z } else { z }
+    if negative { -z } else { z }
 }
 
 fn lowered(power: usize) -> i8
     requires { power ≤ 44 }
     ensures { result ≡ pos power -ℤ pos 22 }
 {
-    let p = power as i8;
-    p - 22
+    power as i8 - 22
 }
 
 // The coefficient times 10 to the above, over 10 to the below + 22: a number if both are in range, else out of bounds.
@@ -239,52 +191,47 @@ fn range(negative: bool, c: u64, above: usize, below: usize) -> Token
     requires { below < 2 ^ 63 }
     ensures { result ≡ ranged negative c above below }
 {
-    if 1000000000000000 <= c {
-        return Token::OutOfBounds;
+    if 1000000000000000 <= c || above < below || 44 + below < above {
+        return Err(NumberFault::OutOfBounds);
     }
-    if above < below {
-        return Token::OutOfBounds;
-    }
-    if 44 + below < above {
-        return Token::OutOfBounds;
-    }
-    Token::Number(Decimal {
+    Ok(Decimal {
         coefficient: signed(negative, c),
         power: lowered(above - below),
     })
 }
 
-// What a token of `size` bytes says whose digits are h, with `behind` of them behind the point, times 10 to the up, over 10 to the down.
-fn settle(negative: bool, size: usize, h: Held, behind: usize, up: u8, down: u8) -> Token
-    requires { (h.value < 10 ^ 19) × (h.dropped ≤ size) × (behind ≤ size) }
-    ensures { result ≡ settled negative size h behind up down }
+// What a token of `size` bytes says whose digits end in the run `part`, the one behind the point, times 10 to the up, over 10 to the down.
+fn settle(negative: bool, size: usize, part: Run, up: u8, down: u8) -> Token
+    requires { (part.held.value < 10 ^ 19) × (part.held.dropped ≤ size) × (part.count ≤ size) }
+    ensures { result ≡ settled negative size part.held part.count up down }
 {
     if 64 < size {
-        return Token::OutOfBounds;
+        return Err(NumberFault::OutOfBounds);
     }
-    if h.value == 0 {
-        return Token::Number(Decimal {
+    let held = part.held;
+    if held.value == 0 {
+        return Ok(Decimal {
             coefficient: 0,
             power: 0,
         });
     }
-    let s = strip(h.value);
+    let s = strip(held.value);
     range(
         negative,
         s.coefficient,
-        22 + h.dropped + s.zeros + up as usize,
-        behind + down as usize,
+        22 + held.dropped + s.zeros + usize::from(up),
+        part.count + usize::from(down),
     )
 }
 
-fn raise(negative: bool, size: usize, h: Held, behind: usize, e: Exponent) -> Token
-    requires { (h.value < 10 ^ 19) × (h.dropped ≤ size) × (behind ≤ size) }
-    ensures { result ≡ raised negative size h behind e }
+// What it says times 10 to the exponent.
+fn raise(negative: bool, size: usize, part: Run, e: Exponent) -> Token
+    requires { (part.held.value < 10 ^ 19) × (part.held.dropped ≤ size) × (part.count ≤ size) }
+    ensures { result ≡ raised negative size part.held part.count e }
 {
     match e {
-        Exponent::Up(n) => settle(negative, size, h, behind, n, 0),
-        Exponent::Down(n) => settle(negative, size, h, behind, 0, n),
-        Exponent::Wrong => Token::Malformed,
+        Exponent::Up(n) => settle(negative, size, part, n, 0),
+        Exponent::Down(n) => settle(negative, size, part, 0, n),
     }
 }
 
@@ -292,21 +239,11 @@ fn raise(negative: bool, size: usize, h: Held, behind: usize, e: Exponent) -> To
 pub fn number(token: &[u8]) -> Token
     ensures { (result ≡ token_of token.now) × TellsApart token.now result }
 {
-    let from = behind_sign(token, 0);
-    let whole = run_at(
-        token,
-        from,
-        Held {
-            value: 0,
-            dropped: 0,
-        },
-    );
+    let whole = run_at(token, behind_sign(token, 0), NO_DIGITS);
     let part = fraction(token, whole);
     if whole.count + part.count < 1 {
-        return Token::Malformed;
+        return Err(NumberFault::Malformed);
     }
-    let end = part.end;
-    let h = part.held;
-    let e = exponent_at(token, end);
-    raise(is_minus(token, 0), token.len(), h, part.count, e)
+    let e = exponent_at(token, part.end).ok_or(NumberFault::Malformed)?;
+    raise(is_minus(token, 0), token.len(), part, e)
 }

@@ -4,14 +4,13 @@
 ghost use Rattle.std.specs.Prelude.{◌≡◌, ◌≤◌, true, length, drop};
 ghost use Rattle.tags.specs.Code.{part_in};
 ghost use Rattle.clf.specs.Description as Description;
-ghost use Rattle.describing.specs.Code.{no_place, IsPlace, behind_tag};
+ghost use Rattle.describing.specs.Code.{no_place, IsPlace, IsFound, behind_tag};
 
 use markup::NextTag;
 use tags::TagEnd;
-use xml::Scan;
 
 // A part of a file: the place of its first byte, and how many bytes it has.
-#[derive(Clone, Copy)]
+#[derive(Clone, Copy, Debug, PartialEq, Eq)]
 pub struct Part {
     pub start: usize,
     pub length: usize,
@@ -32,42 +31,44 @@ fn text_at(file: &[u8], at: usize) -> Part
     requires { at ≤ length file.now }
     ensures { IsPlace file.now (Description.found_part file.now true (drop at file.now)) result }
 {
-    let r = xml::text_to(file, at, b'<');
-    let Scan::At(e) = r else {
-        return Part {
-            start: at,
-            length: 0,
-        };
-    };
+    let end = xml::text_to(file, at, b'<').unwrap_or(at);
     Part {
         start: at,
-        length: e - at,
+        length: end - at,
     }
 }
 
 // A child whose name stands from a to e: the text of a Description.
-fn child_text(file: &[u8], a: usize, e: usize) -> Part
-    ensures { IsPlace file.now (Description.text_part file.now ((Description.description_tag (part_in file.now a e)).run (drop e file.now))) result }
+fn child_text(file: &[u8], a: usize, e: usize) -> Option<Part>
+    ensures { IsFound file.now (Description.text_part file.now ((Description.description_tag (part_in file.now a e)).run (drop e file.now))) result }
 {
-    if xml::same(tags::part(file, a, e), b"Description") {
-        let end = tags::plain_tag(file, e);
-        let TagEnd::Open(q) = end else {
-            return no_part();
-        };
-        return text_at(file, q);
+    if !xml::same(tags::part(file, a, e), b"Description") {
+        return None;
     }
-    no_part()
+    match tags::plain_tag(file, e).ok()? {
+        TagEnd::Open(q) => Some(text_at(file, q)),
+        TagEnd::Empty(_) => None,
+    }
 }
 
 // Behind a node's start tag: the text of its first child, which stands behind white space and comments alone.
-fn first_text(file: &[u8], at: usize) -> Part
-    ensures { IsPlace file.now (Description.text_part file.now (behind_tag (drop at file.now))) result }
+fn first_text(file: &[u8], at: usize) -> Option<Part>
+    ensures { IsFound file.now (Description.text_part file.now (behind_tag (drop at file.now))) result }
 {
-    let l = markup::next_tag(file, at);
-    match l {
+    match markup::next_tag(file, at).ok()? {
         NextTag::Start(a, e) => child_text(file, a + 1, e),
-        NextTag::End(a) => no_part(),
-        NextTag::Failed(a, r) => no_part(),
+        NextTag::End(_) => None,
+    }
+}
+
+// The text of the first Description of the node whose `<` stands at `at`, if it has one.
+fn node_text(file: &[u8], at: usize) -> Option<Part>
+    ensures { IsFound file.now (Description.part_from at file.now) result }
+{
+    let e = xml::open_name(file, at).ok()?;
+    match tags::plain_tag(file, e).ok()? {
+        TagEnd::Open(q) => first_text(file, q),
+        TagEnd::Empty(_) => None,
     }
 }
 
@@ -75,13 +76,5 @@ fn first_text(file: &[u8], at: usize) -> Part
 pub fn text_part(file: &[u8], at: usize) -> Part
     ensures { IsPlace file.now (Description.part_from at file.now) result }
 {
-    let r = xml::open_name(file, at);
-    let Scan::At(e) = r else {
-        return no_part();
-    };
-    let end = tags::plain_tag(file, e);
-    let TagEnd::Open(q) = end else {
-        return no_part();
-    };
-    first_text(file, q)
+    node_text(file, at).unwrap_or(no_part())
 }

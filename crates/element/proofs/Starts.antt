@@ -10,13 +10,13 @@ use Rattle.grammar.specs.Parse.{Out, done, fault, cut, Parser}
 use Rattle.xml.specs.Bytes.{is_name_byte}
 use Rattle.xml.specs.Among.{name_or}
 use Rattle.xml.specs.Code.{scan_out, NameOr, no_value}
-use Rattle.xml.specs.declared.Scan.{Scan}
-use Rattle.xml.specs.declared.Scan.TheVariants.{At, Fault, Cut}
+use Rattle.xml.specs.Code.{Scan}
+use Rattle.std.specs.Prelude.{Ok, Err}
+use Rattle.xml.specs.declared.Stop.TheVariants.{Fault, Cut}
 use Rattle.clf.specs.Nodes.{NodeName}
 use Rattle.nodes.specs.Code.{name_of}
 use Rattle.nodes.specs.declared.NodeName as Code
-use Rattle.element.specs.Code.{no_name, start_out, StartOr, StartReads}
-use Rattle.element.specs.declared.StartStep.{StartStep}
+use Rattle.element.specs.Code.{Start, start_out, StartOr, StartReads}
 
 -- ---- a word
 
@@ -39,31 +39,31 @@ as-or n o k p (c ∷ w) (b ∷ s) = go (eqb b c) (as-or n o k p w s)
     go true e = e
     go false e = refl
 
-module _ (s w : List ℕ) (n : NodeName) (other : StartStep) where
-  by_word : (r : Scan) → NameOr s 0 w (Fault 20 0) r → as_or n (start_out s other) (scan_out no_value s r) ≡ name_or n (start_out s other) w s
+module _ (s w : List ℕ) (n : NodeName) (other : Start) where
+  by_word : (r : Scan) → NameOr s 0 w (Err (Fault 20 0)) r → as_or n (start_out s other) (scan_out no_value s r) ≡ name_or n (start_out s other) w s
   by_word r v = ap (as_or n (start_out s other)) v.out ∙ sym (as-or n (start_out s other) 20 s w s)
 
   -- the word stands there
-  pub word-stood : (e : ℕ) (name : Code.NodeName) → name_of name ≡ n → NameOr s 0 w (Fault 20 0) (At e) → StartOr s n w other (record { scan = At e; name = name })
+  pub word-stood : (e : ℕ) (name : Code.NodeName) → name_of name ≡ n → NameOr s 0 w (Err (Fault 20 0)) (Ok e) → StartOr s n w other (Ok (e, name))
   word-stood e name q v = record {
-    out = ap (λ (m : NodeName). done m (drop e s)) q ∙ by_word (At e) v;
+    out = ap (λ (m : NodeName). done m (drop e s)) q ∙ by_word (Ok e) v;
     inside = λ i. v.inside 0 (omega arith) (omega arith, omega arith);
   }
 
   -- it does not
-  pub word-differed : (k q : ℕ) → NameOr s 0 w (Fault 20 0) (Fault k q) → StartOr s n w other other
-  word-differed k q v = record { out = by_word (Fault k q) v; inside = λ i. i }
+  pub word-differed : (k q : ℕ) → NameOr s 0 w (Err (Fault 20 0)) (Err (Fault k q)) → StartOr s n w other other
+  word-differed k q v = record { out = by_word (Err (Fault k q)) v; inside = λ i. i }
 
   -- the bytes end in it
-  pub word_cut : NameOr s 0 w (Fault 20 0) Cut → StartOr s n w other (no_name Cut)
-  word_cut v = record { out = by_word Cut v; inside = λ i. tt }
+  pub word_cut : NameOr s 0 w (Err (Fault 20 0)) (Err Cut) → StartOr s n w other (Err Cut)
+  word_cut v = record { out = by_word (Err Cut) v; inside = λ i. tt }
 
 -- ---- the names
 
 -- one name more, before those of p
-pub more-names : (p : Parser NodeName) (s w : List ℕ) (n : NodeName) (other r : StartStep) → StartReads p s other → StartOr s n w other r
+pub more-names : (p : Parser NodeName) (s w : List ℕ) (n : NodeName) (other r : Start) → StartReads p s other → StartOr s n w other r
     → StartReads (λ t. name_or n (p t) w t) s r
 more-names p s w n other r v x = record { out = x.out ∙ ap (λ (o : Out NodeName). name_or n o w s) v.out; inside = x.inside v.inside }
 
-pub no_names : (s : List ℕ) (r : StartStep) → r ≡ no_name (Fault 20 0) → StartReads (λ t. fault 20 t) s r
-no_names s r q = rw q (record { out = refl; inside = (omega arith, omega arith) })
+pub no_names : (s : List ℕ) → StartReads (λ t. fault 20 t) s (Err (Fault 20 0))
+no_names s = record { out = refl; inside = (omega arith, omega arith) }

@@ -6,9 +6,9 @@ use Rattle.process_list.specs.declared.CdlStyle.TheVariants.{Fwd}
 use Rattle.process_list.specs.declared.Kind.TheVariants.{Cdl}
 use Rattle.process_list.specs.declared.Node.{Node}
 use Rattle.process_list.specs.declared.ProcessList.{ProcessList}
-use Rattle.process_list.specs.declared.Verdict.{Verdict}
-use Rattle.process_list.specs.declared.Verdict.TheVariants.{TooManyNodes, IdSeen}
-use Rattle.process_list.specs.List.{Element, place_from, list_of, unplaced, blank_node}
+use Rattle.process_list.specs.declared.Unfit.TheVariants.{TooManyNodes, IdSeen}
+use Rattle.std.specs.Prelude.{Err}
+use Rattle.process_list.specs.List.{Verdict, Element, place_from, list_of, unplaced, blank_node}
 use Rattle.room.specs.Room.{Room, lent}
 use Rattle.valid.specs.Valid.{is_valid}
 use Rattle.clf.specs.Reading.{read, reading_number, reading_place, nodes_in}
@@ -242,4 +242,4 @@ unfoldable pub many_nodes : List (List Node)
 many_nodes = replicate 33 (cdl_node (held_id (bytes "a"))) ∷ replicate 32 (cdl_node (held_id (bytes "a"))) ∷ []
 
 unfoldable pub many_answers : List Verdict
-many_answers = TooManyNodes ∷ IdSeen 2 ∷ []
+many_answers = Err TooManyNodes ∷ Err (IdSeen 2) ∷ []

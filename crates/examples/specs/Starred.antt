@@ -2,8 +2,9 @@
 use Rattle.std.specs.Prelude.{true, false, List, [], ◌∷◌, map, ℕ, ℤ, pos, negsuc, Float}
 use Prim.Native.String.{String}
 use Rattle.decimal.specs.declared.Decimal.{Decimal}
-use Rattle.decimal.specs.declared.Token.{Token}
-use Rattle.decimal.specs.declared.Token.TheVariants.{Number, Malformed, OutOfBounds}
+use Rattle.decimal.specs.Decimal.{Token}
+use Rattle.std.specs.Prelude.{Ok, Err}
+use Rattle.decimal.specs.declared.NumberFault.TheVariants.{Malformed, OutOfBounds}
 use Rattle.decimal.specs.Decimal.{zero}
 use Rattle.decimal_read.specs.Number.{token_of}
 use Rattle.decimal_value.specs.Value.{value_of}
@@ -33,9 +34,9 @@ pub data Outcome : Type 0 where
 
 -- a token that says no number has the refusal that the only number of an element would have
 abbrev pub of_token : Token → Outcome
-of_token (Number d) = number d.coefficient d.power
-of_token Malformed = refusal (fault_of 1 any_number 0 Malformed)
-of_token OutOfBounds = refusal (fault_of 1 any_number 0 OutOfBounds)
+of_token (Ok d) = number d.coefficient d.power
+of_token (Err Malformed) = refusal (fault_of 1 any_number 0 (Err Malformed))
+of_token (Err OutOfBounds) = refusal (fault_of 1 any_number 0 (Err OutOfBounds))
 
 -- three components a pixel
 abbrev pub grey_pixel : Float → List Float
@@ -59,9 +60,9 @@ outcome (grey es x) = of_run es (grey_pixel x)
 -- ---- numbers and nodes of the questions
 
 abbrev pub of_number : Token → Decimal
-of_number (Number d) = d
-of_number Malformed = zero
-of_number OutOfBounds = zero
+of_number (Ok d) = d
+of_number (Err Malformed) = zero
+of_number (Err OutOfBounds) = zero
 
 -- the number that a text says, and its f64
 abbrev pub decimal : String → Decimal

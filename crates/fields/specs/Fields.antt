@@ -1,9 +1,15 @@
 -- What a field of a line is, and what number a word says. Assumes nothing.
-use Rattle.std.specs.Prelude.{cond, List, [], ◌∷◌, ℕ, ◌+◌, ◌-◌, ◌*◌, ◌^◌, min, eqb, ltb, length, drop}
+use Rattle.std.specs.Prelude.{◌≤◌, ◌<◌, max, slice_index, Bool, true, false, cond, List, [], ◌∷◌, ℕ, ◌+◌, ◌-◌, ◌*◌, ◌^◌, min, eqb, ltb, length, drop}
 use Prim.Native.Char.{code}
 use Rattle.fields.specs.declared.Field.{Field}
-use Rattle.fields.specs.declared.Parsed.{Parsed}
-use Rattle.fields.specs.declared.Parsed.TheVariants.{Number, Malformed}
+use Rattle.std.specs.Prelude.{Option, Some, None}
+
+-- r is the first place from `at` on whose byte passes a test, or the end of s: Tells b t says that the test of b answers t
+pub record FirstFrom (Tells : ℕ → Bool → Type 0) (s : List ℕ) (at r : ℕ) : Type 0 where
+  pub from : at ≤ r
+  pub within : r ≤ max at (length s)
+  pub before : (k : ℕ) → at ≤ k → k < r → k < length s → Tells (slice_index s k) false
+  pub found : r < length s → Tells (slice_index s r) true
 
 -- the place behind the spaces of l, which stands from `at` on
 unfoldable pub behind_spaces : ℕ → List ℕ → ℕ
@@ -30,10 +36,10 @@ unfoldable pub with_digit : ℕ → ℕ → ℕ
 with_digit n b = min (n * 10 + (b - code "0")) (2 ^ 64 - 1)
 
 -- digits alone say a number
-unfoldable pub number_from : ℕ → List ℕ → Parsed
-number_from n [] = Number n
-number_from n (b ∷ l) = cond (ltb b (code "0")) Malformed (cond (ltb (code "9") b) Malformed (number_from (with_digit n b) l))
+unfoldable pub number_from : ℕ → List ℕ → Option ℕ
+number_from n [] = Some n
+number_from n (b ∷ l) = cond (ltb b (code "0")) None (cond (ltb (code "9") b) None (number_from (with_digit n b) l))
 
 -- the number of a word of digits; a word of no bytes says none
-unfoldable pub word_number : List ℕ → Parsed
-word_number s = cond (eqb (length s) 0) Malformed (number_from 0 s)
+unfoldable pub word_number : List ℕ → Option ℕ
+word_number s = cond (eqb (length s) 0) None (number_from 0 s)

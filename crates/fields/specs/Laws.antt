@@ -2,7 +2,7 @@
 use Rattle.std.specs.Prelude.{◌≡◌, refl, cond, List, [], ◌∷◌, ℕ, ◌+◌, ◌≤◌, ◌<◌, length, drop, get_or, eqb, ltb}
 use Rattle.std.proofs.Common.{ap, sym, ◌∙◌, eq-eqb, ne_eqb, le-ltb}
 use Rattle.scanning.specs.Steps.{here}
-use Rattle.fields.specs.declared.Parsed.TheVariants.{Number, Malformed}
+use Rattle.std.specs.Prelude.{Some, None}
 use Rattle.fields.specs.Fields.{behind_spaces, before_space, number_from, word_number, with_digit}
 
 pub behind_spaces-nil : (at : ℕ) → behind_spaces at [] ≡ at
@@ -21,11 +21,11 @@ pub before_space-cons : (at b : ℕ) (l : List ℕ) → before_space at (b ∷ l
 unfolding before_space
 before_space-cons at b l = refl
 
-pub number_from-nil : (n : ℕ) → number_from n [] ≡ Number n
+pub number_from-nil : (n : ℕ) → number_from n [] ≡ Some n
 unfolding number_from
 number_from-nil n = refl
 
-pub number_from-cons : (n b : ℕ) (l : List ℕ) → number_from n (b ∷ l) ≡ cond (ltb b 48) Malformed (cond (ltb 57 b) Malformed (number_from (with_digit n b) l))
+pub number_from-cons : (n b : ℕ) (l : List ℕ) → number_from n (b ∷ l) ≡ cond (ltb b 48) None (cond (ltb 57 b) None (number_from (with_digit n b) l))
 unfolding number_from
 number_from-cons n b l = refl
 
@@ -35,7 +35,7 @@ pub ruleset before_space-laws = (before_space-nil, before_space-cons)
 
 pub ruleset number_from-laws = (number_from-nil, number_from-cons)
 
-pub no_word : (s : List ℕ) → length s ≡ 0 → Malformed ≡ word_number s
+pub no_word : (s : List ℕ) → length s ≡ 0 → None ≡ word_number s
 unfolding word_number
 no_word s h = rw (eq-eqb (length s) 0 h)
 

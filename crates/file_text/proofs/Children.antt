@@ -10,18 +10,19 @@ use lib.ListN.{drop}
 use Rattle.grammar.specs.Parse.{Out, Parser, bind_p, then_out, ret_p}
 use Rattle.grammar.specs.Grammar.{G, ret, seq, ◌>>◌}
 use Rattle.xml.specs.Bytes.{bytes, same}
-use Rattle.xml.specs.declared.Scan.{Scan}
-use Rattle.xml.specs.declared.Scan.TheVariants as Scans
+use Rattle.xml.specs.Code.{Scan}
+use Rattle.std.specs.Prelude.{Result, Ok, Err}
+use Rattle.xml.specs.declared.Stop.{Stop}
+use Rattle.xml.specs.declared.Stop.TheVariants as Stops
 use Rattle.xml.specs.Code.{scan_out, Inside, Reads, no_value}
 use Rattle.xml.specs.CodeLaws.{reads-ret}
 use Rattle.xml.specs.Elements.{text_element, info}
 use Rattle.decimal.specs.declared.Decimal.{Decimal}
-use Rattle.process_list.specs.declared.Node.{Node}
 use Rattle.room.specs.Room.{Room, laid_in}
 use Rattle.room.proofs.Rooms.{RoomFrom, from-refl, from-cleared, from-laid, laid-nothing}
 use Rattle.values.specs.Code.{room_after}
-use Rattle.node_parts.specs.declared.NodeStep.{NodeStep}
-use Rattle.node_parts.specs.Code.{NodeReads, AllNumbers, node_after}
+use Rattle.node_parts.specs.declared.NodeRead.{NodeRead}
+use Rattle.node_parts.specs.Code.{end_of, NodeOf, NodeReads, AllNumbers}
 use Rattle.nodes.specs.declared.CarriedNode.{CarriedNode}
 use Rattle.nodes.proofs.Carried.{carried-well}
 use Rattle.nodes.specs.declared.NodeName.{NodeName}
@@ -33,8 +34,8 @@ use Rattle.clf.specs.Reading.{with_child}
 use Rattle.file_text.specs.declared.Progress.{Progress}
 use Rattle.file_text.specs.declared.FoundChild.{FoundChild}
 use Rattle.file_text.specs.declared.FoundChild.TheVariants as Found
-use Rattle.file_text.specs.declared.ChildStep.{ChildStep}
-use Rattle.file_text.specs.Code.{flags_of, Counted, ChildLeaves, ChildReads, refused, read, found_child, node_found, once_child, CarriedReads, NodeChild, carried, other}
+use Rattle.file_text.specs.declared.ChildRead.{ChildRead}
+use Rattle.file_text.specs.Code.{flags_of, Counted, ChildLeaves, ChildReads, refused, read, found_child, child_end, child_by, node_by, once_child, CarriedReads, NodeChild, carried, other}
 use Rattle.file_text.proofs.Nodes.{numbers-one, counted-one, counted_none}
 
 -- ---- children that are not nodes
@@ -44,15 +45,18 @@ nothing-laid : (u : ℕ) (m : Room) → m ≡ laid_in u (all_numbers []) m
 unfolding all_numbers
 nothing-laid u m = sym (laid-nothing u m)
 
-leaves-room : (used : ℕ) (c : Child) (r : Scan) (m : Room) → with_child c [] ≡ [] → Lists.blank_node ≡ node_found c → ChildLeaves used c r (found_child c) Lists.blank_node m m
-leaves-room used c (Scans.At e) m q u = (
+leaves-room : (used : ℕ) (c : Child) (r : Scan) (m : Room) → with_child c [] ≡ [] → ChildLeaves used c (child_by r (found_child c)) m m
+leaves-room used c (Ok e) m q = (
   refl,
-  u,
   subst (λ (l : List Element). Counted l) (sym q) counted_none,
   subst (λ (l : List Element). m ≡ laid_in used (all_numbers l) m) (sym q) (nothing-laid used m),
 )
-leaves-room used c (Scans.Fault k p) m q u = from-refl used m
-leaves-room used c Scans.Cut m q u = from-refl used m
+leaves-room used c (Err x) m q = from-refl used m
+
+-- the place behind a child that reads so
+by-end : (r : Scan) (c : FoundChild) → child_end (child_by r c) ≡ r
+by-end (Ok i) c = refl
+by-end (Err x) c = refl
 
 -- ---- a child by the tests of its name
 
@@ -96,62 +100,70 @@ module _ (s w : List ℕ) (at e : ℕ) (p : Progress) (m : Room) (r : Scan) wher
   then-child : (b : Parser (Unit {0})) (c : Child) → Reads 1 b no_value s e r → scan_out (λ q. c) s r ≡ bind_p b (λ a. ret_p c) (drop e s)
   then-child b c h = (reads-ret b no_value c s e 1 r h).out
 
+  -- one that may stand there
+  whole : (k : Child) → child_fault (flags_of p) w ≡ 0 → scan_out (λ q. k) s r ≡ (child_body w).run (drop e s) → Inside 1 s e r
+      → with_child k [] ≡ [] → ChildReads s w at e p (child_by r (found_child k)) m m
+  whole k q z n y = let e₁ : child_end (child_by r (found_child k)) ≡ r = by-end r (found_child k) in read k q (ap (scan_out (λ x. k) s) e₁ ∙ z) (subst (λ (x : Scan). Inside 1 s e x) (sym e₁) n) (leaves-room p.used k r m y)
+
   pub child-description : is_d w ≡ true → Reads 1 (text_element w).run no_value s e r → ChildReads s w at e p (once_child at false r Found.Other) m m
   child-description t h =
-      read description (fault-by w true (is_i w) (is_o w) (is_f w) t refl refl refl (flags_of p))
+      whole description (fault-by w true (is_i w) (is_o w) (is_f w) t refl refl refl (flags_of p))
       (then-child (text_element w).run description h ∙ sym (body-by w true (is_i w) (is_o w) (is_f w) t refl refl refl (drop e s)))
-      h.inside (leaves-room p.used description r m refl refl)
+      h.inside refl
 
   -- one of those that may not repeat: the first, or another
   once : (k : Child) (b : Bool) → child_fault (flags_of p) w ≡ cond b 5 0 → scan_out (λ q. k) s r ≡ (child_body w).run (drop e s) → Inside 1 s e r
-      → with_child k [] ≡ [] → Lists.blank_node ≡ node_found k → ChildReads s w at e p (once_child at b r (found_child k)) m m
-  once k true q z n y u = refused 5 q (λ g. omega arith) refl refl
-  once k false q z n y u = read k q z n (leaves-room p.used k r m y u)
+      → with_child k [] ≡ [] → ChildReads s w at e p (once_child at b r (found_child k)) m m
+  once k true q z n y = refused 5 q (λ g. omega arith) refl refl
+  once k false q z n y = whole k q z n y
 
   pub child-input : is_d w ≡ false → is_i w ≡ true → Reads 1 (text_element w).run no_value s e r → ChildReads s w at e p (once_child at p.input r Found.InputDescriptor) m m
   child-input d t h =
       once input_descriptor p.input (fault-by w false true (is_o w) (is_f w) d t refl refl (flags_of p))
-      (then-child (text_element w).run input_descriptor h ∙ sym (body-by w false true (is_o w) (is_f w) d t refl refl (drop e s))) h.inside refl refl
+      (then-child (text_element w).run input_descriptor h ∙ sym (body-by w false true (is_o w) (is_f w) d t refl refl (drop e s))) h.inside refl
 
   pub child-output : is_d w ≡ false → is_i w ≡ false → is_o w ≡ true → Reads 1 (text_element w).run no_value s e r → ChildReads s w at e p (once_child at p.output r Found.OutputDescriptor) m m
   child-output d i t h =
       once output_descriptor p.output (fault-by w false false true (is_f w) d i t refl (flags_of p))
-      (then-child (text_element w).run output_descriptor h ∙ sym (body-by w false false true (is_f w) d i t refl (drop e s))) h.inside refl refl
+      (then-child (text_element w).run output_descriptor h ∙ sym (body-by w false false true (is_f w) d i t refl (drop e s))) h.inside refl
 
   pub child-info : is_d w ≡ false → is_i w ≡ false → is_o w ≡ false → is_f w ≡ true → Reads 1 info.run no_value s e r → ChildReads s w at e p (once_child at p.info r Found.Info) m m
   child-info d i o t h =
       once info_child p.info (fault-by w false false false true d i o t (flags_of p))
-      (then-child info.run info_child h ∙ sym (body-by w false false false true d i o t (drop e s))) h.inside refl refl
+      (then-child info.run info_child h ∙ sym (body-by w false false false true d i o t (drop e s))) h.inside refl
 
 -- ---- nodes
 
 node-value : (q : Parser Element) (v : Element) (s : List ℕ) (e : ℕ) (r : Scan) → scan_out (λ x. v) s r ≡ q (drop e s) → scan_out (λ x. node v) s r ≡ bind_p q (λ m. ret_p (node m)) (drop e s)
-node-value q v s e (Scans.At i) z = ap (λ (o : Out Element). then_out o (λ m. ret_p (node m))) z
-node-value q v s e (Scans.Fault k i) z = ap (λ (o : Out Element). then_out o (λ m. ret_p (node m))) z
-node-value q v s e Scans.Cut z = ap (λ (o : Out Element). then_out o (λ m. ret_p (node m))) z
+node-value q v s e (Ok i) z = ap (λ (o : Out Element). then_out o (λ m. ret_p (node m))) z
+node-value q v s e (Err (Stops.Fault k i)) z = ap (λ (o : Out Element). then_out o (λ m. ret_p (node m))) z
+node-value q v s e (Err Stops.Cut) z = ap (λ (o : Out Element). then_out o (λ m. ret_p (node m))) z
+
+-- the place behind a node is that behind the child
+node-end : (r : Result NodeRead Stop) → child_end (node_by r) ≡ end_of r
+node-end (Ok n) = refl
+node-end (Err x) = refl
 
 -- what a node leaves, by its answer
-node-leaves : (used : ℕ) (n : Node) (v : Element) (r : Scan) (m₁ m₂ : Room) → n ≡ node_after r v → AllNumbers r v → m₂ ≡ room_after used r v.numbers m₁
-    → ChildLeaves used (node v) r Found.Node n m₁ m₂
-node-leaves used n v (Scans.At e) m₁ m₂ q k z = (
-  refl,
-  q,
+node-leaves : (used : ℕ) (v : Element) (r : Result NodeRead Stop) (m₁ m₂ : Room) → NodeOf r v → AllNumbers (end_of r) v → m₂ ≡ room_after used (end_of r) v.numbers m₁
+    → ChildLeaves used (node v) (node_by r) m₁ m₂
+node-leaves used v (Ok n) m₁ m₂ q k z = (
+  ap Found.Node q,
   counted-one v k,
   z ∙ ap (λ (xs : List Decimal). laid_in used xs m₁) (sym (numbers-one v)),
 )
-node-leaves used n v (Scans.Fault j p) m₁ m₂ q k z = subst (λ (m : Room). RoomFrom used m₁ m) (sym z) (from-cleared used used m₁ (omega arith))
-node-leaves used n v Scans.Cut m₁ m₂ q k z = subst (λ (m : Room). RoomFrom used m₁ m) (sym z) (from-cleared used used m₁ (omega arith))
+node-leaves used v (Err x) m₁ m₂ q k z = subst (λ (m : Room). RoomFrom used m₁ m) (sym z) (from-cleared used used m₁ (omega arith))
 
-module _ (s w : List ℕ) (at e : ℕ) (p : Progress) (r : ChildStep) (name : NodeName) (m₁ m₂ : Room)
+module _ (s w : List ℕ) (at e : ℕ) (p : Progress) (r : Result ChildRead Stop) (name : NodeName) (m₁ m₂ : Room)
     (d : is_d w ≡ false) (i : is_i w ≡ false) (o : is_o w ≡ false) (f : is_f w ≡ false) (nm : name_of name ≡ node_name w) where
   read-node : (n : CarriedNode) → node_name w ≡ carried_of n → CarriedReads s e n p.used r m₁ m₂ → ChildReads s w at e p r m₁ m₂
   read-node n q h =
       let v : NodeReads (node_body (carried_of n)).run s e p.used h.node m₁ m₂ = h.reads in
-      subst (λ (x : ChildStep). ChildReads s w at e p x m₁ m₂) (sym h.is)
+      subst (λ (x : Result ChildRead Stop). ChildReads s w at e p x m₁ m₂) (sym h.is)
       (read (node v.value) (fault-by w false false false false d i o f (flags_of p) ∙ ap node_fault q ∙ carried-well n)
-      (node-value (node_body (carried_of n)).run v.value s e h.node.scan v.out
+      (ap (scan_out (λ x. node v.value) s) (node-end h.node) ∙ node-value (node_body (carried_of n)).run v.value s e (end_of h.node) v.out
       ∙ sym (body-by w false false false false d i o f (drop e s) ∙ ap (λ (x : Names.NodeName). bind_p (node_body x).run (λ m. ret_p (node m)) (drop e s)) q))
-      v.inside (node-leaves p.used h.node.node v.value h.node.scan m₁ m₂ v.node v.all v.room))
+      (subst (λ (x : Scan). Inside 1 s e x) (sym (node-end h.node)) v.inside) (node-leaves p.used v.value h.node m₁ m₂ v.node v.all v.room))
 
   pub child-node : NodeChild s at e name p.used r m₁ m₂ → ChildReads s w at e p r m₁ m₂
   child-node (carried n q h) = read-node n (sym nm ∙ q) h
@@ -160,28 +172,26 @@ module _ (s w : List ℕ) (at e : ℕ) (p : Progress) (r : ChildStep) (name : No
 -- ---- the slices keep their lengths
 
 roomed : (base : ℕ) (r : Scan) (xs : List Decimal) (m₁ m₂ : Room) → m₂ ≡ room_after base r xs m₁ → RoomFrom base m₁ m₂
-roomed base (Scans.At e) xs m₁ m₂ z = subst (λ (m : Room). RoomFrom base m₁ m) (sym z) (from-laid base base xs m₁ (omega arith))
-roomed base (Scans.Fault k p) xs m₁ m₂ z = subst (λ (m : Room). RoomFrom base m₁ m) (sym z) (from-cleared base base m₁ (omega arith))
-roomed base Scans.Cut xs m₁ m₂ z = subst (λ (m : Room). RoomFrom base m₁ m) (sym z) (from-cleared base base m₁ (omega arith))
+roomed base (Ok e) xs m₁ m₂ z = subst (λ (m : Room). RoomFrom base m₁ m) (sym z) (from-laid base base xs m₁ (omega arith))
+roomed base (Err x) xs m₁ m₂ z = subst (λ (m : Room). RoomFrom base m₁ m) (sym z) (from-cleared base base m₁ (omega arith))
 
-pub node-room : {p : Parser Element} {s : List ℕ} {e base : ℕ} {n : NodeStep} {m₁ m₂ : Room} → NodeReads p s e base n m₁ m₂ → RoomFrom base m₁ m₂
-node-room {base = base} {n = n} {m₁ = m₁} {m₂ = m₂} h = roomed base n.scan h.value.numbers m₁ m₂ h.room
+pub node-room : {p : Parser Element} {s : List ℕ} {e base : ℕ} {n : Result NodeRead Stop} {m₁ m₂ : Room} → NodeReads p s e base n m₁ m₂ → RoomFrom base m₁ m₂
+node-room {base = base} {n = n} {m₁ = m₁} {m₂ = m₂} h = roomed base (end_of n) h.value.numbers m₁ m₂ h.room
 
-pub carried-room : {s : List ℕ} {e : ℕ} {n : CarriedNode} {used : ℕ} {r : ChildStep} {m₁ m₂ : Room} → CarriedReads s e n used r m₁ m₂ → RoomFrom used m₁ m₂
+pub carried-room : {s : List ℕ} {e : ℕ} {n : CarriedNode} {used : ℕ} {r : Result ChildRead Stop} {m₁ m₂ : Room} → CarriedReads s e n used r m₁ m₂ → RoomFrom used m₁ m₂
 carried-room h = node-room h.reads
 
 same_from : (base : ℕ) (m₁ m₂ : Room) → m₂ ≡ m₁ → RoomFrom base m₁ m₂
 same_from base m₁ m₂ e = subst (λ (m : Room). RoomFrom base m₁ m) (sym e) (from-refl base m₁)
 
-pub child-by-node : {s : List ℕ} {at e : ℕ} {name : NodeName} {used : ℕ} {r : ChildStep} {m₁ m₂ : Room} → NodeChild s at e name used r m₁ m₂ → RoomFrom used m₁ m₂
+pub child-by-node : {s : List ℕ} {at e : ℕ} {name : NodeName} {used : ℕ} {r : Result ChildRead Stop} {m₁ m₂ : Room} → NodeChild s at e name used r m₁ m₂ → RoomFrom used m₁ m₂
 child-by-node (carried n q h) = carried-room h
 child-by-node {used = used} {m₁ = m₁} {m₂ = m₂} (other k q z x y) = same_from used m₁ m₂ y
 
-leaves-from : (used : ℕ) (c : Child) (r : Scan) (found : FoundChild) (n : Node) (m₁ m₂ : Room) → ChildLeaves used c r found n m₁ m₂ → RoomFrom used m₁ m₂
-leaves-from used c (Scans.At e) found n m₁ m₂ h = subst (λ (m : Room). RoomFrom used m₁ m) (sym h.3) (from-laid used used (all_numbers (with_child c [])) m₁ (omega arith))
-leaves-from used c (Scans.Fault k p) found n m₁ m₂ h = h
-leaves-from used c Scans.Cut found n m₁ m₂ h = h
+leaves-from : (used : ℕ) (c : Child) (r : Result ChildRead Stop) (m₁ m₂ : Room) → ChildLeaves used c r m₁ m₂ → RoomFrom used m₁ m₂
+leaves-from used c (Ok r) m₁ m₂ h = subst (λ (m : Room). RoomFrom used m₁ m) (sym h.2) (from-laid used used (all_numbers (with_child c [])) m₁ (omega arith))
+leaves-from used c (Err x) m₁ m₂ h = h
 
-pub child-room : (s w : List ℕ) (at e : ℕ) (p : Progress) (r : ChildStep) (m₁ m₂ : Room) → ChildReads s w at e p r m₁ m₂ → RoomFrom p.used m₁ m₂
+pub child-room : (s w : List ℕ) (at e : ℕ) (p : Progress) (r : Result ChildRead Stop) (m₁ m₂ : Room) → ChildReads s w at e p r m₁ m₂ → RoomFrom p.used m₁ m₂
 child-room s w at e p r m₁ m₂ (refused k f z y o) = same_from p.used m₁ m₂ o
-child-room s w at e p r m₁ m₂ (read c f z b y) = leaves-from p.used c r.scan r.child r.node m₁ m₂ y
+child-room s w at e p r m₁ m₂ (read c f z b y) = leaves-from p.used c r m₁ m₂ y

@@ -22,7 +22,7 @@ use Rattle.clf.proofs.Whole.{nodes-more, span-old, span-new}
 use Rattle.process_list.specs.declared.Node.{Node}
 use Rattle.file_text.specs.declared.ListState.{ListState}
 use Rattle.file_text.specs.declared.Progress.{Progress}
-use Rattle.file_text.specs.Code.{bare, state_with, state_from, flags_of, state_by, no_list, flagged, wanted_start, is_over, behind_node, behind_child, list_with, found_child, node_found}
+use Rattle.file_text.specs.Code.{bare, state_with, state_from, flags_of, state_by, no_list, flagged, wanted_start, is_over, behind_node, behind_child, list_with, found_child}
 use Rattle.file_text.proofs.Nodes.{list-one, used-one, bare-length}
 
 -- ---- items with the same nodes
@@ -190,8 +190,8 @@ module _ (wanted at : ℕ) (l : List (Part Child × List ℕ)) where
 
   -- a child, whose `<` stands at i
   pub state-child : (list : ProcessList) (p : Progress) (i : ℕ) (c : Child) (b : List ℕ) → i ≡ at + length (flat l) → state_by list p ≡ state_from wanted at (flags_of p, l)
-      → state_by (list_with list (found_child c) (node_found c)) (behind_child p (found_child c) (node_found c) list.count wanted i)
-      ≡ state_from wanted at (flags_of (behind_child p (found_child c) (node_found c) list.count wanted i), l ++ (child c, b) ∷ [])
+      → state_by (list_with list (found_child c)) (behind_child p (found_child c) list.count wanted i)
+      ≡ state_from wanted at (flags_of (behind_child p (found_child c) list.count wanted i), l ++ (child c, b) ∷ [])
   unfolding state_from behind_node
   state-child list p i (node v) b q e =
       ap (λ (x : ListState). node_state x (Lists.node_of v) wanted i) e ∙ grown (flags_of p) (nodes_among l) (place_among wanted at l) wanted i v
@@ -206,7 +206,7 @@ module _ (wanted at : ℕ) (l : List (Part Child × List ℕ)) where
       with-flags list p p.input p.output true e ∙ other (flags_of (flagged p p.input p.output true)) (child info_child, b) (nodes-child l info_child b ∙ append-nil (nodes_among l))
 
 -- the flags behind a child
-pub flags-child : (p : Progress) (count wanted i : ℕ) (c : Child) → next_flags (flags_of p) (child c) ≡ again (flags_of (behind_child p (found_child c) (node_found c) count wanted i))
+pub flags-child : (p : Progress) (count wanted i : ℕ) (c : Child) → next_flags (flags_of p) (child c) ≡ again (flags_of (behind_child p (found_child c) count wanted i))
 unfolding behind_node
 flags-child p count wanted i (node v) = refl
 flags-child p count wanted i description = refl

@@ -7,8 +7,9 @@ use lib.ListN.{drop}
 use Rattle.grammar.specs.Parse.{Out, done, fault, cut, before, then_out, bind_p, ret_p, kept_out}
 use Rattle.grammar.specs.Laws.{nope}
 use Rattle.xml.specs.Xml.{Tag, start_tag}
-use Rattle.xml.specs.declared.Scan.{Scan}
-use Rattle.xml.specs.declared.Scan.TheVariants as Scans
+use Rattle.xml.specs.Code.{Scan}
+use Rattle.std.specs.Prelude.{Ok, Err}
+use Rattle.xml.specs.declared.Stop.TheVariants as Stops
 use Rattle.xml.specs.Code.{scan_out}
 use Rattle.xml.specs.Elements.{Part}
 use Rattle.clf.specs.List.{Child, list_rules, list_content, head, Document, document, tail}
@@ -50,9 +51,9 @@ text-nodes s l r q = by (document.run s) refl q
     by cut e z = nope cc
 
 pub out-whole : (s : List ℕ) (l : List Element) (r : Scan) → scan_out (λ e. l) s r ≡ text_nodes s → scan_out (λ e. whole_nodes s) s r ≡ text_nodes s
-out-whole s l (Scans.At e) q = ap (λ (x : List Element). done x (drop e s)) (sym (text-nodes s l (drop e s) q)) ∙ q
-out-whole s l (Scans.Fault k p) q = q
-out-whole s l Scans.Cut q = q
+out-whole s l (Ok e) q = ap (λ (x : List Element). done x (drop e s)) (sym (text-nodes s l (drop e s) q)) ∙ q
+out-whole s l (Err (Stops.Fault k p)) q = q
+out-whole s l (Err Stops.Cut) q = q
 
 module _ (s : List ℕ) where
   pub head-failed : (o : Out (Unit {0})) → before_root s ≡ o → head.run s ≡ then_out o (λ u. (start_tag list_rules).run)

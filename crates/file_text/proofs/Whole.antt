@@ -1,27 +1,23 @@
 -- ProcessList by its start tag, and the whole text. Assumes nothing.
 use Rattle.process_list.specs.List.{Element}
 use mathlib.Core.Path.{◌≡◌, refl, sym, ap, ◌∙◌, subst}
+use mathlib.Core.Bool.{true, false}
 use mathlib.Core.List.{List, []}
 use Prim.Native.Nat.{ℕ, ◌≤◌, min}
 use native.Mathlib.Omega.{arith}
 use lib.ListN.{drop, length-drop}
 use Rattle.grammar.specs.Parse.{Out, done, fault, cut, Parser, then_out}
 use Rattle.grammar.specs.Grammar.{whole_items}
-use Rattle.xml.specs.Xml.{Tag, start_tag}
+use Rattle.xml.specs.Xml.{Attribute, Tag, start_tag}
 use Rattle.xml.specs.Elements.{Part}
-use Rattle.xml.specs.declared.Scan.{Scan}
-use Rattle.xml.specs.declared.Scan.TheVariants as Scans
-use Rattle.xml.specs.Code.{scan_out, Inside, Reads, ReadsFrom, no_value, Failed}
+use Rattle.xml.specs.Code.{Scan}
+use Rattle.std.specs.Prelude.{Ok, Err}
+use Rattle.xml.specs.declared.Stop.{Stop}
+use Rattle.xml.specs.declared.Stop.TheVariants as Stops
+use Rattle.xml.specs.Code.{scan_out, Inside, Reads, ReadsFrom, no_value}
 use Rattle.process_list.specs.List as Lists
 use Rattle.room.specs.Room.{Room, room_length, cleared_in, cleared_from}
 use Rattle.room.proofs.Rooms.{RoomFrom, from-trans, from-cleared}
-use Rattle.tags.specs.declared.TagKind.TheVariants as Kinds
-use Rattle.tags.specs.declared.TagEnd.{TagEnd}
-use Rattle.tags.specs.declared.TagEnd.TheVariants as Ends
-use Rattle.tags.specs.declared.Attributes.{Attributes}
-use Rattle.tags.specs.Rules.{rules_of}
-use Rattle.tags.specs.Code.{end_out, EndInside}
-use Rattle.tags.specs.Places.{attribute_places}
 use Rattle.around_root.specs.Code.{before_root}
 use Rattle.clf.specs.List.{Child, list_item, next_flags, no_flags, list_rules, list_content, head, tail}
 use Rattle.clf.specs.Reading.{nodes_among}
@@ -55,68 +51,54 @@ items-size {whole = w} {m₀ = m₀} {m₁ = m₁} h = holds-size (nodes_among w
 
 -- ---- ProcessList by its start tag
 
-module _ (wanted : ℕ) (s : List ℕ) (at : ℕ) (attributes : Attributes) (m₀ : Room) where
+module _ (wanted : ℕ) (s : List ℕ) (at : ℕ) (m₀ : Room) where
   -- the start tag, as the definition reads it
-  abbrev tag_out : Out Tag
-  tag_out = (start_tag list_rules).run (drop at s)
-
-  -- what the code answered for it
-  abbrev Tagged : TagEnd → Type 0
-  Tagged t =
-      (end_out s attributes t ≡ (start_tag (rules_of Kinds.ProcessList)).run (drop at s))
-      × EndInside s at t
-      × (attributes ≡ attribute_places s at ((start_tag (rules_of Kinds.ProcessList)).run (drop at s)))
+  abbrev read_tag : Out Tag
+  read_tag = (start_tag list_rules).run (drop at s)
 
   abbrev RootReads : ListStep → Room → Type 0
-  RootReads r m₁ = ItemsRead wanted root_p (whole_behind tag_out) (behind_head s tag_out) s at r m₀ m₁
-
-  plain : (t : TagEnd) → Tagged t → end_out s attributes t ≡ tag_out
-  unfolding rules_of
-  plain t h = h.0
+  RootReads r m₁ = ItemsRead wanted root_p (whole_behind read_tag) (behind_head s read_tag) s at r m₀ m₁
 
   later : (q : ℕ) (r : Scan) → at ≤ q → Inside 0 s q r → Inside 0 s at r
-  later q (Scans.At e) h b = (omega (arith, b.0), b.1)
-  later q (Scans.Fault k e) h b = (omega (arith, b.0), b.1)
-  later q Scans.Cut h b = tt
+  later q (Ok e) h b = (omega (arith, b.0), b.1)
+  later q (Err (Stops.Fault k e)) h b = (omega (arith, b.0), b.1)
+  later q (Err Stops.Cut) h b = tt
 
-  pub root-open : (q : ℕ) (r : ListStep) (m₁ : Room) → Tagged (Ends.Open q) → ContentReads wanted s q r m₀ m₁ → RootReads r m₁
-  root-open q r m₁ t h =
-      let e : end_out s attributes (Ends.Open q) ≡ tag_out = plain (Ends.Open q) t in
-      let w : whole_items list_item next_flags no_flags (drop q s) ≡ whole_behind tag_out = ap whole_behind e in
-      let p : q ≡ behind_head s tag_out = omega (arith, t.1.1, length-drop q s) ∙ ap (behind_head s) e in
+  pub root-open : (a : List Attribute) (q : ℕ) (r : ListStep) (m₁ : Room) → Reads 1 (start_tag list_rules).run (λ i. record { attributes = a; empty = false }) s at (Ok q)
+      → ContentReads wanted s q r m₀ m₁ → RootReads r m₁
+  root-open a q r m₁ t h =
+      let w : whole_items list_item next_flags no_flags (drop q s) ≡ whole_behind read_tag = ap whole_behind t.out in
+      let p : q ≡ behind_head s read_tag = omega (arith, t.inside.1, length-drop q s) ∙ ap (behind_head s) t.out in
       record {
         parts = h.parts;
-        out = h.out ∙ ap (λ (x : Out Tag). then_out x (λ tag. (list_content tag).run)) e;
-        inside = later q r.scan (omega (arith, t.1.0)) h.inside;
-        state = h.state ∙ ap (λ (a : ℕ). state_from wanted a (whole_items list_item next_flags no_flags (drop q s))) p ∙ ap (state_from wanted (behind_head s tag_out)) w;
+        out = h.out ∙ ap (λ (x : Out Tag). then_out x (λ tag. (list_content tag).run)) t.out;
+        inside = later q r.scan (omega (arith, t.inside.0)) h.inside;
+        state = h.state ∙ ap (λ (a : ℕ). state_from wanted a (whole_items list_item next_flags no_flags (drop q s))) p ∙ ap (state_from wanted (behind_head s read_tag)) w;
         counted = subst (λ (x : WholeText). Counted (nodes_among x.1)) w h.counted;
         room = subst (λ (x : WholeText). Holds (nodes_among x.1) m₀ m₁) w h.room;
       }
 
   -- it is empty, at fault or cut
-  alone : (t : TagEnd) (r : Scan) → Tagged t → whole_behind (end_out s attributes t) ≡ nothing_whole → scan_out (λ e. []) s r ≡ then_out (end_out s attributes t) (λ tag. (list_content tag).run)
+  alone : (o : Out Tag) (r : Scan) → o ≡ read_tag → whole_behind o ≡ nothing_whole → scan_out (λ e. []) s r ≡ then_out o (λ tag. (list_content tag).run)
       → Inside 0 s at r
       → RootReads (step r no_list) m₀
-  alone t r h n z b =
-      let e : end_out s attributes t ≡ tag_out = plain t h in
-      let w : whole_behind tag_out ≡ nothing_whole = ap whole_behind (sym e) ∙ n in
+  alone o r e n z b =
+      let w : whole_behind read_tag ≡ nothing_whole = ap whole_behind (sym e) ∙ n in
       record {
         parts = [];
         out = z ∙ ap (λ (x : Out Tag). then_out x (λ tag. (list_content tag).run)) e;
         inside = b;
-        state = none-state wanted (behind_head s tag_out) (whole_behind tag_out) w;
-        counted = none-counted (whole_behind tag_out) w;
-        room = none-holds (whole_behind tag_out) m₀ w;
+        state = none-state wanted (behind_head s read_tag) (whole_behind read_tag) w;
+        counted = none-counted (whole_behind read_tag) w;
+        room = none-holds (whole_behind read_tag) m₀ w;
       }
 
-  pub root-empty : (q : ℕ) → Tagged (Ends.Empty q) → RootReads (step (Scans.At q) no_list) m₀
-  root-empty q t = alone (Ends.Empty q) (Scans.At q) t refl refl (omega (arith, t.1.0), t.1.1)
+  pub root-empty : (a : List Attribute) (q : ℕ) → Reads 1 (start_tag list_rules).run (λ i. record { attributes = a; empty = true }) s at (Ok q) → RootReads (step (Ok q) no_list) m₀
+  root-empty a q t = alone (done (record { attributes = a; empty = true }) (drop q s)) (Ok q) t.out refl refl (omega (arith, t.inside.0), t.inside.1)
 
-  pub root-bad : (k q : ℕ) → Tagged (Ends.Fault k q) → RootReads (step (Scans.Fault k q) no_list) m₀
-  root-bad k q t = alone (Ends.Fault k q) (Scans.Fault k q) t refl refl t.1
-
-  pub root-cut : Tagged Ends.Cut → RootReads (step Scans.Cut no_list) m₀
-  root-cut t = alone Ends.Cut Scans.Cut t refl refl tt
+  pub root-stop : (value : ℕ → Tag) (x : Stop) → Reads 1 (start_tag list_rules).run value s at (Err x) → RootReads (step (Err x) no_list) m₀
+  root-stop value (Stops.Fault k q) t = alone (fault k (drop q s)) (Err (Stops.Fault k q)) t.out refl refl t.inside
+  root-stop value Stops.Cut t = alone cut (Err Stops.Cut) t.out refl refl tt
 
 -- ---- the whole text
 
@@ -141,12 +123,11 @@ module _ (wanted : ℕ) (s : List ℕ) (m₀ : Room) where
       let w : whole_text s ≡ nothing_whole = head-whole s _ (head-failed s o q) ∙ n in
       record { out = z; inside = b; state = none-state wanted (content_place s) (whole_text s) w; counted = none-counted (whole_text s) w; room = none-holds (whole_text s) m₀ w }
 
-  pub no-root : (r : Scan) → Failed r → Reads 1 before_root no_value s 0 r → TextReads wanted s (step r no_list) m₀ m₀
-  no-root (Scans.Fault k q) f h = lost (Scans.Fault k q) (fault k (drop q s)) (sym h.out) refl (sym (before-fault s k (drop q s) (sym h.out))) h.inside
-  no-root Scans.Cut f h = lost Scans.Cut cut (sym h.out) refl (sym (before-cut s (sym h.out))) tt
-  no-root (Scans.At e) f h = absurd f
+  pub no-root : (x : Stop) → Reads 1 before_root no_value s 0 (Err x) → TextReads wanted s (step (Err x) no_list) m₀ m₀
+  no-root (Stops.Fault k q) h = lost (Err (Stops.Fault k q)) (fault k (drop q s)) (sym h.out) refl (sym (before-fault s k (drop q s) (sym h.out))) h.inside
+  no-root Stops.Cut h = lost (Err Stops.Cut) cut (sym h.out) refl (sym (before-cut s (sym h.out))) tt
 
-  module _ (e : ℕ) (h : Reads 1 before_root no_value s 0 (Scans.At e)) (m₁ : Room) where
+  module _ (e : ℕ) (h : Reads 1 before_root no_value s 0 (Ok e)) (m₁ : Room) where
     found : before_root s ≡ done tt (drop e s)
     found = sym h.out
 
@@ -166,27 +147,27 @@ module _ (wanted : ℕ) (s : List ℕ) (m₀ : Room) where
           room = subst (λ (x : WholeText). Holds (nodes_among x.1) m₀ m₁) (sym w) g.room;
         }
 
-    failed-go : (r : Scan) (x : ListState) → Failed r → RootRead (step r x) → TextReads wanted s (step r x) m₀ m₁
-    failed-go (Scans.Fault k q) x f v =
-        behind (step (Scans.Fault k q) x) (Scans.Fault k q) v [] (sym (root-fault s (drop e s) found k (drop q s) (sym v.out))) (omega arith, v.inside.1)
-    failed-go Scans.Cut x f v = behind (step Scans.Cut x) Scans.Cut v [] (sym (root-short s (drop e s) found (sym v.out))) tt
-    failed-go (Scans.At q) x f v = absurd f
+    failed-go : (x : Stop) (y : ListState) → RootRead (step (Err x) y) → TextReads wanted s (step (Err x) y) m₀ m₁
+    failed-go (Stops.Fault k q) y v =
+        behind (step (Err (Stops.Fault k q)) y) (Err (Stops.Fault k q)) v [] (sym (root-fault s (drop e s) found k (drop q s) (sym v.out))) (omega arith, v.inside.1)
+    failed-go Stops.Cut y v = behind (step (Err Stops.Cut) y) (Err Stops.Cut) v [] (sym (root-short s (drop e s) found (sym v.out))) tt
 
-    pub root-failed : (r : ListStep) → Failed r.scan → RootRead r → TextReads wanted s r m₀ m₁
-    root-failed r f v = failed-go r.scan r.state f v
+    pub root-failed : (x : Stop) (r : ListStep) → r.scan ≡ Err x → RootRead r → TextReads wanted s r m₀ m₁
+    root-failed x r q v =
+        subst (λ (y : Scan). TextReads wanted s (step y r.state) m₀ m₁) (sym q) (failed-go x r.state (subst (λ (y : Scan). RootRead (step y r.state)) q v))
 
-    whole : (q : ℕ) (x : ListState) (t : Scan) → RootRead (step (Scans.At q) x) → ReadsFrom 0 tail no_value s q t → TextReads wanted s (step t x) m₀ m₁
+    whole : (q : ℕ) (x : ListState) (t : Scan) → RootRead (step (Ok q) x) → ReadsFrom 0 tail no_value s q t → TextReads wanted s (step t x) m₀ m₁
     whole q x t v z = by t z.out (z.inside v.inside.1)
       where
         text : (o : Out (Unit {0})) → o ≡ tail (drop q s) → then_out o (λ u r. done (nodes_among v.parts) r) ≡ text_nodes s
         text o y = ap (λ (a : Out (Unit {0})). then_out a (λ u r. done (nodes_among v.parts) r)) y ∙ sym (root-done s (drop e s) found v.parts (drop q s) (sym v.out))
 
         by : (r : Scan) → scan_out no_value s r ≡ tail (drop q s) → Inside 0 s q r → TextReads wanted s (step r x) m₀ m₁
-        by (Scans.At i) y b = behind (step (Scans.At q) x) (Scans.At i) v (nodes_among v.parts) (text (done tt (drop i s)) y) (omega arith, b.1)
-        by (Scans.Fault k i) y b = behind (step (Scans.At q) x) (Scans.Fault k i) v (nodes_among v.parts) (text (fault k (drop i s)) y) (omega arith, b.1)
-        by Scans.Cut y b = behind (step (Scans.At q) x) Scans.Cut v (nodes_among v.parts) (text cut y) tt
+        by (Ok i) y b = behind (step (Ok q) x) (Ok i) v (nodes_among v.parts) (text (done tt (drop i s)) y) (omega arith, b.1)
+        by (Err (Stops.Fault k i)) y b = behind (step (Ok q) x) (Err (Stops.Fault k i)) v (nodes_among v.parts) (text (fault k (drop i s)) y) (omega arith, b.1)
+        by (Err Stops.Cut) y b = behind (step (Ok q) x) (Err Stops.Cut) v (nodes_among v.parts) (text cut y) tt
 
-    pub text-whole : (q : ℕ) (r : ListStep) (t : Scan) → r.scan ≡ Scans.At q → RootRead r → ReadsFrom 0 tail no_value s q t → TextReads wanted s (step t r.state) m₀ m₁
+    pub text-whole : (q : ℕ) (r : ListStep) (t : Scan) → r.scan ≡ Ok q → RootRead r → ReadsFrom 0 tail no_value s q t → TextReads wanted s (step t r.state) m₀ m₁
     text-whole q r t y v z = whole q r.state t (subst (λ (d : Scan). RootRead (step d r.state)) y v) z
 
 -- ---- the rest of the room cleared

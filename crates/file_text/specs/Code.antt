@@ -4,8 +4,10 @@ use Rattle.std.specs.Prelude.{◌≡◌, Bool, true, false, cond, List, [], map,
 use Rattle.decimal.specs.declared.Decimal.{Decimal}
 use Rattle.grammar.specs.Parse.{Out, done, then_out, Parser}
 use Rattle.grammar.specs.Grammar.{items, whole_items}
-use Rattle.xml.specs.declared.Scan.{Scan}
-use Rattle.xml.specs.declared.Scan.TheVariants as Scans
+use Rattle.xml.specs.Code.{Scan}
+use Rattle.std.specs.Prelude.{Result, Ok, Err}
+use Rattle.xml.specs.declared.Stop.{Stop}
+use Rattle.xml.specs.declared.Stop.TheVariants as Stops
 use Rattle.xml.specs.Code.{scan_out, Inside}
 use Rattle.xml.specs.Elements.{Part}
 use Rattle.process_list.specs.declared.Node.{Node}
@@ -13,7 +15,7 @@ use Rattle.process_list.specs.declared.ProcessList.{ProcessList}
 use Rattle.process_list.specs.List as Lists
 use Rattle.room.specs.Room.{Room, room_length, laid_in, filled_with}
 use Rattle.room.proofs.Rooms.{RoomFrom}
-use Rattle.node_parts.specs.declared.NodeStep.{NodeStep}
+use Rattle.node_parts.specs.declared.NodeRead.{NodeRead}
 use Rattle.node_parts.specs.Code.{NodeReads}
 use Rattle.nodes.specs.declared.CarriedNode.{CarriedNode}
 use Rattle.nodes.specs.declared.NodeName.{NodeName}
@@ -28,7 +30,7 @@ use Rattle.file_text.specs.declared.ListStep.{ListStep}
 use Rattle.file_text.specs.declared.Progress.{Progress}
 use Rattle.file_text.specs.declared.FoundChild.{FoundChild}
 use Rattle.file_text.specs.declared.FoundChild.TheVariants as Found
-use Rattle.file_text.specs.declared.ChildStep.{ChildStep}
+use Rattle.file_text.specs.declared.ChildRead.{ChildRead}
 use Rattle.refusals.specs.Refusals as Refusal
 
 -- the nodes of a text without fault, or its fault
@@ -156,69 +158,67 @@ behind_node p n count wanted at = record {
   start = wanted_start count wanted p.start at;
 }
 
--- one child more behind `count` nodes, whose `<` stands at `at` and which has the node n if it is one
-abbrev pub behind_child : Progress → FoundChild → Node → ℕ → ℕ → ℕ → Progress
-behind_child p Found.Node n count wanted at = behind_node p n count wanted at
-behind_child p Found.InputDescriptor n count wanted at = flagged p true p.output p.info
-behind_child p Found.OutputDescriptor n count wanted at = flagged p p.input true p.info
-behind_child p Found.Info n count wanted at = flagged p p.input p.output true
-behind_child p Found.Other n count wanted at = p
+-- one child more behind `count` nodes, whose `<` stands at `at`
+abbrev pub behind_child : Progress → FoundChild → ℕ → ℕ → ℕ → Progress
+behind_child p (Found.Node n) count wanted at = behind_node p n count wanted at
+behind_child p Found.InputDescriptor count wanted at = flagged p true p.output p.info
+behind_child p Found.OutputDescriptor count wanted at = flagged p p.input true p.info
+behind_child p Found.Info count wanted at = flagged p p.input p.output true
+behind_child p Found.Other count wanted at = p
 
--- the list with one child more, which has the node n if it is one
-abbrev pub list_with : ProcessList → FoundChild → Node → ProcessList
-list_with list Found.Node n = Lists.appended list n
-list_with list Found.InputDescriptor n = list
-list_with list Found.OutputDescriptor n = list
-list_with list Found.Info n = list
-list_with list Found.Other n = list
+-- the list with one child more
+abbrev pub list_with : ProcessList → FoundChild → ProcessList
+list_with list (Found.Node n) = Lists.appended list n
+list_with list Found.InputDescriptor = list
+list_with list Found.OutputDescriptor = list
+list_with list Found.Info = list
+list_with list Found.Other = list
 
 -- a child of the definition, as the code answers it
 abbrev pub found_child : Child → FoundChild
-found_child (node v) = Found.Node
+found_child (node v) = Found.Node (Lists.node_of v)
 found_child description = Found.Other
 found_child input_descriptor = Found.InputDescriptor
 found_child output_descriptor = Found.OutputDescriptor
 found_child info_child = Found.Info
 
--- the node of a child of the definition, a blank one where it is none
-abbrev pub node_found : Child → Node
-node_found (node v) = Lists.node_of v
-node_found description = Lists.blank_node
-node_found input_descriptor = Lists.blank_node
-node_found output_descriptor = Lists.blank_node
-node_found info_child = Lists.blank_node
+-- the place behind a child
+abbrev pub child_end : Result ChildRead Stop → Scan
+child_end (Ok r) = Ok r.end
+child_end (Err x) = Err x
 
--- a child reads so, is this one, and has this node
-abbrev pub child_step : Scan → FoundChild → Node → ChildStep
-child_step scan child n = record { scan = scan; child = child; node = n }
+-- a child that reads so and is this one
+abbrev pub child_by : Scan → FoundChild → Result ChildRead Stop
+child_by (Ok e) child = Ok (record { end = e; child = child })
+child_by (Err x) child = Err x
 
--- a child whose `<` stands at `at` and which may not stand there
-abbrev pub refused_child : ℕ → ℕ → ChildStep
-refused_child k at = child_step (Scans.Fault k at) Found.Other Lists.blank_node
+-- a node that reads so, as a child
+abbrev pub node_by : Result NodeRead Stop → Result ChildRead Stop
+node_by (Ok n) = Ok (record { end = n.end; child = Found.Node n.node })
+node_by (Err x) = Err x
 
 -- a child that is no node: refused where it may not repeat and has been there
-abbrev pub once_child : ℕ → Bool → Scan → FoundChild → ChildStep
-once_child at seen scan child = cond seen (refused_child Refusal.wrong_element at) (child_step scan child Lists.blank_node)
+abbrev pub once_child : ℕ → Bool → Scan → FoundChild → Result ChildRead Stop
+once_child at seen scan child = cond seen (Err (Stops.Fault Refusal.wrong_element at)) (child_by scan child)
 
 -- a carried node behind its name
-pub record CarriedReads (s : List ℕ) (e : ℕ) (name : CarriedNode) (used : ℕ) (r : ChildStep) (m₁ m₂ : Room) : Type 0 where
-  pub node : NodeStep
+pub record CarriedReads (s : List ℕ) (e : ℕ) (name : CarriedNode) (used : ℕ) (r : Result ChildRead Stop) (m₁ m₂ : Room) : Type 0 where
+  pub node : Result NodeRead Stop
   pub reads : NodeReads (node_body (carried_of name)).run s e used node m₁ m₂
-  pub is : r ≡ child_step node.scan Found.Node node.node
+  pub is : r ≡ node_by node
 
 -- a child by its name as a node: a carried one, or none that may stand there
-pub data NodeChild (s : List ℕ) (at e : ℕ) (name : NodeName) (used : ℕ) (r : ChildStep) (m₁ m₂ : Room) : Type 0 where
+pub data NodeChild (s : List ℕ) (at e : ℕ) (name : NodeName) (used : ℕ) (r : Result ChildRead Stop) (m₁ m₂ : Room) : Type 0 where
   carried : (n : CarriedNode) → name_of name ≡ carried_of n → CarriedReads s e n used r m₁ m₂ → NodeChild s at e name used r m₁ m₂
-  other : (k : ℕ) → node_fault (name_of name) ≡ k → (k ≡ 0 → ⊥) → r.scan ≡ Scans.Fault k at → m₂ ≡ m₁ → NodeChild s at e name used r m₁ m₂
+  other : (k : ℕ) → node_fault (name_of name) ≡ k → (k ≡ 0 → ⊥) → r ≡ Err (Stops.Fault k at) → m₂ ≡ m₁ → NodeChild s at e name used r m₁ m₂
 
 -- what a child leaves: where it stands whole, it is the definition's, and its numbers stand from `used` on; else nothing has changed but the room from there on
-abbrev pub ChildLeaves : ℕ → Child → Scan → FoundChild → Node → Room → Room → Type 0
-ChildLeaves used c (Scans.At e) found n m₁ m₂ = (found ≡ found_child c) × (n ≡ node_found c) × Counted (with_child c []) × (m₂ ≡ laid_in used (all_numbers (with_child c [])) m₁)
-ChildLeaves used c (Scans.Fault k p) found n m₁ m₂ = RoomFrom used m₁ m₂
-ChildLeaves used c Scans.Cut found n m₁ m₂ = RoomFrom used m₁ m₂
+abbrev pub ChildLeaves : ℕ → Child → Result ChildRead Stop → Room → Room → Type 0
+ChildLeaves used c (Ok r) m₁ m₂ = (r.child ≡ found_child c) × Counted (with_child c []) × (m₂ ≡ laid_in used (all_numbers (with_child c [])) m₁)
+ChildLeaves used c (Err x) m₁ m₂ = RoomFrom used m₁ m₂
 
 -- a child of the name w, whose `<` stands at `at` and whose name ends at e: it may not stand there, or it reads as the definition's
-pub data ChildReads (s w : List ℕ) (at e : ℕ) (p : Progress) (r : ChildStep) (m₁ m₂ : Room) : Type 0 where
-  refused : (k : ℕ) → child_fault (flags_of p) w ≡ k → (k ≡ 0 → ⊥) → r.scan ≡ Scans.Fault k at → m₂ ≡ m₁ → ChildReads s w at e p r m₁ m₂
-  read : (c : Child) → child_fault (flags_of p) w ≡ 0 → scan_out (λ q. c) s r.scan ≡ (child_body w).run (drop e s) → Inside 1 s e r.scan
-      → ChildLeaves p.used c r.scan r.child r.node m₁ m₂ → ChildReads s w at e p r m₁ m₂
+pub data ChildReads (s w : List ℕ) (at e : ℕ) (p : Progress) (r : Result ChildRead Stop) (m₁ m₂ : Room) : Type 0 where
+  refused : (k : ℕ) → child_fault (flags_of p) w ≡ k → (k ≡ 0 → ⊥) → r ≡ Err (Stops.Fault k at) → m₂ ≡ m₁ → ChildReads s w at e p r m₁ m₂
+  read : (c : Child) → child_fault (flags_of p) w ≡ 0 → scan_out (λ q. c) s (child_end r) ≡ (child_body w).run (drop e s) → Inside 1 s e (child_end r)
+      → ChildLeaves p.used c r m₁ m₂ → ChildReads s w at e p r m₁ m₂

@@ -13,7 +13,7 @@ use markup::NextTag;
 use nodes::{CarriedNode, NodeName};
 use process_list::{Node, ProcessList};
 use tags::{TagEnd, TagKind};
-use xml::Scan;
+use xml::{Scan, Stop};
 
 // ProcessList so far: its nodes, the first 32 of them; whether there were more; how many numbers they have, counted no further than
 // one more than may be; which of the children that may not repeat have been there; and where the `<` of the node that is wanted stands,
@@ -29,7 +29,7 @@ pub struct ListState {
     pub start: usize,
 }
 
-// How the text reads, and what it has held so far.
+// How the text reads, and what it has held so far. This is no `Result`: what has been held is answered at a fault, too (`ListReads`).
 #[derive(Clone, Copy)]
 pub struct ListStep {
     pub scan: Scan,
@@ -50,19 +50,18 @@ struct Progress {
 // A child of ProcessList, by what it changes: a node, one of those that may not repeat, or any other, which changes nothing.
 #[derive(Clone, Copy)]
 enum FoundChild {
-    Node,
+    Node(Node),
     InputDescriptor,
     OutputDescriptor,
     Info,
     Other,
 }
 
-// How a child reads, which one it is, and its node, a blank one where it is none.
+// A child that was read: the place behind it, and which one it is.
 #[derive(Clone, Copy)]
-struct ChildStep {
-    scan: Scan,
+struct ChildRead {
+    end: usize,
     child: FoundChild,
-    node: Node,
 }
 
 // The text reads so, and has held this.
@@ -115,100 +114,66 @@ fn ended(scan: Scan, list: ProcessList, progress: Progress) -> ListStep
     step_of(scan, state_by(list, progress))
 }
 
-// The same, with these flags.
-fn flagged(progress: Progress, input: bool, output: bool, info: bool) -> Progress
-    ensures { result ≡ Code.flagged progress input output info }
-{
-    Progress {
-        over: progress.over,
-        used: progress.used,
-        input,
-        output,
-        info,
-        start: progress.start,
-    }
-}
-
 // The place of the node that is wanted, after `count` nodes and one more, whose `<` stands at `at`.
 fn wanted_start(count: usize, wanted: usize, old: usize, at: usize) -> usize
     ensures { result ≡ Code.wanted_start count wanted old at }
 {
-    if count < 32 {
-        if count + 1 == wanted {
-            return at;
-        }
+    if count < 32 && count + 1 == wanted {
+        at
+    } else {
+        old
     }
-    old
-}
-
-// Whether there are more than 32 nodes, with one more.
-fn is_over(over: bool, count: usize) -> bool
-    ensures { result ≡ Code.is_over over count }
-{
-    if over {
-        return true;
-    }
-    32 <= count
 }
 
 // One node more behind `count` others, whose `<` stands at `at`.
 fn behind_node(progress: Progress, node: Node, count: usize, wanted: usize, at: usize) -> Progress
     ensures { result ≡ Code.behind_node progress node count wanted at }
 {
-    let kind = node.kind;
     Progress {
-        over: is_over(progress.over, count),
-        used: process_list::counted(progress.used, kind),
-        input: progress.input,
-        output: progress.output,
-        info: progress.info,
+        over: progress.over || 32 <= count,
+        used: process_list::counted(progress.used, node.kind),
         start: wanted_start(count, wanted, progress.start, at),
+        ..progress
     }
 }
 
-// One child more behind `count` nodes, whose `<` stands at `at` and which has this node if it is one.
+// One child more behind `count` nodes, whose `<` stands at `at`.
 fn behind_child(
     progress: Progress,
     child: FoundChild,
-    node: Node,
     count: usize,
     wanted: usize,
     at: usize,
 ) -> Progress
-    ensures { result ≡ Code.behind_child progress child node count wanted at }
+    ensures { result ≡ Code.behind_child progress child count wanted at }
 {
     match child {
-        FoundChild::Node => behind_node(progress, node, count, wanted, at),
-        FoundChild::InputDescriptor => flagged(progress, true, progress.output, progress.info),
-        FoundChild::OutputDescriptor => flagged(progress, progress.input, true, progress.info),
-        FoundChild::Info => flagged(progress, progress.input, progress.output, true),
+        FoundChild::Node(node) => behind_node(progress, node, count, wanted, at),
+        FoundChild::InputDescriptor => Progress {
+            input: true,
+            ..progress
+        },
+        FoundChild::OutputDescriptor => Progress {
+            output: true,
+            ..progress
+        },
+        FoundChild::Info => Progress {
+            info: true,
+            ..progress
+        },
         FoundChild::Other => progress,
     }
 }
 
-// A child whose `<` stands at `at` and which may not stand there.
-fn refused(fault: u8, at: usize) -> ChildStep
-    ensures { result ≡ Code.refused_child fault at }
-{
-    ChildStep {
-        scan: Scan::Fault(fault, at),
-        child: FoundChild::Other,
-        node: process_list::blank(),
-    }
-}
-
 // A child that is no node, whose `<` stands at `at` and which reads so; `seen` where it may not repeat and has been there.
-fn once(at: usize, seen: bool, scan: Scan, child: FoundChild) -> ChildStep
+fn once(at: usize, seen: bool, scan: Scan, child: FoundChild) -> Result<ChildRead, Stop>
     ensures { result ≡ Code.once_child at seen scan child }
 {
     if seen {
-        return refused(refusals::WRONG_ELEMENT, at);
+        return Err(Stop::Fault(refusals::WRONG_ELEMENT, at));
     }
-    ChildStep {
-        scan,
-        child,
-        node: process_list::blank(),
-    }
+    let end = scan?;
+    Ok(ChildRead { end, child })
 }
 
 // A carried node, whose name ends at e and whose numbers are stored from `used` on.
@@ -219,17 +184,14 @@ fn carried_child(
     used: usize,
     coefficients: &mut [i64],
     powers: &mut [i8],
-) -> ChildStep
+) -> Result<ChildRead, Stop>
     ensures { Code.CarriedReads s.now e name used result (lent coefficients.old powers.old) (lent coefficients.new powers.new) }
 {
-    let step = nodes::node_body(s, e, name, coefficients, powers, used);
-    let scan = step.scan;
-    let node = step.node;
-    ChildStep {
-        scan,
-        child: FoundChild::Node,
-        node,
-    }
+    let read = nodes::node_body(s, e, name, coefficients, powers, used)?;
+    Ok(ChildRead {
+        end: read.end,
+        child: FoundChild::Node(read.node),
+    })
 }
 
 // A child by its name as a node, whose `<` stands at `at` and whose name ends at e.
@@ -241,13 +203,13 @@ fn node_child(
     used: usize,
     coefficients: &mut [i64],
     powers: &mut [i8],
-) -> ChildStep
+) -> Result<ChildRead, Stop>
     ensures { Code.NodeChild s.now at e name used result (lent coefficients.old powers.old) (lent coefficients.new powers.new) }
 {
     match name {
         NodeName::Carried(c) => carried_child(s, e, c, used, coefficients, powers),
-        NodeName::NotCarried => refused(refusals::NOT_CARRIED, at),
-        NodeName::Other => refused(refusals::WRONG_ELEMENT, at),
+        NodeName::NotCarried => Err(Stop::Fault(refusals::NOT_CARRIED, at)),
+        NodeName::Other => Err(Stop::Fault(refusals::WRONG_ELEMENT, at)),
     }
 }
 
@@ -259,7 +221,7 @@ fn list_child(
     progress: Progress,
     coefficients: &mut [i64],
     powers: &mut [i8],
-) -> ChildStep
+) -> Result<ChildRead, Stop>
     requires { at < length s.now }
     ensures { Code.ChildReads s.now (part_in s.now (at + 1) e) at e progress result (lent coefficients.old powers.old)
         (lent coefficients.new powers.new) }
@@ -297,30 +259,29 @@ fn list_content(
     let mut list = process_list::empty();
     let mut so_far = no_progress();
     let mut i = at;
+    // A `loop`, since a turn goes on behind a child, wherever it ends.
     loop {
-        let l = markup::next_tag(s, i);
-        match l {
-            NextTag::Start(a, e) => {
-                let step = list_child(s, a, e, so_far, coefficients, powers);
-                let scan = step.scan;
-                let child = step.child;
-                let node = step.node;
-                let k = list.count;
-                let next = behind_child(so_far, child, node, k, wanted, a);
-                let Scan::At(q) = scan else {
-                    return ended(scan, list, so_far);
-                };
-                so_far = next;
-                i = q;
-                if let FoundChild::Node = child {
-                    if k < 32 {
-                        list.nodes[k] = node;
-                        list.count = k + 1;
+        match markup::next_tag(s, i) {
+            Ok(NextTag::Start(a, e)) => {
+                match list_child(s, a, e, so_far, coefficients, powers) {
+                    Ok(read) => {
+                        let k = list.count;
+                        so_far = behind_child(so_far, read.child, k, wanted, a);
+                        i = read.end;
+                        if let FoundChild::Node(node) = read.child {
+                            if k < 32 {
+                                list.nodes[k] = node;
+                                list.count = k + 1;
+                            }
+                        }
                     }
+                    Err(stop) => return ended(Err(stop), list, so_far),
                 }
             }
-            NextTag::End(a) => return ended(markup::end_tag(s, a, b"ProcessList", 0), list, so_far),
-            NextTag::Failed(a, r) => return ended(r, list, so_far),
+            Ok(NextTag::End(a)) => {
+                return ended(markup::end_tag(s, a, b"ProcessList", 0), list, so_far);
+            }
+            Err(halt) => return ended(Err(halt.stop), list, so_far),
         }
     }
 }
@@ -331,13 +292,14 @@ fn root(s: &[u8], at: usize, wanted: usize, coefficients: &mut [i64], powers: &m
         (behind_head s.now ((start_tag List.list_rules).run (drop at s.now))) s.now at result (lent coefficients.old powers.old)
         (lent coefficients.new powers.new) }
 {
-    let tag = tags::start_tag(s, at, TagKind::ProcessList);
-    let end = tag.end;
-    match end {
-        TagEnd::Open(q) => list_content(s, q, wanted, coefficients, powers),
-        TagEnd::Empty(q) => step_of(Scan::At(q), no_list()),
-        TagEnd::Fault(k, p) => step_of(Scan::Fault(k, p), no_list()),
-        TagEnd::Cut => step_of(Scan::Cut, no_list()),
+    match tags::start_tag(s, at, TagKind::ProcessList) {
+        Ok(tag) => {
+            match tag.end {
+                TagEnd::Open(q) => list_content(s, q, wanted, coefficients, powers),
+                TagEnd::Empty(q) => step_of(Ok(q), no_list()),
+            }
+        }
+        Err(stop) => step_of(Err(stop), no_list()),
     }
 }
 
@@ -345,17 +307,16 @@ fn root(s: &[u8], at: usize, wanted: usize, coefficients: &mut [i64], powers: &m
 fn text_list(s: &[u8], wanted: usize, coefficients: &mut [i64], powers: &mut [i8]) -> ListStep
     ensures { Code.TextReads wanted s.now result (lent coefficients.old powers.old) (lent coefficients.new powers.new) }
 {
-    let r = around_root::to_root(s);
-    let Scan::At(e) = r else {
-        return step_of(r, no_list());
-    };
-    let step = root(s, e, wanted, coefficients, powers);
-    let scan = step.scan;
-    let Scan::At(q) = scan else {
-        return step;
-    };
-    let state = step.state;
-    step_of(around_root::epilogue(s, q), state)
+    match around_root::to_root(s) {
+        Ok(e) => {
+            let step = root(s, e, wanted, coefficients, powers);
+            match step.scan {
+                Ok(q) => step_of(around_root::epilogue(s, q), step.state),
+                Err(_) => step,
+            }
+        }
+        Err(stop) => step_of(Err(stop), no_list()),
+    }
 }
 
 // The text of a file: how it reads, and what the list is; at a fault, the nodes that stand whole before it. Their numbers stand in the
@@ -364,8 +325,12 @@ pub fn file_list(s: &[u8], wanted: usize, coefficients: &mut [i64], powers: &mut
     ensures { Code.ListReads wanted s.now result (lent coefficients.old powers.old) (lent coefficients.new powers.new) }
 {
     let step = text_list(s, wanted, coefficients, powers);
-    let state = step.state;
     let room = room::length(coefficients, powers);
-    room::clear(coefficients, powers, process_list::limit(state.used), room);
+    room::clear(
+        coefficients,
+        powers,
+        process_list::limit(step.state.used),
+        room,
+    );
     step
 }

@@ -2,50 +2,18 @@
 
 // Reads each file that the file `index` names, into room for the count of numbers that stands behind its name there, and prints a line
 // for each: its name, the refusal number and place, how many nodes its list has, and how many numbers.
-ghost use Rattle.std.specs.Prelude.{◌≤◌, ◌<◌, length, IfOk};
-
-use fields::Parsed;
+use bytes_in::read_full;
 use reading::Answer;
-use std::io::Read;
 use std::rt::Files;
 use std::{fs, io, str};
 
-fn least(a: usize, b: usize) -> usize
-    ensures { (result ≤ a) × (result ≤ b) }
-{
-    if a < b {
-        return a;
-    }
-    b
-}
-
-fn print_number(rt: &impl Print, n: usize) -> io::Result<()> {
-    print!(rt; " {n}")
-}
-
 fn print_answer(rt: &impl Print, name: &[u8], answer: Answer) -> io::Result<()> {
-    let list = answer.list;
+    let number = answer.number;
+    let place = answer.place;
+    let nodes = answer.list.count;
+    let numbers = process_list::used(answer.list);
     rt.write_all(name)?;
-    print_number(rt, answer.number as usize)?;
-    print_number(rt, answer.place)?;
-    print_number(rt, list.count)?;
-    print_number(rt, process_list::used(list))?;
-    rt.write_all(b"\n")
-}
-
-// Reads until the buffer is full or the file ends, and answers how many bytes the buffer holds then.
-fn read_full(file: &mut impl Read, buffer: &mut [u8]) -> io::Result<usize>
-    ensures { IfOk result (λ n. n ≤ length buffer.new) }
-{
-    let mut held = 0;
-    while held < buffer.len() {
-        let n = file.read(&mut buffer[held..])?;
-        if n == 0 {
-            return Ok(held);
-        }
-        held += n;
-    }
-    Ok(held)
+    println!(rt; " {number} {place} {nodes} {numbers}")
 }
 
 // Reads a file of at most the buffer's length into the buffer, and answers how many bytes it has; 0 where it cannot be opened, which a line
@@ -73,9 +41,9 @@ fn read(
     powers: &mut [i8],
 ) -> io::Result<()> {
     let size = load(rt, name, buffer)?;
-    let n = least(room, least(coefficients.len(), powers.len()));
+    let n = room.min(coefficients.len()).min(powers.len());
     let file = tags::part(buffer, 0, size);
-    let answer = reading::read(file, &mut coefficients[0..n], &mut powers[0..n]);
+    let answer = reading::read(file, &mut coefficients[..n], &mut powers[..n]);
     print_answer(rt, name, answer)
 }
 
@@ -92,23 +60,9 @@ fn vector(
     let name = tags::part(line, first.start, first.end);
     let room = fields::number(tags::part(line, second.start, second.end));
     match room {
-        Parsed::Number(n) => read(rt, name, n, buffer, coefficients, powers),
-        Parsed::Malformed => rt.write_all(b"no room named\n"),
+        Some(n) => read(rt, name, n, buffer, coefficients, powers),
+        None => rt.write_all(b"no room named\n"),
     }
-}
-
-// The end of the line that starts at `at`: its line feed, or the end of the text.
-fn line_end(text: &[u8], at: usize) -> usize
-    ensures { at ≤ result }
-{
-    let mut i = at;
-    while i < text.len() {
-        if text[i] == b'\n' {
-            return i;
-        }
-        i += 1;
-    }
-    i
 }
 
 fn vectors(
@@ -118,14 +72,9 @@ fn vectors(
     coefficients: &mut [i64],
     powers: &mut [i8],
 ) -> io::Result<()> {
-    let mut at = 0;
-    while at < index.len() {
-        let end = line_end(index, at);
-        vector(rt, tags::part(index, at, end), buffer, coefficients, powers)?;
-        if index.len() <= end {
-            return Ok(());
-        }
-        at = end + 1;
+    for line in index.split_inclusive(|b| *b == b'\n') {
+        let line = line.strip_suffix(b"\n").unwrap_or(line);
+        vector(rt, line, buffer, coefficients, powers)?;
     }
     Ok(())
 }

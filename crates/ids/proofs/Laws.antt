@@ -1,14 +1,18 @@
 -- Laws of ids. Assumes nothing.
 use mathlib.Core.Path.{◌≡◌, refl, sym, ap, ◌∙◌}
-use mathlib.Core.Bool.{Bool, true, false, cond, ◌&&◌}
+use mathlib.Core.Bool.{Bool, true, false, cond, not, ◌&&◌}
 use mathlib.Core.List.{List, [], ◌∷◌, ◌++◌}
 use Prim.Native.Nat.{ℕ, zero, suc, ◌+◌, ◌-◌, ◌≤◌, ◌<◌}
 use native.Mathlib.Omega.{arith}
-use native.Mathlib.Numerals.{add-one}
-use borrow.Author.Tests.{le-leb, lt-leb, leb-true, ne_eqb, eq-eqb}
+use borrow.Author.Tests.{leb-true, leb-false, ltb-false, ne_eqb, eq-eqb}
 use lib.Dec.{eqb, leb, eqb-suc-zero}
-use lib.ListN.{length, take, drop, set, get_or, replicate, length-append, length-take, length-replicate, drop_of_length-le}
-use lib.Seq.{take-suc, take_all, take-take, drop-cons, set_at, append_snoc, length-take-le}
+use lib.ListN.{length, take, drop, replicate, length-append, length-take, length-replicate}
+use lib.Seq.{take_all}
+use lib.Pointwise.{pointwise}
+use Rattle.std.specs.List.{list_all, position, position_or_len}
+use Rattle.std.specs.Option.{unwrap_or}
+use Rattle.std.proofs.Common.{Some, None, min, ltb}
+use Rattle.std.proofs.lemmas.List.{drop-replicate}
 use Rattle.xml.specs.Bytes.{same, is_letter, is_digit, is_name_byte}
 use Rattle.ids.specs.Ids.{is_id_byte, all_id_bytes, id_right, id_allowed, held_id, id_text, is_held}
 
@@ -24,34 +28,12 @@ pub name-byte : (b : ℕ) → (b ≡ 58 → ⊥) → is_name_byte b ≡ is_id_by
 unfolding is_id_byte is_name_byte
 name-byte b h = simp (ne_eqb b 58 h)
 
-module _ (t : List ℕ) (i : ℕ) (h : i < length t) where
-  bytes-at : all_id_bytes (drop i t) ≡ (is_id_byte (get_or t i 0) && all_id_bytes (drop (i + 1) t))
-  unfolding all_id_bytes
-  bytes-at = rw (add-one, drop-cons t i 0 h) refl
-
-  pub bytes-fail : is_id_byte (get_or t i 0) ≡ false → all_id_bytes (drop i t) ≡ false
-  bytes-fail e = bytes-at ∙ simp e
-
-  pub bytes-go-on : is_id_byte (get_or t i 0) ≡ true → all_id_bytes (drop i t) ≡ all_id_bytes (drop (i + 1) t)
-  bytes-go-on e = bytes-at ∙ simp e
-
-pub bytes-end : (t : List ℕ) (i : ℕ) → length t ≤ i → all_id_bytes (drop i t) ≡ true
+pub all-bytes : (t : List ℕ) → list_all is_id_byte t ≡ all_id_bytes t
 unfolding all_id_bytes
-bytes-end t i h = rw (drop_of_length-le t h)
+all-bytes [] = refl
+all-bytes (b ∷ t) = ap (λ (z : Bool). is_id_byte b && z) (all-bytes t)
 
 module _ (most : ℕ) (t : List ℕ) where
-  pub id-empty : length t ≡ 0 → false ≡ id_right most t
-  unfolding id_right
-  id-empty e = simp e
-
-  pub id-long : 1 ≤ length t → most < length t → false ≡ id_right most t
-  unfolding id_right
-  id-long k h = simp (le-leb 1 (length t) k, lt-leb (length t) most h)
-
-  pub id-bytes : (b : Bool) → 1 ≤ length t → length t ≤ most → all_id_bytes t ≡ b → b ≡ id_right most t
-  unfolding id_right
-  id-bytes b h k e = simp (le-leb 1 (length t) h, le-leb (length t) most k, e)
-
   -- what a right id has
   pub right-length : id_right most t ≡ true → (1 ≤ length t) × (length t ≤ most)
   unfolding id_right
@@ -77,58 +59,27 @@ pub held-length : (t : List ℕ) → length (held_id t) ≡ 32
 unfolding held_id
 held-length t = simp (length-append, length-take, length-replicate) (omega arith)
 
--- the first i bytes of a text in their places
-held-front : (t : List ℕ) (i : ℕ) → i ≤ 32 → i ≤ length t → held_id (take i t) ≡ take i t ++ replicate (32 - i) 0
+-- a text's first 32 bytes over zeros
+pub held_is : (t xs : List ℕ) (n : ℕ) → n ≡ min (length t) 32 → xs ≡ take n t → xs ++ drop n (replicate 32 0) ≡ held_id t
 unfolding held_id
-held-front t i h k =
-    let e : length (take i t) ≡ i = length-take-le i t k in
-    let f : take 32 (take i t) ≡ take i t = take_all 32 (take i t) (omega arith) in
-    rw (f, e) refl
-
-pub held_more : (t : List ℕ) (i : ℕ) → i < 32 → i < length t → set (held_id (take i t)) i (get_or t i 0) ≡ held_id (take (i + 1) t)
-held_more t i h k =
-    let r : 32 - i ≡ suc (32 - suc i) = omega arith in
-    let a = held-front t i (omega arith) (omega arith) in
-    let b = held-front t (suc i) (omega arith) (omega arith) in
-    let z : List ℕ = replicate (32 - suc i) 0 in
-    let c : ◌≡◌ {A = List ℕ} (replicate (32 - i) 0) (0 ∷ z) = ap (λ (n : ℕ). replicate {A = ℕ} n 0) r in
-    ap (λ (l : List ℕ). set l i (get_or t i 0)) (a ∙ ap (λ (l : List ℕ). take i t ++ l) c)
-    ∙ set_at (take i t) 0 z (get_or t i 0) i (length-take-le i t (omega arith))
-    ∙ sym (append_snoc (take i t) (get_or t i 0) z)
-    ∙ ap (λ (l : List ℕ). l ++ z) (sym (take-suc t i 0 k))
-    ∙ sym b
-    ∙ ap (λ (n : ℕ). held_id (take n t)) (sym (add-one i))
-
-pub held_whole : (t : List ℕ) (i : ℕ) → length t ≤ i → held_id (take i t) ≡ held_id t
-held_whole t i h = rw (take_all i t h) refl
-
--- of a longer text the first 32 bytes
-pub held-long : (t : List ℕ) → 32 ≤ length t → held_id (take 32 t) ≡ held_id t
-unfolding held_id
-held-long t h =
-    let e : length (take 32 t) ≡ 32 = length-take-le 32 t h in
-    let z : 32 - length t ≡ 0 = omega arith in
-    rw (take-take 32 32 t (omega arith), e, z) refl
+held_is t xs n e f =
+    let k : 32 - n ≡ 32 - length t = omega arith in
+    let w : take n t ≡ take 32 t = short (leb (length t) 32) refl in
+    rw (f, w, drop-replicate {X = ℕ} n 32 0, k) refl
+  where
+    short : (b : Bool) → leb (length t) 32 ≡ b → take n t ≡ take 32 t
+    short true h =
+        let l : length t ≤ 32 = leb-true _ _ h in
+        take_all n t (omega arith) ∙ sym (take_all 32 t l)
+    short false h =
+        let l : 32 < length t = leb-false _ _ h in
+        let m : n ≡ 32 = omega arith in
+        ap (λ (i : ℕ). take i t) m
 
 -- ---- the id that stands in places
 
-module _ (t : List ℕ) (i : ℕ) (h : i < length t) where
-  text_at : id_text (drop i t) ≡ cond (eqb (get_or t i 0) 0) [] (get_or t i 0 ∷ id_text (drop (i + 1) t))
-  unfolding id_text
-  text_at = rw (add-one, drop-cons t i 0 h) refl
-
-  pub text-ends : get_or t i 0 ≡ 0 → length (id_text (drop i t)) ≡ 0
-  text-ends e = ap length text_at ∙ simp (eq-eqb _ _ e)
-
-  pub text-goes-on : (get_or t i 0 ≡ 0 → ⊥) → length (id_text (drop i t)) ≡ 1 + length (id_text (drop (i + 1) t))
-  text-goes-on e = ap length text_at ∙ simp (ne_eqb _ _ e) (omega arith)
-
-pub text-behind : (t : List ℕ) (i : ℕ) → length t ≤ i → length (id_text (drop i t)) ≡ 0
-unfolding id_text
-text-behind t i h = rw (drop_of_length-le t h) refl
-
 -- it is the places' beginning
-text-front : (t : List ℕ) → take (length (id_text t)) t ≡ id_text t
+pub text-front : (t : List ℕ) → take (length (id_text t)) t ≡ id_text t
 unfolding id_text
 text-front [] = refl
 text-front (b ∷ t) = go (eqb b 0) (text-front t)
@@ -151,6 +102,24 @@ text-short (b ∷ t) = go (eqb b 0) (text-short t)
     go : (z : Bool) → length (id_text t) ≤ length t → length (cond z [] (b ∷ id_text t)) ≤ length (b ∷ t)
     go true e = omega arith
     go false e = omega arith
+
+-- the index of the first zero, or, without one, the number of places
+zero_at : (t : List ℕ) → position_or_len (λ b. eqb b 0) t ≡ length (id_text t)
+unfolding id_text
+zero_at [] = refl
+zero_at (b ∷ t) = go (eqb b 0) (zero_at t)
+  where
+    go : (z : Bool) → position_or_len (λ b. eqb b 0) t ≡ length (id_text t) → cond (not z) (1 + position_or_len (λ b. eqb b 0) t) 0 ≡ length (cond z [] (b ∷ id_text t))
+    go true e = refl
+    go false e = omega arith
+
+pub first_zero : (t : List ℕ) → unwrap_or (position (λ b. eqb b 0) t) (length t) ≡ length (id_text t)
+first_zero t =
+    rw (zero_at t) (go (ltb (length (id_text t)) (length t)) refl)
+  where
+    go : (z : Bool) → ltb (length (id_text t)) (length t) ≡ z → unwrap_or (cond z (Some (length (id_text t))) None) (length t) ≡ length (id_text t)
+    go true e = refl
+    go false e = let h = ltb-false _ _ e in omega (arith, text-short t)
 
 pub allowed-none : (t : List ℕ) → length t ≡ 0 → true ≡ id_allowed t
 unfolding id_allowed
@@ -199,12 +168,11 @@ text-held t h = rw (take_all 32 t (allowed-few t h)) (text-back t (32 - length t
 
 -- ---- nothing but zeros behind the id
 
-unfoldable pub zeros : List ℕ → Bool
-zeros [] = true
-zeros (b ∷ t) = eqb b 0 && zeros t
+abbrev pub zeros : List ℕ → Bool
+zeros = list_all (λ b. eqb b 0)
 
 zeros-same : (t : List ℕ) → same t (replicate (length t) 0) ≡ zeros t
-unfolding same zeros
+unfolding same
 zeros-same [] = refl
 zeros-same (b ∷ t) = ap (λ (z : Bool). eqb b 0 && z) (zeros-same t)
 
@@ -212,7 +180,7 @@ eqb_refl : (b : ℕ) → eqb b b ≡ true
 eqb_refl b = eq-eqb b b refl
 
 held-zeros : (n : ℕ) (t : List ℕ) → length t ≡ n → same t (take n (id_text t) ++ replicate (n - length (id_text t)) 0) ≡ zeros (drop (length (id_text t)) t)
-unfolding id_text same zeros
+unfolding id_text same
 held-zeros zero [] e = refl
 held-zeros (suc n) [] e = absurd (omega arith)
 held-zeros zero (b ∷ t) e = absurd (omega arith)
@@ -231,23 +199,14 @@ held-zeros (suc n) (b ∷ t) e = go (eqb b 0) refl (held-zeros n t)
         let d : suc n - suc (length (id_text t)) ≡ n - length (id_text t) = omega arith in
         rw (eqb_refl b, d) (g few)
 
-module _ (t : List ℕ) (n : length t ≡ 32) where
-  pub held-is : is_held t ≡ zeros (drop (length (id_text t)) t)
-  unfolding is_held held_id
-  held-is = held-zeros 32 t n
+pub held-is : (t : List ℕ) → length t ≡ 32 → zeros (drop (length (id_text t)) t) ≡ is_held t
+unfolding is_held held_id
+held-is t n = sym (held-zeros 32 t n)
 
-  zeros-at : (i : ℕ) → i < 32 → zeros (drop i t) ≡ (eqb (get_or t i 0) 0 && zeros (drop (i + 1) t))
-  unfolding zeros
-  zeros-at i h = rw (add-one, drop-cons t i 0 (omega arith)) refl
-
-  pub zeros-fail : (i : ℕ) → i < 32 → (get_or t i 0 ≡ 0 → ⊥) → zeros (drop i t) ≡ false
-  zeros-fail i h e = zeros-at i h ∙ simp (ne_eqb _ _ e)
-
-  pub zeros-go-on : (i : ℕ) → i < 32 → get_or t i 0 ≡ 0 → zeros (drop i t) ≡ zeros (drop (i + 1) t)
-  zeros-go-on i h e = zeros-at i h ∙ simp (eq-eqb _ _ e)
-
-  pub zeros-end : (i : ℕ) → 32 ≤ i → zeros (drop i t) ≡ true
-  unfolding zeros
-  zeros-end i h =
-      let k : length t ≤ i = omega arith in
-      rw (drop_of_length-le t k) refl
+-- ---- the same id
+pub same-pointwise : (a b : List ℕ) → pointwise eqb a b ≡ same a b
+unfolding same
+same-pointwise [] [] = refl
+same-pointwise [] (y ∷ b) = refl
+same-pointwise (x ∷ a) [] = refl
+same-pointwise (x ∷ a) (y ∷ b) = ap (λ (z : Bool). eqb x y && z) (same-pointwise a b)

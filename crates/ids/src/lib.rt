@@ -12,30 +12,14 @@ pub const MOST_ID_BYTES: usize = 32;
 fn is_id_byte(b: u8) -> bool
     ensures { result ≡ Spec.is_id_byte b }
 {
-    if b == b':' {
-        return false;
-    }
-    xml::is_name_byte(b)
+    b != b':' && xml::is_name_byte(b)
 }
 
 // Whether a text is 1 to `most` bytes of letters, digits, `-`, `_`, `.`.
 pub fn id_right(text: &[u8], most: usize) -> bool
     ensures { result ≡ Spec.id_right most text.now }
 {
-    if text.len() == 0 {
-        return false;
-    }
-    if most < text.len() {
-        return false;
-    }
-    let mut i = 0;
-    while i < text.len() {
-        if !is_id_byte(text[i]) {
-            return false;
-        }
-        i += 1;
-    }
-    true
+    !text.is_empty() && text.len() <= most && text.iter().all(|b| is_id_byte(*b))
 }
 
 // No id: zeros.
@@ -50,14 +34,8 @@ pub fn held(text: &[u8]) -> [u8; 32]
     ensures { result ≡ Spec.held_id text.now }
 {
     let mut places = [0u8; 32];
-    let mut i = 0;
-    while i < 32 {
-        if text.len() <= i {
-            return places;
-        }
-        places[i] = text[i];
-        i += 1;
-    }
+    let n = text.len().min(32);
+    places[..n].copy_from_slice(&text[..n]);
     places
 }
 
@@ -65,14 +43,7 @@ pub fn held(text: &[u8]) -> [u8; 32]
 pub fn length_of(places: &[u8]) -> usize
     ensures { result ≡ length (Spec.id_text places.now) }
 {
-    let mut i = 0;
-    while i < places.len() {
-        if places[i] == 0 {
-            return i;
-        }
-        i += 1;
-    }
-    i
+    places.iter().position(|b| *b == 0).unwrap_or(places.len())
 }
 
 // Whether there is no id in these places, or a right one.
@@ -80,24 +51,14 @@ pub fn allowed(places: &[u8]) -> bool
     ensures { result ≡ Spec.id_allowed (Spec.id_text places.now) }
 {
     let n = length_of(places);
-    if n == 0 {
-        return true;
-    }
-    id_right(&places[0..n], MOST_ID_BYTES)
+    n == 0 || id_right(&places[..n], MOST_ID_BYTES)
 }
 
 // Whether nothing but zeros stands behind the id in these places.
 pub fn is_held(places: [u8; 32]) -> bool
     ensures { result ≡ Spec.is_held places }
 {
-    let mut i = length_of(&places);
-    while i < 32 {
-        if places[i] != 0 {
-            return false;
-        }
-        i += 1;
-    }
-    true
+    places[length_of(&places)..].iter().all(|b| *b == 0)
 }
 
 // Whether an id stands in these places.
@@ -111,5 +72,5 @@ pub fn is_given(places: [u8; 32]) -> bool
 pub fn is_same(a: [u8; 32], b: [u8; 32]) -> bool
     ensures { result ≡ Bytes.same a b }
 {
-    xml::same_name(&a, &b)
+    a == b
 }

@@ -13,8 +13,10 @@ use Rattle.xml.specs.Xml.{Tag, plain, start_tag, open_name, end_tag}
 use Rattle.xml.specs.Elements.{info_content, info_rest, info_element, info}
 use Rattle.xml.specs.Code.{part, Reads, no_value, Failed}
 use Rattle.xml.specs.CodeLaws.{reads-fewer, reads_then, reads-failed, reads-ret, reads-strict, reads-ill, reads-unjudged}
-use Rattle.xml.specs.declared.Scan.{Scan}
-use Rattle.xml.specs.declared.Scan.TheVariants.{At, Fault, Cut}
+use Rattle.xml.specs.Code.{Scan}
+use Rattle.std.specs.Prelude.{Ok, Err}
+use Rattle.xml.specs.declared.Stop.{Stop}
+use Rattle.xml.specs.declared.Stop.TheVariants.{Fault, Cut}
 use Rattle.tags.specs.Code.{part_in}
 use Rattle.tags.proofs.Words.{part_in_lem}
 use Rattle.info.specs.Code.{info_turn, PieceIs}
@@ -34,52 +36,49 @@ module _ (element : G (Unit {0})) (w : List ℕ) where
     pub low : at ≤ i
     pub out : runs (drop at s) ≡ runs (drop i s)
 
-  pub content-start : (s : List ℕ) (at : ℕ) → ContentInv s at at
-  content-start s at = record { low = omega arith; out = refl }
-
 module _ {element : G (Unit {0})} {w : List ℕ} {s : List ℕ} {at i : ℕ} (v : ContentInv element w s at i) where
   abbrev Content : Scan → Type 0
   Content r = Reads 1 (info_content element w).run no_value s at r
 
   -- a turn after which the content goes on
-  on : (e : ℕ) → Reads 1 (info_turn element w) (λ e. again tt) s i (At e) → ContentInv element w s at e
+  on : (e : ℕ) → Reads 1 (info_turn element w) (λ e. again tt) s i (Ok e) → ContentInv element w s at e
   on e u =
       let k : (i + 1 ≤ e) × (e ≤ length s) = u.inside in
       record { low = omega (arith, v.low); out = v.out ∙ loop-again (turns element w) tt (drop i s) tt (drop e s) (sym u.out) (simp length-drop (omega arith)) }
 
   -- a turn that is at fault or cut short
   failed : (r : Scan) → Failed r → Reads 1 (info_turn element w) (λ e. again tt) s i r → Content r
-  failed (At e) f u = absurd f
-  failed (Fault k q) f u = record { out = sym (v.out ∙ loop-fault (turns element w) tt (drop i s) k (drop q s) (sym u.out)); inside = (omega (arith, v.low, u.inside), u.inside.1) }
-  failed Cut f u = record { out = sym (v.out ∙ loop-cut (turns element w) tt (drop i s) (sym u.out)); inside = tt }
+  failed (Ok e) f u = absurd f
+  failed (Err (Fault k q)) f u = record { out = sym (v.out ∙ loop-fault (turns element w) tt (drop i s) k (drop q s) (sym u.out)); inside = (omega (arith, v.low, u.inside), u.inside.1) }
+  failed (Err Cut) f u = record { out = sym (v.out ∙ loop-cut (turns element w) tt (drop i s) (sym u.out)); inside = tt }
 
   -- the last turn
   over : (r : Scan) → Reads 1 (info_turn element w) (λ e. last tt) s i r → Content r
-  over (At e) u = record { out = sym (v.out ∙ loop-last (turns element w) tt (drop i s) tt (drop e s) (sym u.out)); inside = (omega (arith, v.low, u.inside), u.inside.1) }
-  over (Fault k q) u = record { out = sym (v.out ∙ loop-fault (turns element w) tt (drop i s) k (drop q s) (sym u.out)); inside = (omega (arith, v.low, u.inside), u.inside.1) }
-  over Cut u = record { out = sym (v.out ∙ loop-cut (turns element w) tt (drop i s) (sym u.out)); inside = tt }
+  over (Ok e) u = record { out = sym (v.out ∙ loop-last (turns element w) tt (drop i s) tt (drop e s) (sym u.out)); inside = (omega (arith, v.low, u.inside), u.inside.1) }
+  over (Err (Fault k q)) u = record { out = sym (v.out ∙ loop-fault (turns element w) tt (drop i s) k (drop q s) (sym u.out)); inside = (omega (arith, v.low, u.inside), u.inside.1) }
+  over (Err Cut) u = record { out = sym (v.out ∙ loop-cut (turns element w) tt (drop i s) (sym u.out)); inside = tt }
 
-  pub content-ended : length s ≤ i → Content Cut
+  pub content-ended : length s ≤ i → Content (Err Cut)
   content-ended h = record { out = sym (v.out ∙ ap (runs element w) (past s i h) ∙ loop-cut (turns element w) tt [] refl); inside = tt }
 
-  pub content-passed : (e : ℕ) → PieceIs s i (Passed (At e)) → ContentInv element w s at e
+  pub content-passed : (e : ℕ) → PieceIs s i (Ok (Passed e)) → ContentInv element w s at e
   content-passed e p = on e (p element w)
 
-  pub content-forward : (e : ℕ) → PieceIs s i (Passed (At e)) → (i < e) × (e ≤ length s)
+  pub content-forward : (e : ℕ) → PieceIs s i (Ok (Passed e)) → (i < e) × (e ≤ length s)
   content-forward e p = let k : (i + 1 ≤ e) × (e ≤ length s) = (p element w).inside in (omega arith, k.1)
 
-  pub content-passed-failed : (r : Scan) → Failed r → PieceIs s i (Passed r) → Content r
-  content-passed-failed r f p = failed r f (p element w)
+  pub content-failed : (x : Stop) → PieceIs s i (Err x) → Content (Err x)
+  content-failed x p = failed (Err x) tt (p element w)
 
   -- the end tag
-  pub content-end : (r : Scan) → PieceIs s i End → Reads 1 (end_tag w 0).run no_value s i r → Content r
+  pub content-end : (r : Scan) → PieceIs s i (Ok End) → Reads 1 (end_tag w 0).run no_value s i r → Content r
   content-end r p u =
       let z : Reads 1 (strict_p (end_tag w 0 >> ret (last tt)).run) (λ e. last tt) s i r =
       reads-strict (end_tag w 0 >> ret (last tt)).run (λ e. last tt) s i 1 r (omega arith) (reads-ret (end_tag w 0).run no_value (last tt) s i 1 r u) in
       over r (record { out = z.out ∙ sym (p element w); inside = z.inside })
 
   -- a child
-  module _ (r : Scan) (p : PieceIs s i Child) (u : Reads 1 element.run no_value s i r) where
+  module _ (r : Scan) (p : PieceIs s i (Ok Child)) (u : Reads 1 element.run no_value s i r) where
     child : Reads 1 (info_turn element w) (λ e. again tt) s i r
     child =
         let z : Reads 1 (strict_p (element >> ret (again tt)).run) (λ e. again tt) s i r =
@@ -89,8 +88,8 @@ module _ {element : G (Unit {0})} {w : List ℕ} {s : List ℕ} {at i : ℕ} (v 
     pub content-child-failed : Failed r → Content r
     content-child-failed f = failed r f child
 
-  pub content-child : (e : ℕ) → PieceIs s i Child → Reads 1 element.run no_value s i (At e) → ContentInv element w s at e
-  content-child e p u = on e (child (At e) p u)
+  pub content-child : (e : ℕ) → PieceIs s i (Ok Child) → Reads 1 element.run no_value s i (Ok e) → ContentInv element w s at e
+  content-child e p u = on e (child (Ok e) p u)
 
 abbrev then-rest : G (Unit {0}) → List ℕ → Tag → Parser (Unit {0})
 then-rest element w tag = (info_rest element w tag).run
@@ -118,13 +117,13 @@ module _ (left : ℕ) (s : List ℕ) (at : ℕ) where
           (reads-unjudged open_name.run (part s (at + 1)) s at (λ w. 3) 2 2 r f v)
       go (suc n) = reads-failed open_name.run (part s (at + 1)) (λ w. bind_p (start_tag plain).run (then-rest (info_element n) w)) no_value s at 2 1 r f v
 
-  module _ (e : ℕ) (v : Reads 2 open_name.run (part s (at + 1)) s at (At e)) where
+  module _ (e : ℕ) (v : Reads 2 open_name.run (part s (at + 1)) s at (Ok e)) where
     -- 'any element at depth 17, empty or not, is 3'
-    pub element-deep : left ≡ 0 → Element (Fault 3 at)
+    pub element-deep : left ≡ 0 → Element (Err (Fault 3 at))
     unfolding info_element
     element-deep q =
         rw q
-        (reads-failed (judge_p (λ w. 3) open_name.run) (part s (at + 1)) (λ w. ret_p tt) no_value s at 2 1 (Fault 3 at) tt
+        (reads-failed (judge_p (λ w. 3) open_name.run) (part s (at + 1)) (λ w. ret_p tt) no_value s at 2 1 (Err (Fault 3 at)) tt
         (reads-ill open_name.run (part s (at + 1)) s at (λ w. 3) 2 2 e 3 refl (λ z. omega arith) v))
 
     pub element-rest : (r : Scan) → (left ≡ 0 → ⊥) → Reads 1 (bind_p (start_tag plain).run (then-rest (info_element (left - 1)) (part_in s (at + 1) e))) no_value s e r → Element r

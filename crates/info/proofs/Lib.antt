@@ -1,4 +1,3 @@
-pub mod Pieces
 pub mod Behind
 pub mod Contents
 pub mod Texts

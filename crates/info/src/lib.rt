@@ -7,12 +7,12 @@ ghost use Rattle.xml.specs.Code.{Reads, no_value};
 ghost use Rattle.info.specs.Code.{PieceIs};
 
 use tags::TagEnd;
-use xml::Scan;
+use xml::{Scan, Stop};
 
-// What stands inside Info, by its first bytes: text, an `&` form or a comment, which are passed; an end tag; or a child.
-#[derive(Clone, Copy)]
+// What stands inside Info, by its first bytes: text, an `&` form or a comment, passed up to a place; an end tag; or a child.
+#[derive(Clone, Copy, Debug, PartialEq, Eq)]
 enum Piece {
-    Passed(Scan),
+    Passed(usize),
     End,
     Child,
 }
@@ -21,10 +21,7 @@ enum Piece {
 fn text_content(s: &[u8], at: usize, w: &[u8]) -> Scan
     ensures { Reads 1 (Elements.text_content w.now).run no_value s.now at result }
 {
-    let r = xml::text_to(s, at, b'<');
-    let Scan::At(e) = r else {
-        return r;
-    };
+    let e = xml::text_to(s, at, b'<')?;
     markup::only_end(s, e, w, 0)
 }
 
@@ -32,44 +29,34 @@ fn text_content(s: &[u8], at: usize, w: &[u8]) -> Scan
 pub fn text_element(s: &[u8], at: usize, w: &[u8]) -> Scan
     ensures { Reads 1 (Elements.text_element w.now).run no_value s.now at result }
 {
-    let end = tags::plain_tag(s, at);
-    match end {
+    match tags::plain_tag(s, at)? {
         TagEnd::Open(q) => text_content(s, q, w),
-        TagEnd::Empty(q) => Scan::At(q),
-        TagEnd::Fault(k, p) => Scan::Fault(k, p),
-        TagEnd::Cut => Scan::Cut,
+        TagEnd::Empty(q) => Ok(q),
     }
 }
 
 // What stands at a place inside Info.
-fn piece_at(s: &[u8], at: usize) -> Piece
+fn piece_at(s: &[u8], at: usize) -> Result<Piece, Stop>
     requires { at < length s.now }
     ensures { PieceIs s.now at result }
 {
     let b = s[at];
     let next = at + 1;
     if b == b'&' {
-        let r = xml::entity(s, at);
-        return Piece::Passed(r);
+        return xml::entity(s, at).map(Piece::Passed);
     }
     if b != b'<' {
-        return Piece::Passed(Scan::At(next));
+        return Ok(Piece::Passed(next));
     }
     if s.len() <= next {
-        return Piece::Passed(Scan::Cut);
+        return Err(Stop::Cut);
     }
-    let c = s[next];
-    if c == b'/' {
-        return Piece::End;
+    match s[next] {
+        b'/' => Ok(Piece::End),
+        b'!' => xml::comment(s, at).map(Piece::Passed),
+        b'?' => Err(Stop::Fault(refusals::FORM_NOT_CARRIED, at)),
+        _ => Ok(Piece::Child),
     }
-    if c == b'!' {
-        let r = xml::comment(s, at);
-        return Piece::Passed(r);
-    }
-    if c == b'?' {
-        return Piece::Passed(Scan::Fault(refusals::FORM_NOT_CARRIED, at));
-    }
-    Piece::Child
 }
 
 // An element inside Info, below which `left` levels may nest.
@@ -77,61 +64,38 @@ fn piece_at(s: &[u8], at: usize) -> Piece
 fn element(s: &[u8], at: usize, left: usize) -> Scan
     ensures { Reads 1 (Elements.info_element left).run no_value s.now at result }
 {
-    let r = xml::open_name(s, at);
-    let Scan::At(e) = r else {
-        return r;
-    };
+    let e = xml::open_name(s, at)?;
     if left == 0 {
-        return Scan::Fault(refusals::FORM_NOT_CARRIED, at);
+        return Err(Stop::Fault(refusals::FORM_NOT_CARRIED, at));
     }
-    let end = tags::plain_tag(s, e);
-    match end {
+    match tags::plain_tag(s, e)? {
         TagEnd::Open(q) => content(s, q, tags::part(s, at + 1, e), left - 1),
-        TagEnd::Empty(q) => Scan::At(q),
-        TagEnd::Fault(k, p) => Scan::Fault(k, p),
-        TagEnd::Cut => Scan::Cut,
+        TagEnd::Empty(q) => Ok(q),
     }
 }
 
-// The content of an element of the name w, below which `left` levels may nest, and its end tag.
+// The content of an element of the name w, below which `left` levels may nest, and its end tag. The place jumps behind a piece, so no `for` counts it.
 #[cycle(content_element)]
 fn content(s: &[u8], at: usize, w: &[u8], left: usize) -> Scan
     ensures { Reads 1 (Elements.info_content (Elements.info_element left) w.now).run no_value s.now at result }
 {
     let mut i = at;
     while i < s.len() {
-        let p = piece_at(s, i);
-        match p {
-            Piece::Passed(r) => {
-                let Scan::At(q) = r else {
-                    return r;
-                };
-                i = q;
-            }
-            Piece::End => {
-                return markup::end_tag(s, i, w, 0);
-            }
-            Piece::Child => {
-                let r = element(s, i, left);
-                let Scan::At(q) = r else {
-                    return r;
-                };
-                i = q;
-            }
+        match piece_at(s, i)? {
+            Piece::Passed(q) => i = q,
+            Piece::End => return markup::end_tag(s, i, w, 0),
+            Piece::Child => i = element(s, i, left)?,
         }
     }
-    Scan::Cut
+    Err(Stop::Cut)
 }
 
 // Info, behind its name.
 pub fn info(s: &[u8], at: usize) -> Scan
     ensures { Reads 1 (Elements.info).run no_value s.now at result }
 {
-    let end = tags::plain_tag(s, at);
-    match end {
+    match tags::plain_tag(s, at)? {
         TagEnd::Open(q) => content(s, q, b"Info", 16),
-        TagEnd::Empty(q) => Scan::At(q),
-        TagEnd::Fault(k, p) => Scan::Fault(k, p),
-        TagEnd::Cut => Scan::Cut,
+        TagEnd::Empty(q) => Ok(q),
     }
 }

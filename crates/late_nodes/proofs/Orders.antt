@@ -9,7 +9,7 @@ use lib.Dec.{eqb, leb, ltb}
 use lib.ListN.{length, set, get_or, length-set}
 use lib.Seq.{get_or-set_same, get_or-set_other, set-set, set_comm}
 use Rattle.process_list.specs.List.{Element, blank_element, verdict}
-use Rattle.process_list.specs.declared.Verdict.TheVariants.{Accepted}
+use Rattle.std.proofs.Common.{Ok}
 use Rattle.grammar.specs.Parse.{Out, done, fault, cut}
 use Rattle.clf.specs.Reading.{most_bytes, is_numbered}
 use Rattle.look.specs.Replacing.{element, Call, kept_at, is_late, call, kept_by}
@@ -118,7 +118,7 @@ pub record Shaped (es : List Element) (h : NodeState) : Type 0 where
   pub count : length h.elements ≡ length es
   pub kept : length es ≤ length h.kept
 
-module _ (room : ℕ) (es : List Element) (v : verdict room es ≡ Accepted) where
+module _ (room : ℕ) (es : List Element) (v : verdict room es ≡ Ok tt) where
   puts-shaped : (c : Call) → Fitting es c → (h : NodeState) → Shaped es h → (b : Bool) → Shaped es (placing b c h)
   puts-shaped c f h s true = s
   puts-shaped c f h s false = record {

@@ -1,7 +1,6 @@
 -- Replacing a node by an element (document 01, Replacing; document 02, W-208): the element alone, the answer of a call, and the call by the list alone.
 use Rattle.std.specs.Prelude.{refl, Bool, false, cond, ◌&&◌, List, [], ◌∷◌, ℕ, ◌-◌, ltb, leb, length, set, get_or}
-use Rattle.process_list.specs.declared.Verdict.{Verdict}
-use Rattle.process_list.specs.List.{Element, verdict, by_verdict}
+use Rattle.process_list.specs.List.{Verdict, Element, verdict, by_verdict}
 use Rattle.grammar.specs.Parse.{Out, done, fault, cut}
 use Rattle.grammar.specs.Grammar.{G, judge, seq}
 use Rattle.xml.specs.Bytes.{bytes, is_letter, is_digit, is_name_byte}

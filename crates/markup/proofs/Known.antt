@@ -2,7 +2,7 @@
 use mathlib.Core.Path.{◌≡◌, refl, sym, ap, ◌∙◌}
 use mathlib.Core.Bool.{Bool, true, false, cond}
 use mathlib.Core.List.{List}
-use Prim.Native.Nat.{ℕ, zero, suc, ◌-◌, ◌≤◌, ◌<◌, min}
+use Prim.Native.Nat.{ℕ, zero, suc, ◌-◌, ◌≤◌, min}
 use native.Mathlib.Omega.{arith}
 use lib.ListN.{length, drop, length-drop}
 use lib.Dec.{eqb}
@@ -10,8 +10,9 @@ use borrow.Author.Tests.{eq-eqb, ne_eqb, eqb-true, eqb-false}
 use Rattle.grammar.specs.Parse.{Out, done, fault, cut, Parser, bind_p, judge_p, settle_out, settle_p, same_place}
 use Rattle.xml.specs.Code.{Reads, Failed}
 use Rattle.xml.specs.CodeLaws.{reads-failed, reads-ill, reads-unjudged}
-use Rattle.xml.specs.declared.Scan.{Scan}
-use Rattle.xml.specs.declared.Scan.TheVariants.{At, Fault, Cut}
+use Rattle.xml.specs.Code.{Scan}
+use Rattle.std.specs.Prelude.{Ok, Err}
+use Rattle.xml.specs.declared.Stop.TheVariants.{Fault, Cut}
 use Rattle.markup.specs.Settled.{settled_scan, refused_scan}
 
 -- ---- the code's cases
@@ -20,23 +21,19 @@ pub settled-none : (v : ℕ) (r : Scan) (at : ℕ) → v ≡ 0 → r ≡ settled
 settled-none v r at q = rw q
 
 module _ (at : ℕ) where
-  pub settled_at : (v e : ℕ) → (v ≡ 0 → ⊥) → Fault v at ≡ settled_scan v (At e) at
+  pub settled_at : (v e : ℕ) → (v ≡ 0 → ⊥) → Err (Fault v at) ≡ settled_scan v (Ok e) at
   settled_at zero e q = absurd (q refl)
   settled_at (suc v) e q = refl
 
-  pub settled-apart : (v k p : ℕ) → (v ≡ 0 → ⊥) → (p ≡ at → ⊥) → Fault v at ≡ settled_scan v (Fault k p) at
+  pub settled-apart : (v k p : ℕ) → (v ≡ 0 → ⊥) → (p ≡ at → ⊥) → Err (Fault v at) ≡ settled_scan v (Err (Fault k p)) at
   settled-apart zero k p q h = absurd (q refl)
   settled-apart (suc v) k p q h = rw (ne_eqb p at h)
 
-  pub settled-lower : (v k p : ℕ) → (v ≡ 0 → ⊥) → p ≡ at → k < v → Fault k at ≡ settled_scan v (Fault k p) at
-  settled-lower zero k p q h l = absurd (q refl)
-  settled-lower (suc v) k p q h l = let z : min (suc v) k ≡ k = omega arith in rw (eq-eqb p at h, z)
+  pub settled-here : (v k p : ℕ) → (v ≡ 0 → ⊥) → p ≡ at → Err (Fault (min v k) at) ≡ settled_scan v (Err (Fault k p)) at
+  settled-here zero k p q h = absurd (q refl)
+  settled-here (suc v) k p q h = rw (eq-eqb p at h)
 
-  pub settled-kept : (v k p : ℕ) → (v ≡ 0 → ⊥) → p ≡ at → v ≤ k → Fault v at ≡ settled_scan v (Fault k p) at
-  settled-kept zero k p q h l = absurd (q refl)
-  settled-kept (suc v) k p q h l = let z : min (suc v) k ≡ suc v = omega arith in rw (eq-eqb p at h, z)
-
-  pub settled-cut : (v : ℕ) → Cut ≡ settled_scan v Cut at
+  pub settled-cut : (v : ℕ) → (Err Cut) ≡ settled_scan v (Err Cut) at
   settled-cut zero = refl
   settled-cut (suc v) = refl
 
@@ -57,10 +54,10 @@ module _ {A : Type 0} (p : Parser A) (value : ℕ → A) (s : List ℕ) (at n : 
 
   pub reads-settle : (v : ℕ) (r : Scan) → Reads n p value s at r → Reads n (settle_p v p) value s at (settled_scan v r at)
   reads-settle zero r w = record { out = w.out ∙ settle-none (p (drop at s)) (drop at s); inside = w.inside }
-  reads-settle (suc v) (At e) w = record { out = ap (λ (o : Out A). settle_out (suc v) o (drop at s)) w.out; inside = (omega arith, omega (arith, w.inside)) }
-  reads-settle (suc v) (Fault k q) w = by (eqb q at) refl
+  reads-settle (suc v) (Ok e) w = record { out = ap (λ (o : Out A). settle_out (suc v) o (drop at s)) w.out; inside = (omega arith, omega (arith, w.inside)) }
+  reads-settle (suc v) (Err (Fault k q)) w = by (eqb q at) refl
     where
-      by : (t : Bool) → eqb q at ≡ t → Reads n (settle_p (suc v) p) value s at (cond t (Fault (min (suc v) k) at) (Fault (suc v) at))
+      by : (t : Bool) → eqb q at ≡ t → Reads n (settle_p (suc v) p) value s at (cond t (Err (Fault (min (suc v) k) at)) (Err (Fault (suc v) at)))
       by true e = record {
         out = ap (λ (t : Bool). cond t (fault (min (suc v) k) (drop at s)) (fault (suc v) (drop at s))) (sym (same_place_lem s at q w.inside.0 w.inside.1 true e))
             ∙ ap (λ (o : Out A). settle_out (suc v) o (drop at s)) w.out;
@@ -71,17 +68,17 @@ module _ {A : Type 0} (p : Parser A) (value : ℕ → A) (s : List ℕ) (at n : 
             ∙ ap (λ (o : Out A). settle_out (suc v) o (drop at s)) w.out;
         inside = (omega arith, omega (arith, w.inside));
       }
-  reads-settle (suc v) Cut w = record { out = ap (λ (o : Out A). settle_out (suc v) o (drop at s)) w.out; inside = tt }
+  reads-settle (suc v) (Err Cut) w = record { out = ap (λ (o : Out A). settle_out (suc v) o (drop at s)) w.out; inside = tt }
 
   settled-failed : (v : ℕ) → (v ≡ 0 → ⊥) → (r : Scan) → Failed (settled_scan v r at)
   settled-failed zero z r = absurd (z refl)
-  settled-failed (suc v) z (At e) = tt
-  settled-failed (suc v) z (Fault k q) = by (eqb q at)
+  settled-failed (suc v) z (Ok e) = tt
+  settled-failed (suc v) z (Err (Fault k q)) = by (eqb q at)
     where
-      by : (t : Bool) → Failed (cond t (Fault (min (suc v) k) at) (Fault (suc v) at))
+      by : (t : Bool) → Failed (cond t (Err (Fault (min (suc v) k) at)) (Err (Fault (suc v) at)))
       by true = tt
       by false = tt
-  settled-failed (suc v) z Cut = tt
+  settled-failed (suc v) z (Err Cut) = tt
 
   -- what a fault is known of, whatever was to come after it
   pub reads-settled : {B : Type 0} (f : A → Parser B) (value₂ : ℕ → B) (m v : ℕ) (r : Scan) → (v ≡ 0 → ⊥) → Reads n p value s at r
@@ -92,9 +89,9 @@ module _ {A : Type 0} (p : Parser A) (value : ℕ → A) (s : List ℕ) (at n : 
   -- what is a fault once it is read, whatever was to come after it
   pub reads-refused : {B : Type 0} (f : A → Parser B) (value₂ : ℕ → B) (m k : ℕ) (r : Scan) → (k ≡ 0 → ⊥) → Reads n p value s at r
       → Reads m (bind_p (judge_p (λ a. k) p) f) value₂ s at (refused_scan r k at)
-  reads-refused f value₂ m k (At e) z w =
-      reads-failed (judge_p (λ a. k) p) value f value₂ s at n m (Fault k at) tt (reads-ill p value s at (λ a. k) n n e k refl z w)
-  reads-refused f value₂ m k (Fault j q) z w =
-      reads-failed (judge_p (λ a. k) p) value f value₂ s at n m (Fault j q) tt (reads-unjudged p value s at (λ a. k) n n (Fault j q) tt w)
-  reads-refused f value₂ m k Cut z w =
-      reads-failed (judge_p (λ a. k) p) value f value₂ s at n m Cut tt (reads-unjudged p value s at (λ a. k) n n Cut tt w)
+  reads-refused f value₂ m k (Ok e) z w =
+      reads-failed (judge_p (λ a. k) p) value f value₂ s at n m (Err (Fault k at)) tt (reads-ill p value s at (λ a. k) n n e k refl z w)
+  reads-refused f value₂ m k (Err (Fault j q)) z w =
+      reads-failed (judge_p (λ a. k) p) value f value₂ s at n m (Err (Fault j q)) tt (reads-unjudged p value s at (λ a. k) n n (Err (Fault j q)) tt w)
+  reads-refused f value₂ m k (Err Cut) z w =
+      reads-failed (judge_p (λ a. k) p) value f value₂ s at n m (Err Cut) tt (reads-unjudged p value s at (λ a. k) n n (Err Cut) tt w)

@@ -16,8 +16,9 @@ use Rattle.xml.specs.Xml.{spaces, byte, comment, open_name, close_name, end_tag,
 use Rattle.xml.specs.Elements.{forbidden, only_end}
 use Rattle.xml.specs.Code.{part, Reads, no_value, Failed}
 use Rattle.xml.specs.CodeLaws.{reads-fewer, reads_then, reads-failed, reads-ret, reads-well, reads-ill, reads-strict, look-two-at}
-use Rattle.xml.specs.declared.Scan.{Scan}
-use Rattle.xml.specs.declared.Scan.TheVariants.{At, Fault, Cut}
+use Rattle.xml.specs.Code.{Scan}
+use Rattle.std.specs.Prelude.{Ok, Err}
+use Rattle.xml.specs.declared.Stop.TheVariants.{Fault, Cut}
 use Rattle.markup.specs.Settled.{settled_scan, refused_scan, spaces_byte, end_alone}
 use Rattle.markup.proofs.Known.{reads-settle, reads-settled, reads-refused}
 
@@ -39,7 +40,7 @@ module _ (s : List ℕ) (at : ℕ) where
         reads-failed (bind_p spaces.run (λ l. (byte c 2).run)) (λ e. 0) (λ b. ret_p tt) no_value s at 1 1 r f
         (reads-failed spaces.run (part s at) (λ l. (byte c 2).run) (λ e. 0) s at 0 1 r f v)
 
-    pub spaces-then : (e : ℕ) (r : Scan) → Reads 0 spaces.run (part s at) s at (At e) → Reads 1 (byte c 2).run (λ i. get_or s e 0) s e r
+    pub spaces-then : (e : ℕ) (r : Scan) → Reads 0 spaces.run (part s at) s at (Ok e) → Reads 1 (byte c 2).run (λ i. get_or s e 0) s e r
         → Reads 1 (spaces_byte c).run no_value s at r
     spaces-then e r v w =
         reads-ret (bind_p spaces.run (λ l. (byte c 2).run)) (λ i. get_or s e 0) tt s at 1 r
@@ -55,20 +56,20 @@ module _ (s : List ℕ) (at : ℕ) where
     rest o = then_out (then_out (then_out o (λ n. spaces.run)) (λ l. (byte greater_than 2).run)) (λ b. ret_p tt)
 
     pub end-failed : (r : Scan) → Failed r → Reads 3 close_name.run (part s (at + 2)) s at r → Reads 1 (end_alone w).run no_value s at r
-    end-failed (At e) f v = absurd f
-    end-failed (Fault k q) f v = record { out = ap (λ (o : Out (List ℕ)). rest (judge_out judged o (drop at s))) v.out; inside = v.inside }
-    end-failed Cut f v = record { out = ap (λ (o : Out (List ℕ)). rest (judge_out judged o (drop at s))) v.out; inside = tt }
+    end-failed (Ok e) f v = absurd f
+    end-failed (Err (Fault k q)) f v = record { out = ap (λ (o : Out (List ℕ)). rest (judge_out judged o (drop at s))) v.out; inside = v.inside }
+    end-failed (Err Cut) f v = record { out = ap (λ (o : Out (List ℕ)). rest (judge_out judged o (drop at s))) v.out; inside = tt }
 
-    module _ (e : ℕ) (v : Reads 3 close_name.run (part s (at + 2)) s at (At e)) where
-      pub end-other : same (part s (at + 2) e) w ≡ false → Reads 1 (end_alone w).run no_value s at (Fault 2 at)
+    module _ (e : ℕ) (v : Reads 3 close_name.run (part s (at + 2)) s at (Ok e)) where
+      pub end-other : same (part s (at + 2) e) w ≡ false → Reads 1 (end_alone w).run no_value s at (Err (Fault 2 at))
       end-other q =
-          let i : Reads 1 (judge_p judged close_name.run) (part s (at + 2)) s at (Fault 2 at) =
+          let i : Reads 1 (judge_p judged close_name.run) (part s (at + 2)) s at (Err (Fault 2 at)) =
           reads-ill close_name.run (part s (at + 2)) s at judged 3 1 e 2 (ap (λ (t : Bool). cond t 0 2) q) two v in
           record { out = ap rest i.out; inside = i.inside }
 
       pub end_same : (r : Scan) → same (part s (at + 2) e) w ≡ true → Reads 1 (spaces_byte greater_than).run no_value s e r → Reads 1 (end_alone w).run no_value s at r
       end_same r q u =
-          let i : Reads 3 (judge_p judged close_name.run) (part s (at + 2)) s at (At e) =
+          let i : Reads 3 (judge_p judged close_name.run) (part s (at + 2)) s at (Ok e) =
           reads-well close_name.run (part s (at + 2)) s at judged 3 e (ap (λ (t : Bool). cond t 0 2) q) v in
           let z : Reads 4 (bind_p (judge_p judged close_name.run) (λ n. (spaces_byte greater_than).run)) no_value s at r =
           reads_then (judge_p judged close_name.run) (part s (at + 2)) (λ n. (spaces_byte greater_than).run) no_value s at 3 1 e r i u in
@@ -92,14 +93,14 @@ module _ (s : List ℕ) (at : ℕ) where
   -- it is never read to its end
   pub stray-failed : (r : Scan) → Reads 1 stray_end.run no_value s at r → Failed r
   unfolding stray_end
-  stray-failed (At e) v = go (close_name.run (drop at s)) v.out
+  stray-failed (Ok e) v = go (close_name.run (drop at s)) v.out
     where
       go : (o : Out (List ℕ)) → done (tt {0}) (drop e s) ≡ then_out (judge_out (λ n. 2) o (drop at s)) (λ n. ret_p tt) → ⊥
       go (done w r) q = nope cc
       go (fault k r) q = nope cc
       go cut q = nope cc
-  stray-failed (Fault k p) v = tt
-  stray-failed Cut v = tt
+  stray-failed (Err (Fault k p)) v = tt
+  stray-failed (Err Cut) v = tt
 
   -- ---- what may not stand there
 
@@ -118,8 +119,8 @@ module _ (s : List ℕ) (at : ℕ) where
         by true (eqb b 63) (eq-eqb b 33 q) refl (settled_scan 3 r at) (reads-settled comment.run no_value s at 1 (λ u. bad_p 3) no_value 1 3 r three v)
 
     module _ (nc : b ≡ 33 → ⊥) where
-      pub stranger-question : b ≡ 63 → Reads 1 (forbidden b).run no_value s at (Fault 3 at)
-      stranger-question q = by false true (ne_eqb b 33 nc) (eq-eqb b 63 q) (Fault 3 at) (record { out = refl; inside = (omega arith, omega arith) })
+      pub stranger-question : b ≡ 63 → Reads 1 (forbidden b).run no_value s at (Err (Fault 3 at))
+      stranger-question q = by false true (ne_eqb b 33 nc) (eq-eqb b 63 q) (Err (Fault 3 at)) (record { out = refl; inside = (omega arith, omega arith) })
 
       pub stranger-element : (r : Scan) → (b ≡ 63 → ⊥) → Reads 2 open_name.run (part s (at + 1)) s at r → Reads 1 (forbidden b).run no_value s at (refused_scan r 5 at)
       stranger-element r q v =
@@ -131,11 +132,11 @@ module _ (s : List ℕ) (at : ℕ) where
     abbrev only : ℕ → ℕ → Parser (Unit {0})
     only a b = (cond (eqb b slash) (end_tag w missing) (forbidden b)).run
 
-    pub only-cut : length s ≤ at → Reads 1 (only_end w missing).run no_value s at Cut
+    pub only-cut : length s ≤ at → Reads 1 (only_end w missing).run no_value s at (Err Cut)
     unfolding only_end
     only-cut h = record { out = sym (ap (look_two_p only) (past s at h)); inside = tt }
 
-    pub only_one : at < length s → length s ≤ at + 1 → Reads 1 (only_end w missing).run no_value s at Cut
+    pub only_one : at < length s → length s ≤ at + 1 → Reads 1 (only_end w missing).run no_value s at (Err Cut)
     unfolding only_end
     only_one h k =
         record { out = sym (ap (look_two_p only) (here s at h ∙ ap (λ (l : List ℕ). get_or s at 0 ∷ l) (past s (at + 1) k))); inside = tt }

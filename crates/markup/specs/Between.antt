@@ -10,8 +10,10 @@ use Rattle.xml.specs.Bytes.{is_space, less_than, slash, exclamation, question, a
 use Rattle.xml.specs.Xml.{comment, entity, open_name}
 use Rattle.xml.specs.Elements.{Part, misc, child, close, markup, between}
 use Rattle.xml.specs.Code.{part, scan_out, Reads, no_value}
-use Rattle.xml.specs.declared.Scan.{Scan}
-use Rattle.xml.specs.declared.Scan.TheVariants as Scans
+use Rattle.xml.specs.Code.{Scan}
+use Rattle.std.specs.Prelude.{Result, Ok, Err}
+use Rattle.xml.specs.declared.Stop.{Stop}
+use Rattle.xml.specs.declared.Stop.TheVariants as Stops
 use Rattle.xml.specs.CodeLaws.{verdict-well, verdict-ill}
 use Rattle.markup.specs.Items.{ItemFound, passed, starts, ends, item_by_two, content_item, item_out, ItemReads}
 use Rattle.markup.specs.declared.Item.{Item}
@@ -91,37 +93,41 @@ module _ {C : Type 0} (end : G (Unit {0})) (refusal : List ℕ → ℕ) (body : 
   -- ---- by the code's answer r for the first bytes at a place
 
   module _ (s : List ℕ) (at : ℕ) where
-    by_answer : (r : Item) → ItemReads s at r → (between end refusal body).run (drop at s) ≡ by_item (drop at s) (item_out s at r)
+    by_answer : (r : Result Item Stop) → ItemReads s at r → (between end refusal body).run (drop at s) ≡ by_item (drop at s) (item_out s at r)
     by_answer r v = between-item (drop at s) ∙ ap (by_item (drop at s)) (sym v.out)
 
     moved : {A : Type 0} (a : A) (r : List ℕ) → length r < length (drop at s) → strict_out (done a r) (drop at s) ≡ done a r
     moved a r l = ap (λ (t : Bool). cond t (done a r) cut) (lt-ltb (length r) (length (drop at s)) l)
 
-    pub between-misc : (e : ℕ) → ItemReads s at (Items.Misc e) → (between end refusal body).run (drop at s) ≡ done misc (drop e s)
-    between-misc e v = by_answer (Items.Misc e) v ∙ moved misc (drop e s) (simp length-drop (omega (arith, v.inside)))
+    pub between-misc : (e : ℕ) → ItemReads s at (Ok (Items.Misc e)) → (between end refusal body).run (drop at s) ≡ done misc (drop e s)
+    between-misc e v = by_answer (Ok (Items.Misc e)) v ∙ moved misc (drop e s) (simp length-drop (omega (arith, v.inside)))
 
-    pub between-fault : (k p : ℕ) → ItemReads s at (Items.Fault k p) → (between end refusal body).run (drop at s) ≡ fault k (drop p s)
-    between-fault k p v = by_answer (Items.Fault k p) v
+    pub between-failed : (value : ℕ → Part C) (stop : Stop) → ItemReads s at (Err stop) → (between end refusal body).run (drop at s) ≡ scan_out value s (Err stop)
+    between-failed value (Stops.Fault k p) v = by_answer (Err (Stops.Fault k p)) v
+    between-failed value Stops.Cut v = by_answer (Err Stops.Cut) v
 
-    pub between-cut : ItemReads s at Items.Cut → (between end refusal body).run (drop at s) ≡ cut
-    between-cut v = by_answer Items.Cut v
+    pub between-fault : (k p : ℕ) → ItemReads s at (Err (Stops.Fault k p)) → (between end refusal body).run (drop at s) ≡ fault k (drop p s)
+    between-fault k p v = by_answer (Err (Stops.Fault k p)) v
+
+    pub between-cut : ItemReads s at (Err Stops.Cut) → (between end refusal body).run (drop at s) ≡ cut
+    between-cut v = by_answer (Err Stops.Cut) v
 
     -- ---- a start tag, whose name ends at e
 
-    module _ (e : ℕ) (v : ItemReads s at (Items.StartTag e)) where
+    module _ (e : ℕ) (v : ItemReads s at (Ok (Items.StartTag e))) where
       abbrev w : List ℕ
       w = part s (at + 1) e
 
       pub between-refused : (k : ℕ) → refusal w ≡ k → (k ≡ 0 → ⊥) → (between end refusal body).run (drop at s) ≡ fault k (drop at s)
       between-refused k q z =
-          by_answer (Items.StartTag e) v
+          by_answer (Ok (Items.StartTag e)) v
           ∙ ap (λ (o : Out (List ℕ)). strict_out (then_out o after_name) (drop at s))
           (ap (λ (n : ℕ). judged_to n w (drop e s) (drop at s)) q ∙ verdict-ill k w (drop e s) (drop at s) z)
 
       module _ (q : refusal w ≡ 0) where
         by-body : (o : Out C) → (body w).run (drop e s) ≡ o → (between end refusal body).run (drop at s) ≡ strict_out (then_out o (λ v. ret_p (child v))) (drop at s)
         by-body o x =
-            by_answer (Items.StartTag e) v
+            by_answer (Ok (Items.StartTag e)) v
             ∙ ap (λ (o : Out (List ℕ)). strict_out (then_out o after_name) (drop at s)) (verdict-well (refusal w) w (drop e s) (drop at s) q)
             ∙ ap (λ (o : Out C). strict_out (then_out o (λ v. ret_p (child v))) (drop at s)) x
 
@@ -138,9 +144,9 @@ module _ {C : Type 0} (end : G (Unit {0})) (refusal : List ℕ → ℕ) (body : 
 
     -- ---- an end tag
 
-    module _ (v : ItemReads s at Items.EndTag) where
+    module _ (v : ItemReads s at (Ok Items.EndTag)) where
       by_end : (o : Out (Unit {0})) → end.run (drop at s) ≡ o → (between end refusal body).run (drop at s) ≡ strict_out (then_out o (λ u. ret_p close)) (drop at s)
-      by_end o x = by_answer Items.EndTag v ∙ ap (λ (o : Out (Unit {0})). strict_out (then_out o (λ u. ret_p close)) (drop at s)) x
+      by_end o x = by_answer (Ok Items.EndTag) v ∙ ap (λ (o : Out (Unit {0})). strict_out (then_out o (λ u. ret_p close)) (drop at s)) x
 
       pub between-end : (e : ℕ) → end.run (drop at s) ≡ done tt (drop e s) → at < e → e ≤ length s → (between end refusal body).run (drop at s) ≡ done close (drop e s)
       between-end e x h k = by_end (done tt (drop e s)) x ∙ moved close (drop e s) (simp length-drop (omega arith))
@@ -153,6 +159,6 @@ module _ {C : Type 0} (end : G (Unit {0})) (refusal : List ℕ → ℕ) (body : 
 
       -- the same by the code's answer for the end tag
       pub between-end-reads : (r : Scan) → Reads 1 end.run no_value s at r → (between end refusal body).run (drop at s) ≡ scan_out (λ e. close) s r
-      between-end-reads (Scans.At e) x = between-end e (sym x.out) (omega (arith, x.inside)) x.inside.1
-      between-end-reads (Scans.Fault k p) x = between-end-fault k (drop p s) (sym x.out)
-      between-end-reads Scans.Cut x = between-end-cut (sym x.out)
+      between-end-reads (Ok e) x = between-end e (sym x.out) (omega (arith, x.inside)) x.inside.1
+      between-end-reads (Err (Stops.Fault k p)) x = between-end-fault k (drop p s) (sym x.out)
+      between-end-reads (Err Stops.Cut) x = between-end-cut (sym x.out)

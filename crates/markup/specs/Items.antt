@@ -4,8 +4,9 @@ use Rattle.grammar.specs.Parse.{Out, done, fault, cut, Parser, then_out, ret_p, 
 use Rattle.xml.specs.Bytes.{is_space, less_than, slash, exclamation, question, ampersand}
 use Rattle.xml.specs.Xml.{comment, entity, open_name}
 use Rattle.xml.specs.Code.{part}
-use Rattle.xml.specs.declared.Scan.{Scan}
-use Rattle.xml.specs.declared.Scan.TheVariants as Scans
+use Rattle.std.specs.Prelude.{Result, Ok, Err}
+use Rattle.xml.specs.declared.Stop.{Stop}
+use Rattle.xml.specs.declared.Stop.TheVariants.{Fault, Cut}
 use Rattle.markup.specs.declared.Item.{Item}
 use Rattle.markup.specs.declared.Item.TheVariants as Items
 use Rattle.refusals.specs.Refusals as Refusal
@@ -42,45 +43,34 @@ item_by_byte b s =
 unfoldable pub content_item : Parser ItemFound
 content_item = look_p item_by_byte
 
-abbrev pub item_out : List ℕ → ℕ → Item → Out ItemFound
-item_out s at (Items.Misc e) = done passed (drop e s)
-item_out s at (Items.StartTag e) = done (starts (part s (at + 1) e)) (drop e s)
-item_out s at Items.EndTag = done ends (drop at s)
-item_out s at (Items.Fault k p) = fault k (drop p s)
-item_out s at Items.Cut = cut
+abbrev pub item_out : List ℕ → ℕ → Result Item Stop → Out ItemFound
+item_out s at (Ok (Items.Misc e)) = done passed (drop e s)
+item_out s at (Ok (Items.StartTag e)) = done (starts (part s (at + 1) e)) (drop e s)
+item_out s at (Ok Items.EndTag) = done ends (drop at s)
+item_out s at (Err (Fault k p)) = fault k (drop p s)
+item_out s at (Err Cut) = cut
 
-abbrev pub ItemInside : List ℕ → ℕ → Item → Type 0
-ItemInside s at (Items.Misc e) = (at + 1 ≤ e) × (e ≤ length s)
-ItemInside s at (Items.StartTag e) = (at + 2 ≤ e) × (e ≤ length s)
-ItemInside s at Items.EndTag = at + 2 ≤ length s
-ItemInside s at (Items.Fault k p) = (at ≤ p) × (p ≤ length s)
-ItemInside s at Items.Cut = Unit
+abbrev pub ItemInside : List ℕ → ℕ → Result Item Stop → Type 0
+ItemInside s at (Ok (Items.Misc e)) = (at + 1 ≤ e) × (e ≤ length s)
+ItemInside s at (Ok (Items.StartTag e)) = (at + 2 ≤ e) × (e ≤ length s)
+ItemInside s at (Ok Items.EndTag) = at + 2 ≤ length s
+ItemInside s at (Err (Fault k p)) = (at ≤ p) × (p ≤ length s)
+ItemInside s at (Err Cut) = Unit
 
 -- the answer for what is found in the bytes u that stand at `at`: a place is as many bytes behind `at` as have been taken
-abbrev pub item_placed : ℕ → List ℕ → Out ItemFound → Item
-item_placed at u (done passed r) = Items.Misc (at + (length u - length r))
-item_placed at u (done (starts w) r) = Items.StartTag (at + (length u - length r))
-item_placed at u (done ends r) = Items.EndTag
-item_placed at u (fault k r) = Items.Fault k (at + (length u - length r))
-item_placed at u cut = Items.Cut
+abbrev pub item_placed : ℕ → List ℕ → Out ItemFound → Result Item Stop
+item_placed at u (done passed r) = Ok (Items.Misc (at + (length u - length r)))
+item_placed at u (done (starts w) r) = Ok (Items.StartTag (at + (length u - length r)))
+item_placed at u (done ends r) = Ok Items.EndTag
+item_placed at u (fault k r) = Err (Fault k (at + (length u - length r)))
+item_placed at u cut = Err Cut
 
 -- the answer r for what stands at `at`. There is one for every `at`: `item_placed at (drop at s) (content_item (drop at s))` (`proofs/ItemLaws`: `item-placed`)
-pub record ItemReads (s : List ℕ) (at : ℕ) (r : Item) : Type 0 where
+pub record ItemReads (s : List ℕ) (at : ℕ) (r : Result Item Stop) : Type 0 where
   pub out : item_out s at r ≡ content_item (drop at s)
   pub inside : ItemInside s at r
 
 -- the same of another parser of the first bytes
-pub record ItemReadsBy (p : Parser ItemFound) (s : List ℕ) (at : ℕ) (r : Item) : Type 0 where
+pub record ItemReadsBy (p : Parser ItemFound) (s : List ℕ) (at : ℕ) (r : Result Item Stop) : Type 0 where
   pub out : item_out s at r ≡ p (drop at s)
   pub inside : ItemInside s at r
-
--- an answer for what is passed, and for a start tag up to its name's end
-abbrev pub misc_of : Scan → Item
-misc_of (Scans.At e) = Items.Misc e
-misc_of (Scans.Fault k p) = Items.Fault k p
-misc_of Scans.Cut = Items.Cut
-
-abbrev pub start_tag_of : Scan → Item
-start_tag_of (Scans.At e) = Items.StartTag e
-start_tag_of (Scans.Fault k p) = Items.Fault k p
-start_tag_of Scans.Cut = Items.Cut

@@ -1,30 +1,30 @@
 -- The next tag behind white space and comments, and what the code's answer means.
 use Rattle.std.specs.Prelude.{List, ℕ}
 use Rattle.grammar.specs.Parse.{Out, done, fault, cut, Parser, Turn, again, last, loop_p}
-use Rattle.xml.specs.declared.Scan.TheVariants as Scans
+use Rattle.std.specs.Prelude.{Result, Ok, Err}
+use Rattle.xml.specs.declared.Stop.{Stop}
 use Rattle.markup.specs.Items.{ItemFound, passed, starts, ends, content_item, ItemReads}
 use Rattle.markup.specs.declared.Item.{Item}
 use Rattle.markup.specs.declared.Item.TheVariants as Items
+use Rattle.markup.specs.declared.Halt.{Halt}
 use Rattle.markup.specs.declared.NextTag.{NextTag}
-use Rattle.markup.specs.declared.NextTag.TheVariants.{Start, End, Failed}
+use Rattle.markup.specs.declared.NextTag.TheVariants.{Start, End}
 
 -- 'white space and comments may stand .. between elements': from `at` to the place there is nothing else
 pub data Passed (s : List ℕ) (at : ℕ) : ℕ → Type 0 where
   none : Passed s at at
-  more : {i e : ℕ} → Passed s at i → ItemReads s i (Items.Misc e) → Passed s at e
+  more : {i e : ℕ} → Passed s at i → ItemReads s i (Ok (Items.Misc e)) → Passed s at e
 
 -- behind them, at i, stands this item
-pub record Behind (s : List ℕ) (at : ℕ) (item : Item) (i : ℕ) : Type 0 where
+pub record Behind (s : List ℕ) (at : ℕ) (item : Result Item Stop) (i : ℕ) : Type 0 where
   pub passed : Passed s at i
   pub reads : ItemReads s i item
 
 -- the answer for the next tag from `at` on. It is that of the parser below, in place and item (`proofs/Next`: `next-run`)
-abbrev pub NextReads : List ℕ → ℕ → NextTag → Type 0
-NextReads s at (Start i e) = Behind s at (Items.StartTag e) i
-NextReads s at (End i) = Behind s at Items.EndTag i
-NextReads s at (Failed i (Scans.At e)) = ⊥
-NextReads s at (Failed i (Scans.Fault k p)) = Behind s at (Items.Fault k p) i
-NextReads s at (Failed i Scans.Cut) = Behind s at Items.Cut i
+abbrev pub NextReads : List ℕ → ℕ → Result NextTag Halt → Type 0
+NextReads s at (Ok (Start i e)) = Behind s at (Ok (Items.StartTag e)) i
+NextReads s at (Ok (End i)) = Behind s at (Ok Items.EndTag) i
+NextReads s at (Err halt) = Behind s at (Err halt.stop) halt.at
 
 -- item by item to the first that is not passed over: the bytes from there on, and what is found in them
 abbrev pub stop_at : List ℕ → Out ItemFound → Out (Turn (Unit {0}) (List ℕ × Out ItemFound))

@@ -25,17 +25,10 @@ pub fn put_name(out: &mut [u8], at: usize, kind: Kind) -> usize
     ensures { Puts (λ t. name_text kind ++ t) at out.old out.new result }
 {
     match kind {
-        Kind::Matrix { wide: _ } => put(out, at, b"Matrix"),
-        Kind::Lut1d {
-            entries: _,
-            columns: _,
-        } => put(out, at, b"LUT1D"),
-        Kind::Range { style: _ } => put(out, at, b"Range"),
-        Kind::Cdl { style: _ } => put(out, at, b"ASC_CDL"),
-        Kind::Lut3d {
-            points: _,
-            interpolation: _,
-        } => put(out, at, b"LUT3D"),
-        Kind::OneEnd { end: _ } => put(out, at, b"Range"),
+        Kind::Matrix { .. } => put(out, at, b"Matrix"),
+        Kind::Lut1d { .. } => put(out, at, b"LUT1D"),
+        Kind::Range { .. } | Kind::OneEnd { .. } => put(out, at, b"Range"),
+        Kind::Cdl { .. } => put(out, at, b"ASC_CDL"),
+        Kind::Lut3d { .. } => put(out, at, b"LUT3D"),
     }
 }

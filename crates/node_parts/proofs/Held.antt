@@ -12,15 +12,16 @@ use Rattle.grammar.specs.Laws.{loop-again, loop-last, loop-fault, loop-cut, nope
 use Rattle.xml.specs.Xml.{end_tag}
 use Rattle.xml.specs.Elements.{Part, child, close, between, Holder, after_part, held_part, held}
 use Rattle.xml.specs.Code.{part, scan_out, Inside, Reads, no_value, Failed}
-use Rattle.xml.specs.declared.Scan.{Scan}
-use Rattle.xml.specs.declared.Scan.TheVariants.{At, Fault, Cut}
+use Rattle.xml.specs.Code.{Scan}
+use Rattle.std.specs.Prelude.{Result, Ok, Err}
+use Rattle.xml.specs.declared.Stop.{Stop}
+use Rattle.xml.specs.declared.Stop.TheVariants.{Fault, Cut}
 use Rattle.tags.specs.Code.{part_in}
 use Rattle.tags.proofs.Words.{part_in_lem}
-use Rattle.markup.specs.Items.{ItemReads}
+use Rattle.markup.specs.Items.{ItemInside, ItemReads}
 use Rattle.markup.specs.Settled.{end_alone}
-use Rattle.markup.specs.Between.{by_item, between-item, between-misc, between-fault, between-cut, between-end-reads}
-use Rattle.markup.specs.Next.{Behind, NextReads}
-use Rattle.markup.specs.declared.NextTag.TheVariants as Nexts
+use Rattle.markup.specs.Between.{by_item, between-item, between-misc, between-failed, between-end-reads}
+use Rattle.markup.specs.Next.{Behind}
 use Rattle.markup.proofs.Next.{passed-low, loop-passed}
 use Rattle.markup.specs.declared.Item.{Item}
 use Rattle.markup.specs.declared.Item.TheVariants as Items
@@ -37,16 +38,15 @@ lacks k (fault j u) s r q = go (same_place u s) q
     go false q = nope cc
 lacks k cut s r q = nope cc
 
-pub end-lacks : (w : List ℕ) (k n : ℕ) (s : List ℕ) (at e : ℕ) → (k ≡ 0 → ⊥) → Reads n (end_tag w k).run no_value s at (At e) → ⊥
+pub end-lacks : (w : List ℕ) (k n : ℕ) (s : List ℕ) (at e : ℕ) → (k ≡ 0 → ⊥) → Reads n (end_tag w k).run no_value s at (Ok e) → ⊥
 unfolding end_tag
 end-lacks w zero n s at e z v = z refl
 end-lacks w (suc k) n s at e z v = lacks k ((end_alone w).run (drop at s)) (drop at s) (drop e s) v.out
 
--- where nothing is said without a next place
-pub went-either : (r : Scan) (A : Type 0) → A → Went r A (Unit {0})
-went-either (At e) A a = a
-went-either (Fault k p) A a = tt
-went-either Cut A a = tt
+-- both are known
+pub went-both : (r : Scan) (A B : Type 0) → A → B → Went r A B
+went-both (Ok e) A B a b = a
+went-both (Err x) A B a b = b
 
 module _ {S : Type 0} (h : Holder S) where
   -- ---- a child of the name w
@@ -59,7 +59,7 @@ module _ {S : Type 0} (h : Holder S) where
         ∙ ap (λ (v : List ℕ). child_out (h.fault st v) (h.body st v).run (drop e s) (drop at s)) (n ∙ sym (part_in_lem s (at + 1) e m))
 
     -- its name is at fault
-    pub child-refused : (k : ℕ) → h.fault st w ≡ k → (k ≡ 0 → ⊥) → F → Goes h st s at e (Fault k at) R F
+    pub child-refused : (k : ℕ) → h.fault st w ≡ k → (k ≡ 0 → ⊥) → F → Goes h st s at e (Err (Fault k at)) R F
     child-refused zero q z f = absurd (z refl)
     child-refused (suc k) q z f = record { to = st; child = record { out = named (suc k) q; inside = (omega arith, omega arith) }; left = f }
 
@@ -68,9 +68,9 @@ module _ {S : Type 0} (h : Holder S) where
     child-body r q v = record { to = v.value; child = record { out = v.reads.out ∙ named 0 q; inside = go r v.reads.inside }; left = v.left }
       where
         go : (r : Scan) → Inside 1 s e r → Inside 1 s at r
-        go (At q) i = (omega arith, i.1)
-        go (Fault k q) i = (omega arith, i.1)
-        go Cut i = tt
+        go (Ok q) i = (omega arith, i.1)
+        go (Err (Fault k q)) i = (omega arith, i.1)
+        go (Err Cut) i = tt
 
   -- ---- a turn
 
@@ -88,23 +88,23 @@ module _ {S : Type 0} (h : Holder S) where
     abbrev after : Out (Part S) → Out (Turn S S)
     after o = then_out o (λ p. ret_p (after_part st p))
 
-    turn-fault : (k p : ℕ) → ItemReads s i (Items.Fault k p) → loop_p parts st (drop i s) ≡ fault k (drop p s)
-    turn-fault k p v = loop-fault parts st (drop i s) k (drop p s) (ap after (between-fault end (h.fault st) (h.body st) s i k p v))
-
-    turn-cut : ItemReads s i Items.Cut → loop_p parts st (drop i s) ≡ cut
-    turn-cut v = loop-cut parts st (drop i s) (ap after (between-cut end (h.fault st) (h.body st) s i v))
+    -- at what stops the search for a tag
+    turn-stops : (value : ℕ → S) (x : Stop) → ItemReads s i (Err x) → loop_p parts st (drop i s) ≡ scan_out value s (Err x)
+    turn-stops value (Fault k p) v =
+        loop-fault parts st (drop i s) k (drop p s) (ap after (between-failed end (h.fault st) (h.body st) s i (λ q. close) (Fault k p) v))
+    turn-stops value Cut v = loop-cut parts st (drop i s) (ap after (between-failed end (h.fault st) (h.body st) s i (λ q. close) Cut v))
 
     -- at an end tag, which answers r
-    turn_end : (r : Scan) → ItemReads s i Items.EndTag → Reads 1 end.run no_value s i r → loop_p parts st (drop i s) ≡ scan_out (λ q. st) s r
+    turn_end : (r : Scan) → ItemReads s i (Ok Items.EndTag) → Reads 1 end.run no_value s i r → loop_p parts st (drop i s) ≡ scan_out (λ q. st) s r
     turn_end r v w = go r (between-end-reads end (h.fault st) (h.body st) s i v r w)
       where
         go : (r : Scan) → (between end (h.fault st) (h.body st)).run (drop i s) ≡ scan_out (λ e. close) s r → loop_p parts st (drop i s) ≡ scan_out (λ q. st) s r
-        go (At e) q = loop-last parts st (drop i s) st (drop e s) (ap after q)
-        go (Fault k p) q = loop-fault parts st (drop i s) k (drop p s) (ap after q)
-        go Cut q = loop-cut parts st (drop i s) (ap after q)
+        go (Ok e) q = loop-last parts st (drop i s) st (drop e s) (ap after q)
+        go (Err (Fault k p)) q = loop-fault parts st (drop i s) k (drop p s) (ap after q)
+        go (Err Cut) q = loop-cut parts st (drop i s) (ap after q)
 
     -- at a child, by its answer
-    module _ (e : ℕ) (v : ItemReads s i (Items.StartTag e)) (st' : S) where
+    module _ (e : ℕ) (v : ItemReads s i (Ok (Items.StartTag e))) (st' : S) where
       abbrev w : List ℕ
       w = part s (i + 1) e
 
@@ -122,14 +122,14 @@ module _ {S : Type 0} (h : Holder S) where
       strict : (q : ℕ) → i + 1 ≤ q → q ≤ length s → strict_out (done (child st') (drop q s)) (drop i s) ≡ done (child st') (drop q s)
       strict q l m = ap (λ (t : Bool). cond t (done (child st') (drop q s)) cut) (lt-ltb (length (drop q s)) (length (drop i s)) (fewer q l m))
 
-      turn-child : (q : ℕ) → Child h st s i e st' (At q) → loop_p parts st (drop i s) ≡ loop_p parts st' (drop q s)
+      turn-child : (q : ℕ) → Child h st s i e st' (Ok q) → loop_p parts st (drop i s) ≡ loop_p parts st' (drop q s)
       turn-child q c =
-          loop-again parts st (drop i s) st' (drop q s) (ap after (opened (At q) c ∙ strict q c.inside.0 c.inside.1)) (fewer q c.inside.0 c.inside.1)
+          loop-again parts st (drop i s) st' (drop q s) (ap after (opened (Ok q) c ∙ strict q c.inside.0 c.inside.1)) (fewer q c.inside.0 c.inside.1)
 
       turn-failed : (value : ℕ → S) (r : Scan) → Failed r → Child h st s i e st' r → loop_p parts st (drop i s) ≡ scan_out value s r
-      turn-failed value (At q) f c = absurd f
-      turn-failed value (Fault k p) f c = loop-fault parts st (drop i s) k (drop p s) (ap after (opened (Fault k p) c))
-      turn-failed value Cut f c = loop-cut parts st (drop i s) (ap after (opened Cut c))
+      turn-failed value (Ok q) f c = absurd f
+      turn-failed value (Err (Fault k p)) f c = loop-fault parts st (drop i s) k (drop p s) (ap after (opened (Err (Fault k p)) c))
+      turn-failed value (Err Cut) f c = loop-cut parts st (drop i s) (ap after (opened (Err Cut) c))
 
   -- ---- the loop
 
@@ -138,28 +138,28 @@ module _ {S : Type 0} (h : Holder S) where
 
   module _ (st₀ : S) (s : List ℕ) (at i : ℕ) (R : S → Type 0) (v : HeldAt h st₀ s at i R) where
     -- behind white space and comments
-    on : {item : Item} {j : ℕ} → Behind s i item j → (held h st₀).run (drop at s) ≡ (held h v.st).run (drop j s)
+    on : {item : Result Item Stop} {j : ℕ} → Behind s i item j → (held h st₀).run (drop at s) ≡ (held h v.st).run (drop j s)
     on b =
         v.same ∙ loop-passed s i (λ x. (held_part h x).run) v.st
         (λ j e l. ap (after v.st s j) (between-misc (end_tag h.name (h.missing v.st)) (h.fault v.st) (h.body v.st) s j e l)) b.passed
 
-    from : (n : ℕ) {item : Item} {j : ℕ} → Behind s i item j → (r : Scan) → Inside n s j r → Inside n s at r
-    from n b (At e) k = (omega (arith, v.low, passed-low s i b.passed), k.1)
-    from n b (Fault x p) k = (omega (arith, v.low, passed-low s i b.passed), k.1)
-    from n b Cut k = tt
+    from : (n : ℕ) {item : Result Item Stop} {j : ℕ} → Behind s i item j → (r : Scan) → Inside n s j r → Inside n s at r
+    from n b (Ok e) k = (omega (arith, v.low, passed-low s i b.passed), k.1)
+    from n b (Err (Fault x p)) k = (omega (arith, v.low, passed-low s i b.passed), k.1)
+    from n b (Err Cut) k = tt
 
     -- a child, with the answer r
-    module _ (j e : ℕ) (l : Behind s i (Items.StartTag e) j) (r : Scan) (R₂ : S → Type 0) (F : Type 0) (g : (st : S) → R st → Goes h st s j e r R₂ F) where
+    module _ (j e : ℕ) (l : Behind s i (Ok (Items.StartTag e)) j) (r : Scan) (R₂ : S → Type 0) (F : Type 0) (g : (st : S) → R st → Goes h st s j e r R₂ F) where
       abbrev went : Goes h v.st s j e r R₂ F
       went = g v.st v.stands
 
-      inside : (q : ℕ) → r ≡ At q → (j + 1 ≤ q) × (q ≤ length s)
+      inside : (q : ℕ) → r ≡ Ok q → (j + 1 ≤ q) × (q ≤ length s)
       inside q z = subst (λ (x : Scan). Inside 1 s j x) z went.child.inside
 
-      pub held-moves : (q : ℕ) → r ≡ At q → (i + 1 ≤ q) × (q ≤ length s)
+      pub held-moves : (q : ℕ) → r ≡ Ok q → (i + 1 ≤ q) × (q ≤ length s)
       held-moves q z = (omega (arith, inside q z, passed-low s i l.passed), (inside q z).1)
 
-      pub held-child : (q : ℕ) → r ≡ At q → HeldAt h st₀ s at q R₂
+      pub held-child : (q : ℕ) → r ≡ Ok q → HeldAt h st₀ s at q R₂
       held-child q z =
           record {
             st = went.to;
@@ -169,9 +169,8 @@ module _ {S : Type 0} (h : Holder S) where
           }
 
       left_over : (r : Scan) (A : Type 0) → Failed r → Went r A F → (B : Type 0) → Went r B F
-      left_over (At q) A f z B = absurd f
-      left_over (Fault k p) A f z B = z
-      left_over Cut A f z B = z
+      left_over (Ok q) A f z B = absurd f
+      left_over (Err x) A f z B = z
 
       pub held-failed : (R₃ : S → Type 0) → Failed r → ReadsTo (held h st₀).run s at r R₃ F
       held-failed R₃ f = record {
@@ -182,7 +181,7 @@ module _ {S : Type 0} (h : Holder S) where
 
     module _ (R₂ : S → Type 0) (F : Type 0) where
       -- the end tag
-      pub held-end : (j : ℕ) (r : Scan) → Behind s i Items.EndTag j → ((st : S) → R st → Reads 1 (end_tag h.name (h.missing st)).run no_value s j r × Went r (R₂ st) F)
+      pub held-end : (j : ℕ) (r : Scan) → Behind s i (Ok Items.EndTag) j → ((st : S) → R st → Reads 1 (end_tag h.name (h.missing st)).run no_value s j r × Went r (R₂ st) F)
           → ReadsTo (held h st₀).run s at r R₂ F
       held-end j r l g =
           let w : Reads 1 (end_tag h.name (h.missing v.st)).run no_value s j r × Went r (R₂ v.st) F = g v.st v.stands in
@@ -192,12 +191,14 @@ module _ {S : Type 0} (h : Holder S) where
             left = w.1;
           }
 
-      -- none of these
-      pub held_none : (j : ℕ) (r : Scan) → NextReads s i (Nexts.Failed j r) → F → ReadsTo (held h st₀).run s at r R₂ F
-      held_none j (At e) l f = absurd l
-      held_none j (Fault k p) l f = record {
+      -- none of these: x stops the search
+      pub held_none : (j : ℕ) (x : Stop) → Behind s i (Err x) j → F → ReadsTo (held h st₀).run s at (Err x) R₂ F
+      held_none j x l f = record {
         value = v.st;
-        reads = record { out = sym (on l ∙ turn-fault v.st s j k p l.reads); inside = from 1 l (Fault k p) l.reads.inside };
+        reads = record { out = sym (on l ∙ turn-stops v.st s j (λ q. v.st) x l.reads); inside = from 1 l (Err x) (go x l.reads.inside) };
         left = f;
       }
-      held_none j Cut l f = record { value = v.st; reads = record { out = sym (on l ∙ turn-cut v.st s j l.reads); inside = tt }; left = f }
+        where
+          go : (x : Stop) → ItemInside s j (Err x) → Inside 1 s j (Err x)
+          go (Fault k p) i = i
+          go Cut i = tt

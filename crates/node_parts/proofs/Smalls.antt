@@ -1,17 +1,18 @@
 -- The numbers of a small room, one by one. Assumes nothing.
 use mathlib.Core.Path.{◌≡◌, refl, sym, ap, ◌∙◌}
-use mathlib.Core.Bool.{Bool, cond}
-use mathlib.Core.List.{List, [], ◌∷◌, ◌++◌, map}
+use mathlib.Core.Bool.{Bool, true, false, cond}
+use mathlib.Core.List.{List, [], ◌∷◌, ◌++◌}
 use Prim.Native.Nat.{ℕ, zero, suc, ◌+◌, ◌≤◌, ◌<◌, min}
 use native.Mathlib.Omega.{arith}
 use native.Mathlib.Numerals.{add-one}
 use lib.IntN.{ℤ, pos}
-use lib.ListN.{length, take, get_or, length-take}
-use lib.Seq.{take-suc, take-length}
-use borrow.Author.Tests.{lt-ltb, le-ltb}
+use lib.Dec.{ltb}
+use lib.ListN.{length, take, get_or, set, length-take}
+use lib.Seq.{take-suc, take-length, set_out}
+use borrow.Author.Tests.{lt-ltb, le-ltb, ltb-false}
 use Rattle.decimal.specs.declared.Decimal.{Decimal}
 use Rattle.decimal.specs.Decimal as Decimals
-use Rattle.room.specs.Room.{Room, room_length}
+use Rattle.room.specs.Room.{Room, room_length, stored, laid, coefficient_parts, power_parts, laid_in}
 use Rattle.values.specs.Code.{Laid}
 use Rattle.node_parts.specs.Code.{small_number_at, numbers_from, small_numbers}
 use Rattle.values.proofs.Stored.{laid-none-yet, laid_then}
@@ -52,10 +53,43 @@ module _ (m : Room) where
   pub numbers-at : (k : ℕ) → k < room_length m → get_or (small_numbers m) k Decimals.zero ≡ small_number_at m k
   numbers-at k h = numbers-get k h ∙ number_in m k h
 
--- a small room that holds these numbers
-pub numbers-map : {A : Type 0} (f : A → Decimal) (l : List A) → numbers_from (map (λ (a : A). (f a).coefficient) l) (map (λ (a : A). (f a).power) l) ≡ map f l
-numbers-map f [] = refl
-numbers-map f (a ∷ l) = ap (λ (m : List Decimal). f a ∷ m) (numbers-map f l)
+-- ---- numbers laid in a small room
+
+numbers-set : (c p : List ℤ) (k : ℕ) (d : Decimal) → numbers_from (set c k d.coefficient) (set p k d.power) ≡ set (numbers_from c p) k d
+numbers-set [] p k d = refl
+numbers-set (x ∷ c) [] zero d = refl
+numbers-set (x ∷ c) [] (suc k) d = refl
+numbers-set (x ∷ c) (y ∷ p) zero d = refl
+numbers-set (x ∷ c) (y ∷ p) (suc k) d = ap (λ (l : List Decimal). record { coefficient = x; power = y } ∷ l) (numbers-set c p k d)
+
+module _ (n : ℕ) where
+  numbers-stored : (k : ℕ) (d : Decimal) (c p : List ℤ) → numbers_from (stored n k d.coefficient c) (stored n k d.power p) ≡ stored n k d (numbers_from c p)
+  unfolding stored
+  numbers-stored k d c p = go (ltb k n)
+    where
+      go : (b : Bool) → numbers_from (cond b (set c k d.coefficient) c) (cond b (set p k d.power) p) ≡ cond b (set (numbers_from c p) k d) (numbers_from c p)
+      go true = numbers-set c p k d
+      go false = refl
+
+  numbers-laid : (at : ℕ) (xs : List Decimal) (c p : List ℤ) → numbers_from (laid n at (coefficient_parts xs) c) (laid n at (power_parts xs) p) ≡ laid n at xs (numbers_from c p)
+  unfolding laid
+  numbers-laid at [] c p = refl
+  numbers-laid at (d ∷ xs) c p =
+      numbers-laid (at + 1) xs (stored n at d.coefficient c) (stored n at d.power p) ∙ ap (laid n (at + 1) xs) (numbers-stored at d c p)
+
+-- numbers laid in a small room take their places among the room's numbers
+pub small-laid : (at : ℕ) (xs : List Decimal) (m : Room) → small_numbers (laid_in at xs m) ≡ laid (room_length m) at xs (small_numbers m)
+unfolding laid_in
+small-laid at xs m = numbers-laid (room_length m) at xs m.coefficients m.powers
+
+-- one number
+pub small_one : (k : ℕ) (d : Decimal) (m : Room) → small_numbers (laid_in k (d ∷ []) m) ≡ set (small_numbers m) k d
+unfolding laid stored
+small_one k d m = small-laid k (d ∷ []) m ∙ go (ltb k (room_length m)) refl
+  where
+    go : (b : Bool) → ltb k (room_length m) ≡ b → cond b (set (small_numbers m) k d) (small_numbers m) ≡ set (small_numbers m) k d
+    go true q = refl
+    go false q = sym (set_out (small_numbers m) k d (omega (arith, ltb-false k (room_length m) q, numbers-length m)))
 
 -- ---- stored one by one
 

@@ -4,9 +4,9 @@ use Rattle.std.specs.Prelude.{◌≡◌, cond, List, [], ◌∷◌, ℕ, ℤ, po
 use Rattle.decimal.specs.declared.Decimal.{Decimal}
 use Rattle.decimal.specs.Decimal as Decimals
 use Rattle.grammar.specs.Parse.{Parser}
-use Rattle.xml.specs.declared.Scan.{Scan}
-use Rattle.xml.specs.declared.Scan.TheVariants as Scans
-use Rattle.xml.specs.Code.{scan_out, Inside}
+use Rattle.std.specs.Prelude.{Result, Ok, Err}
+use Rattle.xml.specs.declared.Stop.{Stop}
+use Rattle.xml.specs.Code.{Scan, scan_out, Inside}
 use Rattle.process_list.specs.declared.Kind.{Kind}
 use Rattle.process_list.specs.declared.Node.{Node}
 use Rattle.process_list.specs.List as Lists
@@ -18,7 +18,7 @@ use Rattle.xml.specs.Bytes.{bytes}
 use Rattle.xml.specs.Xml.{text_of}
 use Rattle.ids.specs.Ids.{held_id}
 use Rattle.clf.specs.Nodes.{depth_at}
-use Rattle.node_parts.specs.declared.NodeStep.{NodeStep}
+use Rattle.node_parts.specs.declared.NodeRead.{NodeRead}
 
 -- the number of index k of a small room; zero where there is none
 unfoldable pub small_number_at : Room → ℕ → Decimal
@@ -39,33 +39,31 @@ pub record NumbersIn (n base : ℕ) (m₀ m₁ : Room) (xs : List Decimal) : Typ
   pub room : Laid base xs m₀ m₁
 
 -- a node of these attributes and this kind
-unfoldable pub finished_node : List ℕ → Attributes → Scan → Kind → NodeStep
-finished_node s attributes scan kind = record {
-  scan = scan;
-  node = Lists.unplaced kind (depth_at (bytes "inBitDepth") (attributes_of s attributes)) (depth_at (bytes "outBitDepth") (attributes_of s attributes)) (held_id (text_of (bytes "id") (attributes_of s attributes)));
-}
+unfoldable pub finished_node : List ℕ → Attributes → Kind → Node
+finished_node s attributes kind =
+    Lists.unplaced kind (depth_at (bytes "inBitDepth") (attributes_of s attributes)) (depth_at (bytes "outBitDepth") (attributes_of s attributes)) (held_id (text_of (bytes "id") (attributes_of s attributes)))
 
-abbrev pub failed_node : Scan → NodeStep
-failed_node scan = record { scan = scan; node = Lists.blank_node }
+-- the place behind a node
+abbrev pub end_of : Result NodeRead Stop → Scan
+end_of (Ok n) = Ok n.end
+end_of (Err x) = Err x
 
--- the node of an answer: what the list holds of it but for the position; a blank node where there is no next place
-abbrev pub node_after : Scan → Element → Node
-node_after (Scans.At e) v = Lists.node_of v
-node_after (Scans.Fault k p) v = Lists.blank_node
-node_after Scans.Cut v = Lists.blank_node
+-- the node of an answer, where it has one: what the list holds of it but for the position
+abbrev pub NodeOf : Result NodeRead Stop → Element → Type 0
+NodeOf (Ok n) v = n.node ≡ Lists.node_of v
+NodeOf (Err x) v = Unit
 
 -- as many numbers as the kind asks for, where the answer is a next place
 abbrev pub AllNumbers : Scan → Element → Type 0
-AllNumbers (Scans.At e) v = length v.numbers ≡ Lists.numbers_of v.kind
-AllNumbers (Scans.Fault k p) v = Unit
-AllNumbers Scans.Cut v = Unit
+AllNumbers (Ok e) v = length v.numbers ≡ Lists.numbers_of v.kind
+AllNumbers (Err x) v = Unit
 
 -- a node read from `at` on: the answer is p's, and where it is a next place its value is `value`, whose numbers stand in the room from `base` on.
--- At a fault, or where the bytes end, the node is blank and the room is zero from `base` on
-pub record NodeReads (p : Parser Element) (s : List ℕ) (at base : ℕ) (r : NodeStep) (m₀ m₁ : Room) : Type 0 where
+-- At a fault, or where the bytes end, there is no node, and the room is zero from `base` on
+pub record NodeReads (p : Parser Element) (s : List ℕ) (at base : ℕ) (r : Result NodeRead Stop) (m₀ m₁ : Room) : Type 0 where
   pub value : Element
-  pub out : scan_out (λ e. value) s r.scan ≡ p (drop at s)
-  pub inside : Inside 1 s at r.scan
-  pub node : r.node ≡ node_after r.scan value
-  pub all : AllNumbers r.scan value
-  pub room : m₁ ≡ room_after base r.scan value.numbers m₀
+  pub out : scan_out (λ e. value) s (end_of r) ≡ p (drop at s)
+  pub inside : Inside 1 s at (end_of r)
+  pub node : NodeOf r value
+  pub all : AllNumbers (end_of r) value
+  pub room : m₁ ≡ room_after base (end_of r) value.numbers m₀

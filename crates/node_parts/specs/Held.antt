@@ -1,16 +1,21 @@
 -- The content of an element that holds elements, as the code reads it: child by child, with a state of its own. For any holder.
-use Rattle.std.specs.Prelude.{◌≡◌, List, ℕ, zero, suc, ◌+◌, ◌≤◌, drop}
+use Rattle.std.specs.Prelude.{◌≡◌, List, ℕ, zero, suc, ◌+◌, ◌≤◌, length, drop}
 use Rattle.grammar.specs.Parse.{Out, fault, Parser}
 use Rattle.xml.specs.Elements.{Holder, held}
 use Rattle.xml.specs.Code.{part, scan_out, Inside, Reads}
-use Rattle.xml.specs.declared.Scan.{Scan}
-use Rattle.xml.specs.declared.Scan.TheVariants.{At, Fault, Cut}
+use Rattle.xml.specs.Code.{Scan}
+use Rattle.std.specs.Prelude.{Result, Ok, Err, IfOk}
+use Rattle.xml.specs.declared.Stop.{Stop}
+use Rattle.process_list.specs.List.{Element, node_of, numbers_of}
+use Rattle.room.specs.Room.{Room, cleared_from}
+use Rattle.values.specs.Code.{Laid}
+use Rattle.node_parts.specs.Code.{end_of}
+use Rattle.node_parts.specs.declared.NodeRead.{NodeRead}
 
 -- the first fact where the answer is a next place, else the second
 abbrev pub Went : Scan → Type 0 → Type 0 → Type 0
-Went (At e) A B = A
-Went (Fault k p) A B = B
-Went Cut A B = B
+Went (Ok e) A B = A
+Went (Err x) A B = B
 
 -- a child by its name's fault: 0 is none, and it reads as its body from behind its name on
 abbrev pub child_out : {S : Type 0} → ℕ → Parser S → List ℕ → List ℕ → Out S
@@ -41,3 +46,19 @@ pub record ReadsTo {S : Type 0} (p : Parser S) (s : List ℕ) (at : ℕ) (r : Sc
   pub value : S
   pub reads : Reads 1 p (λ q. value) s at r
   pub left : Went r (R value) F
+
+-- ---- a node before the room is cleared
+
+-- cleared from `base` on, the room is as it was before, cleared so
+abbrev pub SameCleared : ℕ → Room → Room → Type 0
+SameCleared base m₀ m₁ = cleared_from base m₁ ≡ cleared_from base m₀
+
+-- the node n is v, whose numbers stand in the room from `base` on
+pub record NodeIs (base : ℕ) (m₀ m₁ : Room) (n : NodeRead) (v : Element) : Type 0 where
+  pub node : n.node ≡ node_of v
+  pub all : length v.numbers ≡ numbers_of v.kind
+  pub room : Laid base v.numbers m₀ m₁
+
+-- a node read from `at` on; where there is none, nothing but the room from `base` on has changed
+abbrev pub NodeStored : Parser Element → List ℕ → ℕ → ℕ → Result NodeRead Stop → Room → Room → Type 0
+NodeStored p s at base r m₀ m₁ = ReadsTo p s at (end_of r) (λ v. IfOk r (λ n. NodeIs base m₀ m₁ n v)) (SameCleared base m₀ m₁)

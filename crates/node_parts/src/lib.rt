@@ -4,23 +4,23 @@
 ghost use Rattle.std.specs.Prelude.{◌≡◌};
 ghost use Rattle.xml.specs.Bytes.{same, bytes};
 ghost use Rattle.xml.specs.Xml.{text_of};
-ghost use Rattle.room.specs.Room.{lent, cleared_from};
+ghost use Rattle.room.specs.Room.{lent};
 ghost use Rattle.clf.specs.Nodes as Nodes;
 ghost use Rattle.process_list.specs.declared.Depth.TheVariants.{I8};
 ghost use Rattle.tags.specs.Code.{attributes_of, part_in};
 ghost use Rattle.ids.specs.Ids.{held_id};
-ghost use Rattle.values.specs.Code.{Laid};
+ghost use Rattle.values.specs.Code.{Laid, kept_or_cleared};
 ghost use Rattle.node_parts.specs.Code as Code;
 
 use decimal::Decimal;
 use process_list::{Depth, Kind, Node};
-use tags::{Attributes, DepthRead, Span};
-use xml::Scan;
+use tags::{Attributes, Span};
+use xml::Stop;
 
-// A node: how it reads, and what the list holds of it but for the position.
-#[derive(Clone, Copy)]
-pub struct NodeStep {
-    pub scan: Scan,
+// A node that was read: the place behind it, and what the list holds of it but for the position.
+#[derive(Clone, Copy, Debug, PartialEq, Eq)]
+pub struct NodeRead {
+    pub end: usize,
     pub node: Node,
 }
 
@@ -28,13 +28,7 @@ pub struct NodeStep {
 fn depth_in(s: &[u8], span: Span) -> Depth
     ensures { result ≡ Nodes.or_else I8 (Nodes.depth_of (part_in s.now span.start span.end)) }
 {
-    let a = span.start;
-    let e = span.end;
-    let d = tags::depth_of(tags::part(s, a, e));
-    match d {
-        DepthRead::Is(depth) => depth,
-        DepthRead::Other => Depth::I8,
-    }
+    tags::depth_of(tags::part(s, span.start, span.end)).unwrap_or(Depth::I8)
 }
 
 pub fn depth_at(s: &[u8], attributes: Attributes, w: &[u8]) -> Depth
@@ -47,18 +41,14 @@ pub fn style_is(s: &[u8], attributes: Attributes, w: &[u8]) -> bool
     ensures { result ≡ same (text_of (bytes "style") (attributes_of s.now attributes)) w.now }
 {
     let span = tags::text_of(s, attributes, b"style");
-    let a = span.start;
-    let e = span.end;
-    xml::same(tags::part(s, a, e), w)
+    xml::same(tags::part(s, span.start, span.end), w)
 }
 
 // The id whose text stands there, in its places.
 fn id_in(s: &[u8], span: Span) -> [u8; 32]
     ensures { result ≡ held_id (part_in s.now span.start span.end) }
 {
-    let a = span.start;
-    let e = span.end;
-    ids::held(tags::part(s, a, e))
+    ids::held(tags::part(s, span.start, span.end))
 }
 
 // The id that the attributes say, in its places.
@@ -68,37 +58,30 @@ pub fn id_at(s: &[u8], attributes: Attributes) -> [u8; 32]
     id_in(s, tags::text_of(s, attributes, b"id"))
 }
 
-// The node of these attributes.
-pub fn finished(s: &[u8], attributes: Attributes, scan: Scan, kind: Kind) -> NodeStep
-    ensures { result ≡ Code.finished_node s.now attributes scan kind }
+// The node of these attributes and this kind.
+pub fn finished(s: &[u8], attributes: Attributes, kind: Kind) -> Node
+    ensures { result ≡ Code.finished_node s.now attributes kind }
 {
     let texts = tags::node_texts(s, attributes);
-    let first = texts.input;
-    let second = texts.output;
-    let third = texts.id;
-    let input = depth_in(s, first);
-    let output = depth_in(s, second);
-    let id = id_in(s, third);
-    let node = process_list::unplaced(kind, input, output, id);
-    NodeStep { scan, node }
+    let input = depth_in(s, texts.input);
+    let output = depth_in(s, texts.output);
+    let id = id_in(s, texts.id);
+    process_list::unplaced(kind, input, output, id)
 }
 
-pub fn no_node(scan: Scan) -> NodeStep
-    ensures { result ≡ Code.failed_node scan }
+// The answer for a node. Where there is none, the room is cleared from `base` on.
+pub fn kept_or_cleared(
+    read: Result<NodeRead, Stop>,
+    coefficients: &mut [i64],
+    powers: &mut [i8],
+    base: usize,
+) -> Result<NodeRead, Stop>
+    ensures { (result ≡ read) × (lent coefficients.new powers.new ≡ kept_or_cleared base (Code.end_of read) (lent coefficients.old powers.old)) }
 {
-    NodeStep {
-        scan,
-        node: process_list::blank(),
+    if read.is_err() {
+        values::clear_from(coefficients, powers, base);
     }
-}
-
-// A node that is at fault or cut: none, and the room is zero from `base` on.
-pub fn failed(scan: Scan, coefficients: &mut [i64], powers: &mut [i8], base: usize) -> NodeStep
-    ensures { (result ≡ Code.failed_node scan) × (lent coefficients.new powers.new ≡ cleared_from base (lent coefficients.old powers.old)) }
-{
-    let length = room::length(coefficients, powers);
-    room::clear(coefficients, powers, base, length);
-    no_node(scan)
+    read
 }
 
 // The number of index k of a small room.
@@ -128,11 +111,8 @@ pub fn store_all(
     ensures { Laid base (Code.small_numbers (lent small.now small_powers.now)) (lent coefficients.old powers.old)
         (lent coefficients.new powers.new) }
 {
-    let n = room::length(small, small_powers);
-    let mut j = 0;
-    while j < n {
+    for j in 0..room::length(small, small_powers) {
         let d = number_at(small, small_powers, j);
         values::store(coefficients, powers, base, j, d);
-        j += 1;
     }
 }

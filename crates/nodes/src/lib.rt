@@ -8,10 +8,11 @@ ghost use Rattle.node_parts.specs.Code.{NodeReads};
 ghost use Rattle.nodes.specs.Code.{name_of, carried_of};
 
 use array_node::TableNode;
-use node_parts::NodeStep;
+use node_parts::NodeRead;
+use xml::Stop;
 
 // The nodes that are carried.
-#[derive(Clone, Copy)]
+#[derive(Clone, Copy, Debug, PartialEq, Eq)]
 pub enum CarriedNode {
     Matrix,
     Lut1d,
@@ -21,7 +22,7 @@ pub enum CarriedNode {
 }
 
 // A node's name: of a node that is carried, of one that CLF knows and is not carried, or no node's.
-#[derive(Clone, Copy)]
+#[derive(Clone, Copy, Debug, PartialEq, Eq)]
 pub enum NodeName {
     Carried(CarriedNode),
     NotCarried,
@@ -32,27 +33,22 @@ pub fn node_name(w: &[u8]) -> NodeName
     ensures { name_of result ≡ Nodes.node_name w.now }
 {
     if xml::same(w, b"Matrix") {
-        return NodeName::Carried(CarriedNode::Matrix);
+        NodeName::Carried(CarriedNode::Matrix)
+    } else if xml::same(w, b"LUT1D") {
+        NodeName::Carried(CarriedNode::Lut1d)
+    } else if xml::same(w, b"Range") {
+        NodeName::Carried(CarriedNode::Range)
+    } else if xml::same(w, b"ASC_CDL") {
+        NodeName::Carried(CarriedNode::Cdl)
+    } else if xml::same(w, b"Log") {
+        NodeName::NotCarried
+    } else if xml::same(w, b"Exponent") {
+        NodeName::NotCarried
+    } else if xml::same(w, b"LUT3D") {
+        NodeName::Carried(CarriedNode::Lut3d)
+    } else {
+        NodeName::Other
     }
-    if xml::same(w, b"LUT1D") {
-        return NodeName::Carried(CarriedNode::Lut1d);
-    }
-    if xml::same(w, b"Range") {
-        return NodeName::Carried(CarriedNode::Range);
-    }
-    if xml::same(w, b"ASC_CDL") {
-        return NodeName::Carried(CarriedNode::Cdl);
-    }
-    if xml::same(w, b"Log") {
-        return NodeName::NotCarried;
-    }
-    if xml::same(w, b"Exponent") {
-        return NodeName::NotCarried;
-    }
-    if xml::same(w, b"LUT3D") {
-        return NodeName::Carried(CarriedNode::Lut3d);
-    }
-    NodeName::Other
 }
 
 // The node of the name, from behind its name on.
@@ -63,7 +59,7 @@ pub fn node_body(
     coefficients: &mut [i64],
     powers: &mut [i8],
     base: usize,
-) -> NodeStep
+) -> Result<NodeRead, Stop>
     ensures { NodeReads (Nodes.node_body (carried_of name)).run s.now at base result (lent coefficients.old powers.old)
         (lent coefficients.new powers.new) }
 {

@@ -18,7 +18,7 @@ ghost use Rattle.pixel.specs.Cdl as Cdl;
 use process_list::RangeEnd;
 
 // A pixel travels as one record of three f64: its code values.
-#[derive(Clone, Copy)]
+#[derive(Clone, Copy, Debug, PartialEq)]
 pub struct Pixel {
     pub r: f64,
     pub g: f64,
@@ -26,22 +26,34 @@ pub struct Pixel {
 }
 
 // A code value counts in a node's depth.
-#[derive(Clone, Copy)]
+#[derive(Clone, Copy, Debug, PartialEq)]
 pub struct CodeValue(pub f64);
 
 // A fraction runs from black to full scale.
-#[derive(Clone, Copy)]
+#[derive(Clone, Copy, Debug, PartialEq)]
 pub struct Fraction(pub f64);
 
 // A pixel's three components as fractions.
-#[derive(Clone, Copy)]
+#[derive(Clone, Copy, Debug, PartialEq)]
 pub struct Fractions {
     pub r: Fraction,
     pub g: Fraction,
     pub b: Fraction,
 }
 
-// Hold of x between lo and hi. A NaN gives lo.
+// The numbers of an ASC_CDL that a pixel meets: slopes and offsets of red, green and blue, and the saturation.
+#[derive(Clone, Copy, Debug, PartialEq)]
+pub struct CdlNumbers {
+    pub slope_r: f64,
+    pub slope_g: f64,
+    pub slope_b: f64,
+    pub offset_r: f64,
+    pub offset_g: f64,
+    pub offset_b: f64,
+    pub saturation: f64,
+}
+
+// Hold of x between lo and hi. A NaN gives lo, where the library's clamp, min and max pass it on or let a -0 through; so the holds here are written out.
 pub fn hold(x: f64, lo: f64, hi: f64) -> f64
     ensures { result ≡ Hold.hold x lo hi }
 {
@@ -268,22 +280,13 @@ pub fn sop(slope: f64, offset: f64, clamp: bool, x: Fraction) -> Fraction
     held_for_fwd(clamp, x.0 * slope + offset)
 }
 
-pub fn sop_pixel(
-    slope_r: f64,
-    slope_g: f64,
-    slope_b: f64,
-    offset_r: f64,
-    offset_g: f64,
-    offset_b: f64,
-    clamp: bool,
-    x: Fractions,
-) -> Fractions
-    ensures { result ≡ Cdl.sop_pixel slope_r slope_g slope_b offset_r offset_g offset_b clamp x }
+pub fn sop_pixel(numbers: CdlNumbers, clamp: bool, x: Fractions) -> Fractions
+    ensures { result ≡ Cdl.sop_pixel numbers.slope_r numbers.slope_g numbers.slope_b numbers.offset_r numbers.offset_g numbers.offset_b clamp x }
 {
     Fractions {
-        r: sop(slope_r, offset_r, clamp, x.r),
-        g: sop(slope_g, offset_g, clamp, x.g),
-        b: sop(slope_b, offset_b, clamp, x.b),
+        r: sop(numbers.slope_r, numbers.offset_r, clamp, x.r),
+        g: sop(numbers.slope_g, numbers.offset_g, clamp, x.g),
+        b: sop(numbers.slope_b, numbers.offset_b, clamp, x.b),
     }
 }
 
@@ -318,24 +321,10 @@ pub fn sat_pixel(sat: f64, clamp: bool, x: Fractions) -> Fractions
     saturated_by(sat, luma(x), clamp, x)
 }
 
-pub fn cdl_pixel(
-    slope_r: f64,
-    slope_g: f64,
-    slope_b: f64,
-    offset_r: f64,
-    offset_g: f64,
-    offset_b: f64,
-    sat: f64,
-    clamp: bool,
-    in_scale: f64,
-    out_scale: f64,
-    x: Pixel,
-) -> Pixel
-    ensures { result ≡ Cdl.cdl_pixel slope_r slope_g slope_b offset_r offset_g offset_b sat clamp in_scale out_scale x }
+pub fn cdl_pixel(numbers: CdlNumbers, clamp: bool, in_scale: f64, out_scale: f64, x: Pixel) -> Pixel
+    ensures { result ≡ Cdl.cdl_pixel numbers.slope_r numbers.slope_g numbers.slope_b numbers.offset_r numbers.offset_g numbers.offset_b numbers.saturation clamp in_scale out_scale x }
 {
     let a = to_fractions(in_scale, x);
-    let b = sop_pixel(
-        slope_r, slope_g, slope_b, offset_r, offset_g, offset_b, clamp, a,
-    );
-    to_code_values(out_scale, sat_pixel(sat, clamp, b))
+    let b = sop_pixel(numbers, clamp, a);
+    to_code_values(out_scale, sat_pixel(numbers.saturation, clamp, b))
 }

@@ -13,7 +13,7 @@ use Rattle.pixel.specs.declared.Fraction.{Fraction}
 use Rattle.pixel.specs.declared.Fractions.{Fractions}
 use Rattle.pixel.specs.F64 as F64
 use Rattle.pixel.specs.Hold.{hold}
-use Rattle.pixel_lut.specs.Lut1d.{on_axis, index, looked_up}
+use Rattle.pixel_lut.specs.Lut1d.{on_axis, looked_up}
 use Rattle.pixel_lut.specs.Lut1dLaws.{on-axis, index_below, looked-up-stepped}
 use Rattle.pixel_cube.specs.declared.Axis.{Axis}
 use Rattle.pixel_cube.specs.declared.Axis.TheVariants.{Red, Green, Blue}

@@ -65,6 +65,10 @@ pub record FewIn (cell : Cell) : Type 0 where
 abbrev pub along : (ℕ → Float) → AxisPlace → Float
 along e p = Lut1d.stepped (e p.index) (e (p.index + 1)) p.part
 
+-- what is answered at these places, as `post` says it, is e there; of the next one it need hold only where it is asked
+abbrev pub Gives : (ℕ → Float → Type 0) → AxisPlace → (ℕ → Float) → Type 0
+Gives post p e = ((y : Float) → post p.index y → y ≡ e p.index) × (eq p.part F64.zero ≡ false → (y : Float) → post (p.index + 1) y → y ≡ e (p.index + 1))
+
 unfoldable pub blue_way : (Corner → Float) → AxisPlace → ℕ → ℕ → Float
 blue_way entry blue i j = along (λ k. entry (corner i j k)) blue
 
@@ -131,3 +135,10 @@ way_by Tetrahedral = walked_all
 
 abbrev pub each_of : (ℕ → Corner → Float) → ((Corner → Float) → CodeValue) → Pixel
 each_of entry way = record { r = (way (entry 0)).0; g = (way (entry 1)).0; b = (way (entry 2)).0 }
+
+-- a pixel of a value for each component, and what is answered on each, as `post` says it, is that value
+abbrev pub of_each : (ℕ → CodeValue) → Pixel
+of_each f = record { r = (f 0).0; g = (f 1).0; b = (f 2).0 }
+
+abbrev pub GivesEach : (ℕ → CodeValue → Type 0) → (ℕ → CodeValue) → Type 0
+GivesEach post f = (k : ℕ) (y : CodeValue) → k < 3 → post k y → y ≡ f k

@@ -1,8 +1,10 @@
 #![tactic(auto)]
 
 // What a pixel goes through in a LUT3D (document 02, W-201), whose entries are numbers of the table room.
-ghost use Rattle.std.specs.Prelude.{◌≡◌, [], ◌∷◌, ◌≤◌, ◌<◌};
+ghost use Rattle.std.specs.Prelude.{◌≡◌, false, [], ◌∷◌, ◌+◌, ◌≤◌, ◌<◌};
+ghost use Rattle.std.specs.Float.Ieee.{eq};
 ghost use Rattle.room.specs.Room.{lent};
+ghost use Rattle.pixel.specs.F64 as F64;
 ghost use Rattle.pixel_lut.specs.Lut1d as Lut1d;
 ghost use Rattle.pixel_cube.specs.Cube as Cube;
 ghost use Rattle.pixel_cube.specs.Table as Table;
@@ -13,7 +15,7 @@ use pixel::{CodeValue, Fractions, Pixel};
 use pixel_lut::AxisPlace;
 use process_list::Interpolation;
 
-#[derive(Clone, Copy)]
+#[derive(Clone, Copy, Debug, PartialEq, Eq)]
 pub enum Axis {
     Red,
     Green,
@@ -21,7 +23,7 @@ pub enum Axis {
 }
 
 // A corner of a cell, by its index on each axis. Behind the last index there is no entry; a corner that is used has one.
-#[derive(Clone, Copy)]
+#[derive(Clone, Copy, Debug, PartialEq, Eq)]
 pub struct Corner {
     pub red: usize,
     pub green: usize,
@@ -69,12 +71,6 @@ struct Sum {
     largest: f64,
 }
 
-fn corner_at(red: usize, green: usize, blue: usize) -> Corner
-    ensures { result ≡ Cube.corner red green blue }
-{
-    Corner { red, green, blue }
-}
-
 // One component of the entry of a corner, which lies in the table.
 fn entry(
     coefficients: &[i64],
@@ -95,6 +91,21 @@ fn entry(
 
 // ---- trilinear
 
+// LUT1D's step from a place on an axis: its entry, and the next one only where the part is not 0.
+// The closures below own what they capture: by reference the trilinear method took 1.07 times as long, the tetrahedral one 1.02 times.
+fn along<E: Fn(usize) -> f64>(place: AxisPlace, entry: E) -> f64
+    requires few { place.index < 65536 }
+    requires first { E.pre entry place.index }
+    requires next { eq place.part F64.zero ≡ false → E.pre entry (place.index + 1) }
+    ensures { (e : _) → Ways.Gives (E.post entry) place e → result ≡ Ways.along e place }
+{
+    let e = entry(place.index);
+    if place.part == 0.0 {
+        return e;
+    }
+    pixel_lut::interpolated(e, entry(place.index + 1), place.part)
+}
+
 // Along blue from the entry at i on red and j on green.
 fn along_blue(
     coefficients: &[i64],
@@ -113,21 +124,21 @@ fn along_blue(
     requires place_inside { Ways.PlaceInside n blue }
     ensures { result ≡ Ways.blue_way (Table.entry_at (lent coefficients.now powers.now) at n component) blue i j }
 {
-    let k = blue.index;
-    let f = blue.part;
-    let e = entry(coefficients, powers, at, n, component, corner_at(i, j, k));
-    if f == 0.0 {
-        return e;
-    }
-    let next = entry(
-        coefficients,
-        powers,
-        at,
-        n,
-        component,
-        corner_at(i, j, k + 1),
-    );
-    pixel_lut::interpolated(e, next, f)
+    along(
+        blue,
+        move |k| entry(
+            coefficients,
+            powers,
+            at,
+            n,
+            component,
+            Corner {
+                red: i,
+                green: j,
+                blue: k,
+            },
+        ),
+    )
 }
 
 // Along green, and before that along blue, from index i on red.
@@ -148,14 +159,10 @@ fn along_green(
     requires place_inside_2 { Ways.PlaceInside n blue }
     ensures { result ≡ Ways.green_way (Table.entry_at (lent coefficients.now powers.now) at n component) green blue i }
 {
-    let j = green.index;
-    let f = green.part;
-    let e = along_blue(coefficients, powers, at, n, component, i, j, blue);
-    if f == 0.0 {
-        return e;
-    }
-    let next = along_blue(coefficients, powers, at, n, component, i, j + 1, blue);
-    pixel_lut::interpolated(e, next, f)
+    along(
+        green,
+        move |j| along_blue(coefficients, powers, at, n, component, i, j, blue),
+    )
 }
 
 // Along blue, then green, then red.
@@ -172,17 +179,19 @@ fn trilinear(
     requires cell_inside { Ways.CellInside n cell }
     ensures { result ≡ Ways.red_way (Table.entry_at (lent coefficients.now powers.now) at n component) cell }
 {
-    let red = cell.red;
-    let green = cell.green;
-    let blue = cell.blue;
-    let i = red.index;
-    let f = red.part;
-    let e = along_green(coefficients, powers, at, n, component, i, green, blue);
-    if f == 0.0 {
-        return CodeValue(e);
-    }
-    let next = along_green(coefficients, powers, at, n, component, i + 1, green, blue);
-    CodeValue(pixel_lut::interpolated(e, next, f))
+    CodeValue(along(
+        cell.red,
+        move |i| along_green(
+            coefficients,
+            powers,
+            at,
+            n,
+            component,
+            i,
+            cell.green,
+            cell.blue,
+        ),
+    ))
 }
 
 // ---- tetrahedral
@@ -200,7 +209,11 @@ fn part_on(cell: Cell, a: Axis) -> f64
 fn low(cell: Cell) -> Corner
     ensures { result ≡ Ways.low_of cell }
 {
-    corner_at(cell.red.index, cell.green.index, cell.blue.index)
+    Corner {
+        red: cell.red.index,
+        green: cell.green.index,
+        blue: cell.blue.index,
+    }
 }
 
 // Red put into the order of the other two.
@@ -249,18 +262,15 @@ fn raised(cell: Cell, c: Corner, a: Axis) -> Corner
     match a {
         Axis::Red => Corner {
             red: cell.red.index + 1,
-            green: c.green,
-            blue: c.blue,
+            ..c
         },
         Axis::Green => Corner {
-            red: c.red,
             green: cell.green.index + 1,
-            blue: c.blue,
+            ..c
         },
         Axis::Blue => Corner {
-            red: c.red,
-            green: c.green,
             blue: cell.blue.index + 1,
+            ..c
         },
     }
 }
@@ -301,6 +311,7 @@ fn walk_in(cell: Cell) -> Walk
     }
 }
 
+// The library's min and max answer otherwise for a NaN, so the two are written out.
 fn smaller(a: f64, b: f64) -> f64
     ensures { result ≡ Lut1d.smaller a b }
 {
@@ -370,28 +381,17 @@ fn tetrahedral(
 
 // ---- either method
 
-fn trilinear_all(coefficients: &[i64], powers: &[i8], at: usize, n: usize, cell: Cell) -> Pixel
-    requires n_bound { n ≤ 33 }
-    requires cell_inside { Ways.CellInside n cell }
-    ensures { result ≡ Ways.each_of (Table.entry_at (lent coefficients.now powers.now) at n) (λ e. Ways.red_way e cell) }
+// A pixel of what a way answers on each component.
+fn each_component<W: Fn(usize) -> CodeValue>(way: W) -> Pixel
+    requires red { W.pre way 0 }
+    requires green { W.pre way 1 }
+    requires blue { W.pre way 2 }
+    ensures { (f : _) → Ways.GivesEach (W.post way) f → result ≡ Ways.of_each f }
 {
     Pixel {
-        r: trilinear(coefficients, powers, at, n, 0, cell).0,
-        g: trilinear(coefficients, powers, at, n, 1, cell).0,
-        b: trilinear(coefficients, powers, at, n, 2, cell).0,
-    }
-}
-
-fn tetrahedral_all(coefficients: &[i64], powers: &[i8], at: usize, n: usize, cell: Cell) -> Pixel
-    requires n_bound { n ≤ 33 }
-    requires cell_inside { Ways.CellInside n cell }
-    ensures { result ≡ Ways.each_of (Table.entry_at (lent coefficients.now powers.now) at n) (λ e. Ways.walked_all e cell) }
-{
-    let w = walk_in(cell);
-    Pixel {
-        r: tetrahedral(coefficients, powers, at, n, 0, w).0,
-        g: tetrahedral(coefficients, powers, at, n, 1, w).0,
-        b: tetrahedral(coefficients, powers, at, n, 2, w).0,
+        r: way(0).0,
+        g: way(1).0,
+        b: way(2).0,
     }
 }
 
@@ -408,8 +408,13 @@ fn interpolated_all(
     ensures { result ≡ Ways.each_of (Table.entry_at (lent coefficients.now powers.now) at n) (λ e. Ways.way_by interpolation e cell) }
 {
     match interpolation {
-        Interpolation::Trilinear => trilinear_all(coefficients, powers, at, n, cell),
-        Interpolation::Tetrahedral => tetrahedral_all(coefficients, powers, at, n, cell),
+        Interpolation::Trilinear => {
+            each_component(move |k| trilinear(coefficients, powers, at, n, k, cell))
+        }
+        Interpolation::Tetrahedral => {
+            let w = walk_in(cell);
+            each_component(move |k| tetrahedral(coefficients, powers, at, n, k, w))
+        }
     }
 }
 
@@ -417,10 +422,7 @@ fn interpolated_all(
 fn cube_in(room: usize, at: usize, n: usize) -> bool
     ensures { result ≡ Table.cube_in room at n }
 {
-    if n < 2 {
-        return false;
-    }
-    if n > 33 {
+    if n < 2 || n > 33 {
         return false;
     }
     pixel_lut::fits(room, at, n * n * n * 3)

@@ -12,7 +12,7 @@ ghost use Rattle.pixel_lut.specs.Table as Table;
 use pixel::{CodeValue, Fraction, Fractions, Pixel};
 
 // Where a fraction falls on an axis of entries: `index`, the last entry at or before it, and `part`, how far behind that entry it lies, 0 at the entry itself.
-#[derive(Clone, Copy)]
+#[derive(Clone, Copy, Debug, PartialEq)]
 pub struct AxisPlace {
     pub index: usize,
     pub part: f64,
@@ -40,13 +40,7 @@ fn floor_to(top: usize, p: f64) -> usize
 pub fn on_axis(n: usize, x: Fraction) -> AxisPlace
     ensures { result ≡ Lut1d.on_axis n x }
 {
-    if n < 2 {
-        return AxisPlace {
-            index: 0,
-            part: 0.0,
-        };
-    }
-    if n > 65536 {
+    if n < 2 || n > 65536 {
         return AxisPlace {
             index: 0,
             part: 0.0,
@@ -107,10 +101,7 @@ fn looked_up(
     let i = floor_to(n - 1, p);
     let f = p - (i as f64);
     let e = entry(coefficients, powers, at, n, columns, column, i);
-    if i == n - 1 {
-        return CodeValue(e);
-    }
-    if f == 0.0 {
+    if i == n - 1 || f == 0.0 {
         return CodeValue(e);
     }
     let next = entry(coefficients, powers, at, n, columns, column, i + 1);
@@ -151,27 +142,18 @@ fn looked_up_all(
 pub fn fits(room: usize, at: usize, count: usize) -> bool
     ensures { result ≡ nat_le (at + count) room }
 {
-    if at > room {
-        return false;
-    }
-    count <= room - at
+    at <= room && count <= room - at
 }
 
 // Whether a room has a table of n entries in 1 or 3 columns from number at on.
 fn table_in(room: usize, at: usize, n: usize, columns: usize) -> bool
     ensures { result ≡ Table.table_in room at n columns }
 {
-    if n < 2 {
+    if n < 2 || n > 65536 {
         return false;
     }
-    if n > 65536 {
-        return false;
-    }
-    if columns == 1 {
-        return fits(room, at, n);
-    }
-    if columns == 3 {
-        return fits(room, at, n * 3);
+    if columns == 1 || columns == 3 {
+        return fits(room, at, n * columns);
     }
     false
 }

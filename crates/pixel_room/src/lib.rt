@@ -22,10 +22,7 @@ pub fn number_from(coefficients: &[i64], powers: &[i8], at: usize, k: usize) -> 
     ensures { result ≡ Room.number_at (lent coefficients.now powers.now) (at + k) }
 {
     let count = room::length(coefficients, powers);
-    if at >= count {
-        return 0.0;
-    }
-    if k >= count - at {
+    if at >= count || k >= count - at {
         return 0.0;
     }
     number_inside(coefficients, powers, at + k)
@@ -35,29 +32,26 @@ fn row_from(coefficients: &[i64], powers: &[i8], at: usize, k: usize, wide: bool
     requires { k < 9 }
     ensures { result ≡ Room.row_at (lent coefficients.now powers.now) (at + k) wide }
 {
-    let a = number_from(coefficients, powers, at, k);
-    let b = number_from(coefficients, powers, at, k + 1);
-    let c = number_from(coefficients, powers, at, k + 2);
-    if wide {
-        return [a, b, c, number_from(coefficients, powers, at, k + 3)];
-    }
-    [a, b, c, 0.0]
+    [
+        number_from(coefficients, powers, at, k),
+        number_from(coefficients, powers, at, k + 1),
+        number_from(coefficients, powers, at, k + 2),
+        if wide {
+            number_from(coefficients, powers, at, k + 3)
+        } else {
+            0.0
+        },
+    ]
 }
 
 // The three rows of a Matrix whose numbers stand from at on.
 pub fn rows_from(coefficients: &[i64], powers: &[i8], at: usize, wide: bool) -> [[f64; 4]; 3]
     ensures { result ≡ Room.rows_at (lent coefficients.now powers.now) at wide }
 {
-    if wide {
-        return [
-            row_from(coefficients, powers, at, 0, wide),
-            row_from(coefficients, powers, at, 4, wide),
-            row_from(coefficients, powers, at, 8, wide),
-        ];
-    }
+    let step = if wide { 4 } else { 3 };
     [
         row_from(coefficients, powers, at, 0, wide),
-        row_from(coefficients, powers, at, 3, wide),
-        row_from(coefficients, powers, at, 6, wide),
+        row_from(coefficients, powers, at, step, wide),
+        row_from(coefficients, powers, at, 2 * step, wide),
     ]
 }

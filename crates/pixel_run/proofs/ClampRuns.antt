@@ -22,20 +22,11 @@ use Rattle.pixel_run.specs.Step.{step_pixel, ClampHolds}
 step-held : (P : Pixel → Type 0) (f : Pixel → Pixel) (xs ys : List Float) → ys ≡ each_pixel f xs → ((x : Pixel) → P (f x)) → EachHolds P ys
 step-held P f xs ys e h = rw e (each_holds P f h xs)
 
-range-held : (minIn maxIn lo hi : Float) (clamp : Bool) (xs ys : List Float) → ys ≡ each_pixel (range_pixel minIn maxIn lo hi clamp) xs → T clamp → T (le lo hi) → EachWithin lo hi ys
+pub range-held : (minIn maxIn lo hi : Float) (clamp : Bool) (xs ys : List Float) → ys ≡ each_pixel (range_pixel minIn maxIn lo hi clamp) xs → T clamp → T (le lo hi) → EachWithin lo hi ys
 range-held minIn maxIn lo hi clamp xs ys e t h = step-held (Within lo hi) _ xs ys e (λ x. range-within minIn maxIn lo hi clamp x t h)
 
-one-end-held : (end : RangeEnd) (limit : Float) (xs ys : List Float) → ys ≡ each_pixel (limited_pixel end limit) xs → is_nan limit ≡ false → EachInside end limit ys
+pub one-end-held : (end : RangeEnd) (limit : Float) (xs ys : List Float) → ys ≡ each_pixel (limited_pixel end limit) xs → is_nan limit ≡ false → EachInside end limit ys
 one-end-held end limit xs ys e h = step-held (InsidePixel end limit) _ xs ys e (λ x. limited-inside end limit x h)
-
--- both promises of a run over a slice: what it holds afterwards, and the bound on it
-pub range-ran : (minIn maxIn lo hi : Float) (clamp : Bool) (xs ys : List Float) → ys ≡ each_pixel (range_pixel minIn maxIn lo hi clamp) xs
-    → (ys ≡ each_pixel (range_pixel minIn maxIn lo hi clamp) xs) × (T clamp → T (le lo hi) → EachWithin lo hi ys)
-range-ran minIn maxIn lo hi clamp xs ys e = (e, range-held minIn maxIn lo hi clamp xs ys e)
-
-pub one-end-ran : (end : RangeEnd) (limit : Float) (xs ys : List Float) → ys ≡ each_pixel (limited_pixel end limit) xs
-    → (ys ≡ each_pixel (limited_pixel end limit) xs) × (is_nan limit ≡ false → EachInside end limit ys)
-one-end-ran end limit xs ys e = (e, one-end-held end limit xs ys e)
 
 module _ (rows : List (List Float)) (inScale outScale : Float) (m : Room) (xs ys : List Float) where
   held : (p : Prepared) → ys ≡ each_pixel (step_pixel p rows inScale outScale m) xs → ClampHolds p ys

@@ -1,2 +1,3 @@
 pub mod ClampRuns
 pub mod UnitScales
+pub mod FiniteTests

@@ -1,9 +1,13 @@
 -- Mapping the pixels of a slice one after the other: what is done so far, with the rest mapped, is the whole mapped. The length stays. Assumes nothing.
-use Rattle.std.specs.Prelude.{◌≡◌, refl, List, [], ◌∷◌, ◌++◌, ℕ, suc, ◌+◌, ◌-◌, ◌≤◌, ◌<◌, length, take, drop, get_or, set, Float}
+use Rattle.std.specs.Prelude.{◌≡◌, refl, List, [], ◌∷◌, ◌++◌, ℕ, suc, ◌+◌, ◌-◌, ◌*◌, ◌/◌, ◌≤◌, ◌<◌, length, take, drop, get_or, set, Float}
 use Rattle.std.proofs.Common.{sym, ap, ◌∙◌, subst, append_assoc, arith, length-set, length-drop, take-append-drop, drop-cons, take-suc-set, drop-set-lt}
 use Rattle.std.specs.Float.{nan}
 use Rattle.pixel.specs.declared.Pixel.{Pixel}
 use Rattle.pixel_run.specs.Each.{each_pixel, EachHolds}
+
+-- what a step answers, as `post` says it, is what f makes of the pixel
+abbrev pub Computes : (Pixel → Pixel → Type 0) → (Pixel → Pixel) → Type 0
+Computes post f = (x y : Pixel) → post x y → y ≡ f x
 
 -- the first i components are mapped already
 abbrev pub Done : (Pixel → Pixel) → List Float → List Float → ℕ → Type 0
@@ -96,6 +100,13 @@ pub passed-more : {f : Pixel → Pixel} {xs₀ xs : List Float} {i : ℕ} {x y :
 passed-more {f} {xs₀} {xs} {i} {x} {y} {ys} p h ex ey es =
     let l : length ys ≡ length xs = ap length es ∙ length-stored xs i y in
     record { within = omega arith; whole = l ∙ p.whole; done = rw (es, ey, ex) (done_more f xs₀ xs i h p.done) }
+
+-- the pixel with the number k read, mapped and put back
+pub passed_step : {f : Pixel → Pixel} {xs₀ xs : List Float} {k : ℕ} {y : Pixel} → Passed f xs₀ xs (3 * k) → k < length xs / 3 → y ≡ f (pixel_at xs (3 * k))
+    → Passed f xs₀ (stored_pixel xs (3 * k) y) (3 * (k + 1))
+passed_step {f} {xs₀} {xs} {k} {y} p h e =
+    let next : 3 * k + 3 ≡ 3 * (k + 1) = omega arith in
+    subst (λ (n : ℕ). Passed f xs₀ (stored_pixel xs (3 * k) y) n) next (passed-more p (omega arith) refl e refl)
 
 pub passed-end : {f : Pixel → Pixel} {xs₀ xs : List Float} {i : ℕ} → length xs - i < 3 → Passed f xs₀ xs i → xs ≡ each_pixel f xs₀
 passed-end {f} {xs₀} {xs} {i} h p = done_end f xs₀ xs i h p.done

@@ -18,7 +18,7 @@ ghost use Rattle.pixel_run.specs.EachLaws as EachLaws;
 ghost use Rattle.pixel_run.specs.Finite as Finite;
 ghost use Rattle.pixel_run.specs.FiniteLaws as FiniteLaws;
 
-use pixel::Pixel;
+use pixel::{CdlNumbers, Pixel};
 use process_list::{Interpolation, RangeEnd};
 
 // A prepared node: Range with its four numbers, CDL with its ten, Matrix, LUT1D and LUT3D with where theirs stand. A Range with one end has its limit alone.
@@ -107,41 +107,34 @@ pub fn prepare_cdl(coefficients: &[i64], powers: &[i8], at: usize, clamp: bool) 
     }
 }
 
-// The pixel whose red stands at i.
-fn load(pixels: &[f64], i: usize) -> Pixel
-    requires { i + 2 < length pixels.now }
-    ensures { result ≡ EachLaws.pixel_at pixels.now i }
+// Every pixel of the slice taken through a step, three components at a time; one or two at the end are no pixel and stay.
+// It counts, since after `chunks_exact_mut` or `as_chunks_mut` nothing but the slice's length is known, and so its proof didn't close.
+fn each_pixel<F: Fn(Pixel) -> Pixel>(pixels: &mut [f64], step: F)
+    requires callable { F.IsAlwaysCallable step }
+    ensures { (f : _) → EachLaws.Computes (F.post step) f → pixels.new ≡ Each.each_pixel f pixels.old }
 {
-    Pixel {
-        r: pixels[i],
-        g: pixels[i + 1],
-        b: pixels[i + 2],
+    for k in 0..pixels.len() / 3 {
+        let i = 3 * k;
+        let y = step(Pixel {
+            r: pixels[i],
+            g: pixels[i + 1],
+            b: pixels[i + 2],
+        });
+        pixels[i] = y.r;
+        pixels[i + 1] = y.g;
+        pixels[i + 2] = y.b;
     }
 }
 
-// A pixel put at i.
-fn store(pixels: &mut [f64], i: usize, y: Pixel)
-    requires { i + 2 < length pixels.old }
-    ensures { pixels.new ≡ EachLaws.stored_pixel pixels.old i y }
-{
-    pixels[i] = y.r;
-    pixels[i + 1] = y.g;
-    pixels[i + 2] = y.b;
-}
-
-// One loop for each kind of node, so that each has few tests inside.
 // Clamp's bound: whatever stood there, a NaN too, every pixel lies between min_out and max_out.
 fn run_range(pixels: &mut [f64], min_in: f64, max_in: f64, min_out: f64, max_out: f64, clamp: bool)
     ensures pixels_after { pixels.new ≡ Each.each_pixel (Range.range_pixel min_in max_in min_out max_out clamp) pixels.old }
     ensures each_within { T clamp → T (le min_out max_out) → Each.EachWithin min_out max_out pixels.new }
 {
-    let mut i = 0usize;
-    while pixels.len() - i >= 3 {
-        let x = load(pixels, i);
-        let y = pixel::range_pixel(min_in, max_in, min_out, max_out, clamp, x);
-        store(pixels, i, y);
-        i += 3;
-    }
+    each_pixel(
+        pixels,
+        |x| pixel::range_pixel(min_in, max_in, min_out, max_out, clamp, x),
+    );
 }
 
 // A limit that is no NaN: whatever stood there, a NaN too, no component is beyond it or a NaN.
@@ -149,77 +142,27 @@ fn run_one_end(pixels: &mut [f64], end: RangeEnd, limit: f64)
     ensures pixels_after { pixels.new ≡ Each.each_pixel (OneEnd.limited_pixel end limit) pixels.old }
     ensures each_inside { is_nan limit ≡ false → Each.EachInside end limit pixels.new }
 {
-    let mut i = 0usize;
-    while pixels.len() - i >= 3 {
-        let x = load(pixels, i);
-        let y = pixel::limited_pixel(end, limit, x);
-        store(pixels, i, y);
-        i += 3;
-    }
+    each_pixel(pixels, |x| pixel::limited_pixel(end, limit, x));
 }
 
 fn run_matrix(pixels: &mut [f64], rows: [[f64; 4]; 3], wide: bool)
     ensures { pixels.new ≡ Each.each_pixel (Matrix.matrix_pixel rows wide) pixels.old }
 {
-    let mut i = 0usize;
-    while pixels.len() - i >= 3 {
-        let x = load(pixels, i);
-        let y = pixel::matrix_pixel(rows, wide, x);
-        store(pixels, i, y);
-        i += 3;
-    }
-}
-
-// sr, sg and sb are the slopes, or, og and ob the offsets, input and output the scales.
-fn run_cdl(
-    pixels: &mut [f64],
-    sr: f64,
-    sg: f64,
-    sb: f64,
-    or: f64,
-    og: f64,
-    ob: f64,
-    sat: f64,
-    clamp: bool,
-    input: f64,
-    output: f64,
-)
-    ensures { pixels.new ≡ Each.each_pixel (Cdl.cdl_pixel sr sg sb or og ob sat clamp input output) pixels.old }
-{
-    let mut i = 0usize;
-    while pixels.len() - i >= 3 {
-        let x = load(pixels, i);
-        let y = pixel::cdl_pixel(sr, sg, sb, or, og, ob, sat, clamp, input, output, x);
-        store(pixels, i, y);
-        i += 3;
-    }
+    each_pixel(pixels, |x| pixel::matrix_pixel(rows, wide, x));
 }
 
 // An ASC_CDL: with both scales 1 and style Fwd the loop tests neither.
-fn run_cdls(
-    pixels: &mut [f64],
-    sr: f64,
-    sg: f64,
-    sb: f64,
-    or: f64,
-    og: f64,
-    ob: f64,
-    sat: f64,
-    clamp: bool,
-    input: f64,
-    output: f64,
-)
-    ensures { pixels.new ≡ Each.each_pixel (Cdl.cdl_pixel sr sg sb or og ob sat clamp input output) pixels.old }
+fn run_cdl(pixels: &mut [f64], numbers: CdlNumbers, clamp: bool, in_scale: f64, out_scale: f64)
+    ensures { pixels.new ≡ Each.each_pixel (Cdl.cdl_pixel numbers.slope_r numbers.slope_g numbers.slope_b numbers.offset_r numbers.offset_g numbers.offset_b numbers.saturation clamp in_scale out_scale) pixels.old }
 {
-    if clamp {
-        if input == 1.0 {
-            if output == 1.0 {
-                run_cdl(pixels, sr, sg, sb, or, og, ob, sat, true, 1.0, 1.0);
-                return;
-            }
-        }
+    if clamp && in_scale == 1.0 && out_scale == 1.0 {
+        each_pixel(pixels, |x| pixel::cdl_pixel(numbers, true, 1.0, 1.0, x));
+    } else {
+        each_pixel(
+            pixels,
+            |x| pixel::cdl_pixel(numbers, clamp, in_scale, out_scale, x),
+        );
     }
-    run_cdl(pixels, sr, sg, sb, or, og, ob, sat, clamp, input, output);
 }
 
 fn run_lut1d(
@@ -233,13 +176,10 @@ fn run_lut1d(
 )
     ensures { pixels.new ≡ Each.each_pixel (Table.lut1d_pixel (lent coefficients.now powers.now) at entries columns in_scale) pixels.old }
 {
-    let mut i = 0usize;
-    while pixels.len() - i >= 3 {
-        let x = load(pixels, i);
-        let y = pixel_lut::lut1d_pixel(coefficients, powers, at, entries, columns, in_scale, x);
-        store(pixels, i, y);
-        i += 3;
-    }
+    each_pixel(
+        pixels,
+        |x| pixel_lut::lut1d_pixel(coefficients, powers, at, entries, columns, in_scale, x),
+    );
 }
 
 fn run_lut3d(
@@ -253,21 +193,10 @@ fn run_lut3d(
 )
     ensures { pixels.new ≡ Each.each_pixel (Cube.lut3d_pixel (lent coefficients.now powers.now) at points interpolation in_scale) pixels.old }
 {
-    let mut i = 0usize;
-    while pixels.len() - i >= 3 {
-        let x = load(pixels, i);
-        let y = pixel_cube::lut3d_pixel(
-            coefficients,
-            powers,
-            at,
-            points,
-            interpolation,
-            in_scale,
-            x,
-        );
-        store(pixels, i, y);
-        i += 3;
-    }
+    each_pixel(
+        pixels,
+        |x| pixel_cube::lut3d_pixel(coefficients, powers, at, points, interpolation, in_scale, x),
+    );
 }
 
 // One node over all pixels of the slice.
@@ -303,10 +232,18 @@ pub fn run_node(
             power_b: _,
             saturation,
             clamp,
-        } => run_cdls(
-            pixels, slope_r, slope_g, slope_b, offset_r, offset_g, offset_b, saturation, clamp,
-            in_scale, out_scale,
-        ),
+        } => {
+            let numbers = CdlNumbers {
+                slope_r,
+                slope_g,
+                slope_b,
+                offset_r,
+                offset_g,
+                offset_b,
+                saturation,
+            };
+            run_cdl(pixels, numbers, clamp, in_scale, out_scale)
+        }
         Prepared::Matrix { at: _, wide } => run_matrix(pixels, rows, wide),
         Prepared::Lut1d {
             at,
@@ -330,39 +267,17 @@ pub fn run_node(
     }
 }
 
-// Neither a NaN nor an infinity: from those the difference is a NaN.
-fn is_finite(x: f64) -> bool
-    ensures { result ≡ finite x }
-{
-    x - x == 0.0
-}
-
-// Whether every component is finite; none ends the loop early, so that many are tested at a time.
+// Whether every component is finite; none ends the loop early, so that many are tested at a time. As `fold` over the bool it took 1.2 times as long.
 fn all_finite(pixels: &[f64]) -> bool
     ensures { result ≡ FiniteLaws.all_finite pixels.now }
 {
     let mut ok = true;
-    let mut i = 0usize;
-    while i < pixels.len() {
-        if !is_finite(pixels[i]) {
+    for x in pixels {
+        if !x.is_finite() {
             ok = false;
         }
-        i += 1;
     }
     ok
-}
-
-fn search_not_finite(pixels: &[f64]) -> usize
-    ensures { result ≡ Finite.first_not_finite pixels.now }
-{
-    let mut i = 0usize;
-    while i < pixels.len() {
-        if !is_finite(pixels[i]) {
-            return i;
-        }
-        i += 1;
-    }
-    i
 }
 
 // The index of the first component that is a NaN or an infinity; the length if there is none.
@@ -372,5 +287,8 @@ pub fn first_not_finite(pixels: &[f64]) -> usize
     if all_finite(pixels) {
         return pixels.len();
     }
-    search_not_finite(pixels)
+    pixels
+        .iter()
+        .position(|x| !x.is_finite())
+        .unwrap_or(pixels.len())
 }

@@ -3,15 +3,14 @@ use mathlib.Core.Path.{◌≡◌, refl, sym, ap, ◌∙◌}
 use mathlib.Core.Bool.{Bool, true, false, cond, ◌||◌}
 use mathlib.Core.List.{List, [], ◌∷◌, ◌++◌, map, map-append}
 use Prim.Native.Nat.{ℕ, ◌+◌, ◌≤◌, ◌<◌}
-use native.Mathlib.Omega.{arith}
 use native.Mathlib.Numerals.{add-one}
-use lib.ListN.{length, take, drop, get_or, length-map, get_or-map, drop_of_length-le}
-use lib.Seq.{take-suc, drop-cons, get_or-take, length-take-le}
+use lib.ListN.{length, take, drop, get_or, drop_of_length-le}
+use lib.Seq.{take-suc, drop-cons}
+use Rattle.std.specs.List.{list_any}
 use Rattle.xml.specs.Bytes.{same}
 use Rattle.ids.specs.Ids.{is_given, is_among, repeats}
 use Rattle.process_list.specs.declared.Node.{Node}
-use Rattle.process_list.specs.declared.ProcessList.{ProcessList}
-use Rattle.process_list.specs.List.{numbers_of, with_position, place_from, nodes_of, node_at, blank_node, ids_of, first_repeat, is_seen}
+use Rattle.process_list.specs.List.{numbers_of, with_position, place_from, blank_node, ids_of, first_repeat, is_seen}
 use Rattle.process_list.specs.File.{file_node}
 
 abbrev id_of : Node → List ℕ
@@ -40,70 +39,44 @@ file-seen ns = ap (repeats 1 []) (ids-file ns)
 -- ---- node by node
 
 -- what is left to be asked before index k
-abbrev pub seen_from : ProcessList → ℕ → ℕ
-seen_from l k = repeats (k + 1) (ids_of (take k (nodes_of l))) (ids_of (drop k (nodes_of l)))
+abbrev pub seen_from : List Node → ℕ → ℕ
+seen_from ns k = repeats (k + 1) (ids_of (take k ns)) (ids_of (drop k ns))
 
-pub seen_start : (l : ProcessList) → first_repeat (nodes_of l) ≡ seen_from l 0
+pub seen_start : (ns : List Node) → first_repeat ns ≡ seen_from ns 0
 unfolding first_repeat ids_of
-seen_start l = refl
+seen_start ns = refl
 
-seen-cons : (l : ProcessList) (k : ℕ) → k < length (nodes_of l)
-    → seen_from l k ≡ cond (is_seen l k) (k + 1) (repeats (k + 1 + 1) (ids_of (take k (nodes_of l)) ++ ((node_at l k).id ∷ [])) (ids_of (drop (k + 1) (nodes_of l))))
-unfolding is_seen node_at ids_of repeats
-seen-cons l k h = rw (add-one k, drop-cons (nodes_of l) k blank_node h) refl
+seen-cons : (ns : List Node) (k : ℕ) → k < length ns
+    → seen_from ns k ≡ cond (is_seen ns k) (k + 1) (repeats (k + 1 + 1) (ids_of (take k ns) ++ ((get_or ns k blank_node).id ∷ [])) (ids_of (drop (k + 1) ns)))
+unfolding is_seen ids_of repeats
+seen-cons ns k h = rw (add-one k, drop-cons ns k blank_node h) refl
 
-pub seen_here : (l : ProcessList) (k : ℕ) → k < length (nodes_of l) → is_seen l k ≡ true → seen_from l k ≡ k + 1
-seen_here l k h e = seen-cons l k h ∙ simp e
+pub seen_here : (ns : List Node) (k : ℕ) → k < length ns → is_seen ns k ≡ true → seen_from ns k ≡ k + 1
+seen_here ns k h e = seen-cons ns k h ∙ simp e
 
-ids_more : (l : ProcessList) (k : ℕ) → k < length (nodes_of l) → ids_of (take (k + 1) (nodes_of l)) ≡ ids_of (take k (nodes_of l)) ++ ((node_at l k).id ∷ [])
-unfolding ids_of node_at
-ids_more l k h = rw (add-one k, take-suc (nodes_of l) k blank_node h) (map-append id_of (take k (nodes_of l)) (get_or (nodes_of l) k blank_node ∷ []))
+ids_more : (ns : List Node) (k : ℕ) → k < length ns → ids_of (take (k + 1) ns) ≡ ids_of (take k ns) ++ ((get_or ns k blank_node).id ∷ [])
+unfolding ids_of
+ids_more ns k h = rw (add-one k, take-suc ns k blank_node h) (map-append id_of (take k ns) (get_or ns k blank_node ∷ []))
 
-pub seen-turn : (l : ProcessList) (k : ℕ) → k < length (nodes_of l) → is_seen l k ≡ false → seen_from l k ≡ seen_from l (k + 1)
-seen-turn l k h e =
-    seen-cons l k h ∙ (simp e) ∙ ap (λ (b : List (List ℕ)). repeats (k + 1 + 1) b (ids_of (drop (k + 1) (nodes_of l)))) (sym (ids_more l k h))
+pub seen-turn : (ns : List Node) (k : ℕ) → k < length ns → is_seen ns k ≡ false → seen_from ns k ≡ seen_from ns (k + 1)
+seen-turn ns k h e =
+    seen-cons ns k h ∙ (simp e) ∙ ap (λ (b : List (List ℕ)). repeats (k + 1 + 1) b (ids_of (drop (k + 1) ns))) (sym (ids_more ns k h))
 
-pub seen_none : (l : ProcessList) (k : ℕ) → length (nodes_of l) ≤ k → seen_from l k ≡ 0
+pub seen_none : (ns : List Node) (k : ℕ) → length ns ≤ k → seen_from ns k ≡ 0
 unfolding ids_of repeats
-seen_none l k h = rw (drop_of_length-le (nodes_of l) h) refl
+seen_none ns k h = rw (drop_of_length-le ns h) refl
 
--- ---- the ids before index k, one by one
-
--- what is left to be compared from index j on
-abbrev pub among_from : ProcessList → ℕ → ℕ → Bool
-among_from l k j = is_among (node_at l k).id (drop j (ids_of (take k (nodes_of l))))
-
-module _ (l : ProcessList) (k j : ℕ) (h : j < k) (few : k < length (nodes_of l)) where
-  before-length : length (ids_of (take k (nodes_of l))) ≡ k
-  unfolding ids_of
-  before-length = length-map (take k (nodes_of l)) id_of ∙ length-take-le k (nodes_of l) (omega arith)
-
-  before_at : get_or (ids_of (take k (nodes_of l))) j blank_node.id ≡ (node_at l j).id
-  unfolding ids_of node_at
-  before_at = get_or-map id_of (take k (nodes_of l)) j blank_node ∙ ap id_of (get_or-take k (nodes_of l) j blank_node h)
-
-  among-cons : among_from l k j ≡ (same (node_at l k).id (node_at l j).id || among_from l k (j + 1))
-  unfolding is_among
-  among-cons =
-      ap (is_among (node_at l k).id) (drop-cons (ids_of (take k (nodes_of l))) j blank_node.id (omega (arith, before-length)))
-      ∙ (rw (add-one j, before_at) refl)
-
-  pub among-here : same (node_at l k).id (node_at l j).id ≡ true → among_from l k j ≡ true
-  among-here e = among-cons ∙ simp e
-
-  pub among-turn : same (node_at l k).id (node_at l j).id ≡ false → among_from l k j ≡ among_from l k (j + 1)
-  among-turn e = among-cons ∙ simp e
-
-pub among_none : (l : ProcessList) (k j : ℕ) → k < length (nodes_of l) → k ≤ j → among_from l k j ≡ false
+-- ---- the nodes before index k
+pub among-any : (id : List ℕ) (ns : List Node) → list_any (λ (n : Node). same id n.id) ns ≡ is_among id (ids_of ns)
 unfolding is_among ids_of
-among_none l k j few h =
-    let n : length (map id_of (take k (nodes_of l))) ≤ j = rw (length-map, length-take-le k (nodes_of l) (omega arith)) h in
-    rw (drop_of_length-le (map id_of (take k (nodes_of l))) n) refl
+among-any id [] = refl
+among-any id (n ∷ ns) = ap (λ (b : Bool). same id n.id || b) (among-any id ns)
 
-pub given-seen : (l : ProcessList) (k : ℕ) (b : Bool) → is_given (node_at l k).id ≡ true → among_from l k 0 ≡ b → b ≡ is_seen l k
+pub given-seen : (ns : List Node) (k : ℕ) (b : Bool) → is_given (get_or ns k blank_node).id ≡ true → b ≡ list_any (λ (n : Node). same (get_or ns k blank_node).id n.id) (take k ns)
+    → b ≡ is_seen ns k
 unfolding is_seen
-given-seen l k b g e = simp (g, e)
+given-seen ns k b g e = simp g (e ∙ among-any _ (take k ns))
 
-pub not-given : (l : ProcessList) (k : ℕ) → is_given (node_at l k).id ≡ false → false ≡ is_seen l k
+pub not-given : (ns : List Node) (k : ℕ) → is_given (get_or ns k blank_node).id ≡ false → false ≡ is_seen ns k
 unfolding is_seen
-not-given l k g = simp g
+not-given ns k g = simp g

@@ -1,50 +1,22 @@
 -- The values in a small room, all four or one pair. Assumes nothing.
 use mathlib.Core.Path.{◌≡◌, refl, sym, ap, subst, ◌∙◌}
-use mathlib.Core.Bool.{Bool, true, false, cond}
+use mathlib.Core.Bool.{Bool, false}
 use mathlib.Core.List.{List, [], ◌∷◌, map}
 use mathlib.Core.Option.{Option, none}
-use Prim.Native.Nat.{ℕ, zero, suc, ◌+◌, ◌<◌}
+use Prim.Native.Nat.{ℕ, ◌+◌, ◌<◌}
 use native.Mathlib.Omega.{arith}
-use lib.Dec.{ltb}
-use lib.IntN.{ℤ}
-use lib.ListN.{length, get_or, set, length-map, get_or-map}
-use lib.Seq.{set_out}
-use borrow.Author.Tests.{ltb-false}
+use lib.ListN.{length, get_or, length-map, get_or-map}
 use Rattle.decimal.specs.declared.Decimal.{Decimal}
 use Rattle.decimal.specs.Decimal as Decimals
-use Rattle.room.specs.Room.{Room, room_length, stored, stored_in, laid_in}
-use Rattle.room.proofs.Rooms.{stored_one}
+use Rattle.room.specs.Room.{Room, room_length}
 use Rattle.values.specs.Code.{Laid}
 use Rattle.values.proofs.Stored.{laid_then}
 use Rattle.clf.specs.Nodes.{is_some, or_else, RangeState, is_there, value_at, all_there, in_order, in_of, out_of, other_end, only_pair, pair_equal, one_end_fault, range_missing, range_fault, range_index}
-use Rattle.node_parts.specs.Code.{small_number_at, numbers_from, small_numbers}
+use Rattle.node_parts.specs.Code.{small_number_at, small_numbers}
 use Rattle.node_parts.proofs.Smalls.{numbers-length, numbers-at}
 use Rattle.process_list.specs.declared.RangeEnd.{RangeEnd}
 use Rattle.process_list.specs.declared.RangeEnd.TheVariants.{Minimum, Maximum}
-use Rattle.range_node.specs.Code.{range_fault_of, all_of, only_of, pair_in, ordered_in, pair_missing, missing_of, RangeStands}
-use Rattle.range_node.specs.declared.RangeStep.{RangeStep}
-
--- ---- one value more
-
-numbers-set : (c p : List ℤ) (k : ℕ) (d : Decimal) → numbers_from (set c k d.coefficient) (set p k d.power) ≡ set (numbers_from c p) k d
-numbers-set [] p k d = refl
-numbers-set (x ∷ c) [] zero d = refl
-numbers-set (x ∷ c) [] (suc k) d = refl
-numbers-set (x ∷ c) (y ∷ p) zero d = refl
-numbers-set (x ∷ c) (y ∷ p) (suc k) d = ap (λ (l : List Decimal). record { coefficient = x; power = y } ∷ l) (numbers-set c p k d)
-
--- a number stored in a small room takes its place among the room's numbers
-small-stored : (k : ℕ) (d : Decimal) (m : Room) → small_numbers (stored_in k d m) ≡ set (small_numbers m) k d
-unfolding stored_in stored
-small-stored k d m = go (ltb k (room_length m)) refl
-  where
-    go : (b : Bool) → ltb k (room_length m) ≡ b
-        → numbers_from (cond b (set m.coefficients k d.coefficient) m.coefficients) (cond b (set m.powers k d.power) m.powers) ≡ set (small_numbers m) k d
-    go true q = numbers-set m.coefficients m.powers k d
-    go false q = sym (set_out (small_numbers m) k d (omega (arith, ltb-false k (room_length m) q, numbers-length m)))
-
-pub small_one : (k : ℕ) (d : Decimal) (m : Room) → small_numbers (laid_in k (d ∷ []) m) ≡ set (small_numbers m) k d
-small_one k d m = ap small_numbers (sym (stored_one k d m)) ∙ small-stored k d m
+use Rattle.range_node.specs.Code.{range_fault_of, all_of, only_of, ordered_in, pair_missing, missing_of, RangeStands}
 
 -- two numbers stored, one behind the other
 pub two-laid : (base : ℕ) (d e : Decimal) (m₀ m₁ m₂ : Room) → Laid (base + 0) (d ∷ []) m₀ m₁ → Laid (base + 1) (e ∷ []) m₁ m₂ → Laid base (d ∷ e ∷ []) m₀ m₂
@@ -54,11 +26,11 @@ two-laid base d e m₀ m₁ m₂ h k =
 
 -- ---- what the flags and the room say of the values
 
-module _ (m : Room) (r : RangeStep) (st : RangeState) (v : RangeStands m r st) where
-  there : (k : ℕ) → get_or r.found k false ≡ is_there k st
-  there k = ap (λ (l : List Bool). get_or l k false) v.found ∙ get_or-map is_some st.values k none
+module _ (m : Room) (found : List Bool) (st : RangeState) (v : RangeStands m found st) where
+  there : (k : ℕ) → get_or found k false ≡ is_there k st
+  there k = ap (λ (l : List Bool). get_or l k false) v.found_is ∙ get_or-map is_some st.values k none
 
-  pub faults : (w : List ℕ) → range_fault_of r.found w ≡ range_fault st w
+  pub faults : (w : List ℕ) → range_fault_of found w ≡ range_fault st w
   unfolding range_fault_of
   faults w = rw (there 0, there 1, there 2, there 3, there (range_index w))
 
@@ -70,10 +42,10 @@ module _ (m : Room) (r : RangeStep) (st : RangeState) (v : RangeStands m r st) w
       sym (numbers-at m k (omega (arith, room))) ∙ ap (λ (l : List Decimal). get_or l k Decimals.zero) v.numbers
       ∙ get_or-map (or_else Decimals.zero) st.values k none
 
-  pub all : all_of r.found ≡ all_there st
+  pub all : all_of found ≡ all_there st
   all = rw (there 0, there 1, there 2, there 3)
 
-  pub only : (e : RangeEnd) → only_of e r.found ≡ only_pair e st
+  pub only : (e : RangeEnd) → only_of e found ≡ only_pair e st
   unfolding only_of only_pair
   only e = rw (there (in_of e), there (out_of e), there (in_of (other_end e)), there (out_of (other_end e)))
 
@@ -93,7 +65,7 @@ module _ (m : Room) (r : RangeStep) (st : RangeState) (v : RangeStands m r st) w
   unfolding ordered_in
   ordered = rw (number 0 (omega arith), number 1 (omega arith), number 2 (omega arith), number 3 (omega arith))
 
-  pub lacking : (allowed : Bool) → missing_of allowed r.found m ≡ range_missing allowed st
+  pub lacking : (allowed : Bool) → missing_of allowed found m ≡ range_missing allowed st
   unfolding missing_of range_missing
   lacking allowed = rw (all, ordered, only Minimum, only Maximum, pair-lacking allowed Minimum, pair-lacking allowed Maximum)
 

@@ -1,5 +1,5 @@
 -- What the answers of the code mean: the values stand in a small room, in the order of their indices; one that is not there is zero.
-use Rattle.std.specs.Prelude.{◌≡◌, Bool, true, false, cond, not, ◌&&◌, ◌||◌, List, [], ◌∷◌, map, ℕ, ltb, length, get_or}
+use Rattle.std.specs.Prelude.{◌≡◌, Bool, false, cond, not, ◌&&◌, ◌||◌, List, [], ◌∷◌, map, ℕ, ltb, length, get_or}
 use Rattle.decimal.specs.declared.Decimal.{Decimal}
 use Rattle.decimal.specs.Decimal as Decimals
 use Rattle.decimal_value.specs.Value.{less, at_most, equal}
@@ -9,12 +9,13 @@ use Rattle.process_list.specs.declared.RangeEnd.TheVariants.{Minimum, Maximum}
 use Rattle.process_list.specs.declared.Kind.{Kind}
 use Rattle.process_list.specs.declared.Kind.TheVariants.{Range, OneEnd}
 use Rattle.xml.specs.Bytes.{bytes, same}
-use Rattle.xml.specs.declared.Scan.{Scan}
-use Rattle.xml.specs.declared.Scan.TheVariants.{At}
+use Rattle.xml.specs.Code.{Scan}
+use Rattle.std.specs.Prelude.{Result, Ok, Err}
+use Rattle.xml.specs.declared.Stop.{Stop}
 use Rattle.room.specs.Room.{Room}
 use Rattle.clf.specs.Nodes.{is_some, or_else, range_index, in_of, out_of, other_end, RangeState}
 use Rattle.node_parts.specs.Code.{small_number_at, small_numbers}
-use Rattle.range_node.specs.declared.RangeStep.{RangeStep}
+use Rattle.range_node.specs.declared.RangeRead.{RangeRead}
 use Rattle.refusals.specs.Refusals as Refusal
 
 -- of four flags
@@ -68,16 +69,13 @@ numbers_found l m = cond (all_of l) (small_numbers m) (pair_in (end_found l) m)
 abbrev pub four_zeros : List Decimal
 four_zeros = Decimals.zero ∷ Decimals.zero ∷ Decimals.zero ∷ Decimals.zero ∷ []
 
--- the state with another answer
-abbrev pub with_scan : RangeStep → Scan → RangeStep
-with_scan r scan = record { scan = scan; found = r.found }
+-- the place behind what was read
+abbrev pub range_end : Result RangeRead Stop → Scan
+range_end (Ok r) = Ok r.end
+range_end (Err x) = Err x
 
--- nothing found yet
-abbrev pub none_found : ℕ → RangeStep
-none_found at = record { scan = At at; found = false ∷ false ∷ false ∷ false ∷ [] }
-
--- the code's state r and the small room stand for the state st: a value that is not there yet is zero in the room
-pub record RangeStands (m : Room) (r : RangeStep) (st : RangeState) : Type 0 where
-  pub found : r.found ≡ map is_some st.values
+-- the flags and the small room stand for the state st: a value that is not there yet is zero in the room
+pub record RangeStands (m : Room) (found : List Bool) (st : RangeState) : Type 0 where
+  pub found_is : found ≡ map is_some st.values
   pub numbers : small_numbers m ≡ map (or_else Decimals.zero) st.values
   pub four : length st.values ≡ 4

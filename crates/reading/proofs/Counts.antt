@@ -6,10 +6,9 @@ use Prim.Native.Nat.{ℕ, ◌≤◌}
 use native.Mathlib.Omega.{arith}
 use lib.Dec.{ltb}
 use lib.ListN.{length}
-use Rattle.process_list.specs.declared.Verdict.{Verdict}
-use Rattle.process_list.specs.declared.Verdict.TheVariants.{Accepted, NoNode, TooManyNodes, DepthDiffers, IdSeen, TooManyNumbers}
+use Rattle.std.proofs.Common.{Ok, Err}
 use Rattle.process_list.specs.declared.Node.{Node}
-use Rattle.process_list.specs.List.{Element, node_of, nodes_of, list_of, placed, place_from, total, capped, verdict, most_nodes}
+use Rattle.process_list.specs.List.{Verdict, Element, node_of, nodes_of, list_of, placed, place_from, total, capped, verdict, most_nodes}
 use Rattle.process_list.proofs.Laws.{capped-exact}
 use Rattle.process_list.proofs.Lists.{list-nodes, list_count, total-place, placed-length, heads-length, Fine, accepted-fine}
 use Rattle.grammar.specs.Parse.{Out, done, fault, cut}
@@ -21,17 +20,13 @@ use Rattle.reading.specs.Counts.{node_count, number_count}
 
 -- ---- an accepted reading's list was judged, and found right
 abbrev Judged : ℕ → Reading → Type 0
-Judged room (accepted l) = verdict room l ≡ Accepted
+Judged room (accepted l) = verdict room l ≡ Ok tt
 Judged room (faulty k p) = Unit {0}
 Judged room (unfit k p) = Unit {0}
 
 by-verdict : (room : ℕ) (l : List Element) (v : Verdict) → verdict room l ≡ v → Judged room (reading_by l v)
-by-verdict room l Accepted e = e
-by-verdict room l NoNode e = tt
-by-verdict room l TooManyNodes e = tt
-by-verdict room l (DepthDiffers k) e = tt
-by-verdict room l (IdSeen k) e = tt
-by-verdict room l TooManyNumbers e = tt
+by-verdict room l (Ok u) e = e
+by-verdict room l (Err why) e = tt
 
 list-judged : (room : ℕ) (l : List Element) → Judged room (list_reading room l)
 unfolding list_reading
@@ -56,7 +51,7 @@ unfolding read read_text
 read-judged room s = cond-judged room (ltb most_bytes (length s)) (faulty 4 0) (text_reading room s (document.run s)) tt (text-judged room s (document.run s))
 
 -- ---- the list of accepted elements
-module _ (room : ℕ) (es : List Element) (e : verdict room es ≡ Accepted) where
+module _ (room : ℕ) (es : List Element) (e : verdict room es ≡ Ok tt) where
   fine : Fine room (map node_of es)
   unfolding verdict
   fine = accepted-fine room (map node_of es) e

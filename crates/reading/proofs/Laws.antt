@@ -1,5 +1,5 @@
 -- Reading, from what a text's code answered. Assumes nothing.
-use Rattle.process_list.specs.List.{Element, all_numbers}
+use Rattle.process_list.specs.List.{Verdict, Element, all_numbers}
 use mathlib.Core.Path.{◌≡◌, refl, sym, ap, ◌∙◌, subst}
 use mathlib.Core.Bool.{Bool, true, false, cond, ◌&&◌}
 use mathlib.Core.List.{List, []}
@@ -9,20 +9,21 @@ use lib.Dec.{ltb, leb}
 use lib.IntN.{ℤ, pos}
 use lib.ListN.{length, take, drop, length-drop, length-take, length-map}
 use lib.Seq.{take_all}
-use borrow.Author.Tests.{lt-ltb, le-ltb, ltb-true, ltb-false, leb-true}
+use borrow.Author.Tests.{lt-ltb, le-ltb, ltb-true, ltb-false, le-leb, lt-leb}
 use denote.Ref.{Bor}
 use Rattle.decimal.specs.declared.Decimal.{Decimal}
 use Rattle.grammar.specs.Parse.{Out, done, fault, cut, then_out}
 use Rattle.grammar.specs.Laws.{nope}
-use Rattle.process_list.specs.declared.Verdict.{Verdict}
-use Rattle.process_list.specs.declared.Verdict.TheVariants as Verdicts
+use Rattle.process_list.specs.declared.Unfit.{Unfit}
+use Rattle.process_list.specs.declared.Unfit.TheVariants as Unfits
 use Rattle.process_list.specs.List as Lists
 use Rattle.process_list.proofs.Lists.{list-placed, verdict-list, accepted-fine, accepted-number, Fine, list_count}
 use Rattle.room.specs.Room.{Room, room_length, filled, cleared_in, filled_with, coefficient_parts, power_parts}
 use Rattle.room.proofs.Contents.{SliceFrom, filled-length, filled-behind}
 use Rattle.room.proofs.Rooms.{RoomFrom, from-refl, length-at-most, cleared-nothing, filled-room, filled-again}
-use Rattle.xml.specs.declared.Scan.{Scan}
-use Rattle.xml.specs.declared.Scan.TheVariants as Scans
+use Rattle.xml.specs.Code.{Scan}
+use Rattle.std.specs.Prelude.{Result, Ok, Err}
+use Rattle.xml.specs.declared.Stop.TheVariants as Stops
 use Rattle.xml.specs.Code.{scan_out, Inside}
 use Rattle.clf.specs.List.{Document, document, tail}
 use Rattle.clf.specs.Places.{node_span}
@@ -38,10 +39,9 @@ use Rattle.file_text.specs.declared.ListState.{ListState}
 use Rattle.file_text.specs.declared.ListStep.{ListStep}
 use Rattle.file_text.specs.Code.{bare, state_with, state_from, state_of, fitting_numbers, ListReads, text_nodes, after_root}
 use Rattle.file_text.proofs.Nodes.{bare-length}
-use Rattle.reading.specs.declared.Judged.{Judged}
-use Rattle.reading.specs.declared.Judged.TheVariants.{Accepted, Refused}
+use Rattle.reading.specs.declared.Refused.{Refused}
 use Rattle.reading.specs.Code as Code
-use Rattle.reading.specs.Code.{checked_of, reading_answer, ReadsInto, judged_scan, judged_step, refused_answer, accepted_answer, judged_of, checked_by, asked_by, TextAlone}
+use Rattle.reading.specs.Code.{checked_of, reading_answer, ReadsInto, Judged, refused_at, judged_length, judged_by, judged_scan, judged_step, refused_answer, accepted_answer, judged_of, ListIn, NodeAt, checked_by, asked_by, TextAlone}
 
 -- ---- reading by the nodes of the text
 
@@ -70,12 +70,8 @@ place-back s p h = omega (arith, length-drop p s)
 -- ---- the verdict over the list
 
 list-judged : (l : List Element) (v : Verdict) → judged_of (reading_by l v) ≡ Code.judged_by v
-list-judged l Verdicts.Accepted = refl
-list-judged l Verdicts.NoNode = refl
-list-judged l Verdicts.TooManyNodes = refl
-list-judged l (Verdicts.DepthDiffers k) = refl
-list-judged l (Verdicts.IdSeen k) = refl
-list-judged l Verdicts.TooManyNumbers = refl
+list-judged l (Ok u) = refl
+list-judged l (Err why) = refl
 
 -- ---- what the state of a text says
 
@@ -93,23 +89,23 @@ module _ (wanted : ℕ) (s : List ℕ) (st : ListState) (e : st ≡ state_of wan
   state-start = ap (λ (x : ListState). x.start) e
 
   -- the verdict that the code sees is the list's
-  seen : (room : ℕ) → cond st.over Verdicts.TooManyNodes (Lists.judged room (Lists.nodes_of st.list)) ≡ Lists.verdict room (whole_nodes s)
+  seen : (room : ℕ) → cond st.over (Err Unfits.TooManyNodes) (Lists.judged room (Lists.nodes_of st.list)) ≡ Lists.verdict room (whole_nodes s)
   seen room =
-      ap (λ (b : Bool). cond b Verdicts.TooManyNodes (Lists.judged room (Lists.nodes_of st.list))) state-over
-      ∙ ap (λ (x : _). cond (ltb 32 (length (whole_nodes s))) Verdicts.TooManyNodes (Lists.judged room (Lists.nodes_of x))) state-list
+      ap (λ (b : Bool). cond b (Err Unfits.TooManyNodes) (Lists.judged room (Lists.nodes_of st.list))) state-over
+      ∙ ap (λ (x : _). cond (ltb 32 (length (whole_nodes s))) (Err Unfits.TooManyNodes) (Lists.judged room (Lists.nodes_of x))) state-list
       ∙ sym (verdict-list room (whole_nodes s))
 
 -- ---- what is to be said of a text
 
 module _ (wanted : ℕ) (s : List ℕ) (r : ListStep) (m₀ m₁ : Room) (h : ListReads wanted s r m₀ m₁) (room : ℕ) where
   judged-go : (x : Scan) → scan_out (λ e. whole_nodes s) s x ≡ text_nodes s → Inside 0 s 0 x
-      → judged_scan (length s) x (Code.judged_by (cond r.state.over Verdicts.TooManyNodes (Lists.judged room (Lists.nodes_of r.state.list)))) ≡ judged_of (read_text room s)
+      → judged_scan (length s) x (Code.judged_by (cond r.state.over (Err Unfits.TooManyNodes) (Lists.judged room (Lists.nodes_of r.state.list)))) ≡ judged_of (read_text room s)
   unfolding list_reading
-  judged-go (Scans.At e) q b =
+  judged-go (Ok e) q b =
       ap Code.judged_by (seen wanted s r.state h.state room)
       ∙ sym (ap judged_of (text-by room s ∙ ap (by_nodes room s) (sym q)) ∙ list-judged (whole_nodes s) (Lists.verdict room (whole_nodes s)))
-  judged-go (Scans.Fault k p) q b = sym (ap judged_of (text-by room s ∙ ap (by_nodes room s) (sym q)) ∙ ap (Refused k) (place-back s p b.1))
-  judged-go Scans.Cut q b = sym (ap judged_of (text-by room s ∙ ap (by_nodes room s) (sym q)))
+  judged-go (Err (Stops.Fault k p)) q b = sym (ap judged_of (text-by room s ∙ ap (by_nodes room s) (sym q)) ∙ ap (refused_at k) (place-back s p b.1))
+  judged-go (Err Stops.Cut) q b = sym (ap judged_of (text-by room s ∙ ap (by_nodes room s) (sym q)))
 
   pub judged-is : judged_step (length s) r room ≡ judged_of (read_text room s)
   unfolding judged_step
@@ -117,13 +113,9 @@ module _ (wanted : ℕ) (s : List ℕ) (r : ListStep) (m₀ m₁ : Room) (h : Li
 
 -- ---- an accepted text
 
-verdict-accepted : (l : List Element) (v : Verdict) → judged_of (reading_by l v) ≡ Accepted → (reading_by l v ≡ accepted l) × (v ≡ Verdicts.Accepted)
-verdict-accepted l Verdicts.Accepted q = (refl, refl)
-verdict-accepted l Verdicts.NoNode q = nope cc
-verdict-accepted l Verdicts.TooManyNodes q = nope cc
-verdict-accepted l (Verdicts.DepthDiffers k) q = nope cc
-verdict-accepted l (Verdicts.IdSeen k) q = nope cc
-verdict-accepted l Verdicts.TooManyNumbers q = nope cc
+verdict-accepted : (l : List Element) (v : Verdict) → judged_of (reading_by l v) ≡ Ok tt → (reading_by l v ≡ accepted l) × (v ≡ Ok tt)
+verdict-accepted l (Ok u) q = (refl, refl)
+verdict-accepted l (Err why) q = nope cc
 
 -- its nodes are those that stand whole
 record Sound (s : List ℕ) (room : ℕ) : Type 0 where
@@ -136,7 +128,7 @@ record Sound (s : List ℕ) (room : ℕ) : Type 0 where
 
 module _ (s : List ℕ) (room : ℕ) where
   by-list : (d : Document) (u : List ℕ) → document.run s ≡ done d u → (l : List Element) → l ≡ whole_nodes s → read_text room s ≡ list_reading room l
-      → judged_of (read_text room s) ≡ Accepted → Sound s room
+      → judged_of (read_text room s) ≡ Ok tt → Sound s room
   unfolding list_reading Lists.verdict
   by-list d u e l n t j =
       let v : read_text room s ≡ list_reading room (whole_nodes s) = t ∙ ap (list_reading room) n in
@@ -144,14 +136,14 @@ module _ (s : List ℕ) (room : ℕ) where
       let f : Fine room (bare (whole_nodes s)) = accepted-fine room (bare (whole_nodes s)) a.1 in
       record { reading = v ∙ a.0; few = omega (arith, f.few, bare-length (whole_nodes s)); fits = f.holds; text = d; behind = u; found = e }
 
-  sound : judged_of (read_text room s) ≡ Accepted → Sound s room
+  sound : judged_of (read_text room s) ≡ Ok tt → Sound s room
   unfolding read_text
   sound j = by (document.run s) refl j
     where
-      by : (o : Out Document) → document.run s ≡ o → judged_of (text_reading room s o) ≡ Accepted → Sound s room
+      by : (o : Out Document) → document.run s ≡ o → judged_of (text_reading room s o) ≡ Ok tt → Sound s room
       by (done d u) e z = behind (tail u) refl z
         where
-          behind : (t : Out (Unit {0})) → tail u ≡ t → judged_of (tail_reading room s d t) ≡ Accepted → Sound s room
+          behind : (t : Out (Unit {0})) → tail u ≡ t → judged_of (tail_reading room s d t) ≡ Ok tt → Sound s room
           behind (done x q) w y =
               by-list d u e (nodes_among d.parts) (document-whole s d u e).nodes (ap (text_reading room s) e ∙ ap (tail_reading room s d) w) j
           behind (fault k q) w y = nope cc
@@ -173,27 +165,21 @@ filled-from xs m h =
     slice : (ys t : List ℤ) → length ys ≤ room_length m → room_length m ≤ length t → SliceFrom (room_length m) 0 t (filled (room_length m) (pos 0) ys t)
     slice ys t u v = record { size = filled-length (room_length m) (pos 0) ys t u v; front = refl; behind = filled-behind (room_length m) (pos 0) ys t u }
 
--- a refused reading: an empty list, the room zeroed
-refusal-answer : (k p : ℕ) (x : Reading) → judged_of x ≡ Refused k p → (refused_answer k p ≡ reading_answer x) × (all_numbers (nodes_in x) ≡ [])
+-- a refused reading: an empty list
+refusal-answer : (why : Refused) (x : Reading) → judged_of x ≡ Err why → (refused_answer why ≡ reading_answer x) × (all_numbers (nodes_in x) ≡ [])
 unfolding reading_answer Lists.placed Lists.place_from all_numbers
-refusal-answer k p (accepted l) q = nope cc
-refusal-answer k p (faulty j i) q = let a : j ≡ k = cc in let b : i ≡ p = cc in (ap (λ (n : ℕ). refused_answer n p) (sym a) ∙ ap (refused_answer j) (sym b), refl)
-refusal-answer k p (unfit j i) q = let a : j ≡ k = cc in let b : i ≡ p = cc in (ap (λ (n : ℕ). refused_answer n p) (sym a) ∙ ap (refused_answer j) (sym b), refl)
+refusal-answer why (accepted l) q = nope cc
+refusal-answer why (faulty j i) q = let e : why ≡ record { number = j; place = i } = cc in (ap refused_answer e, refl)
+refusal-answer why (unfit j i) q = let e : why ≡ record { number = j; place = i } = cc in (ap refused_answer e, refl)
 
--- the whole room cleared, whatever numbers it held
-cleared-all : (xs : List Decimal) (m₀ m₁ m₂ : Room) (n : ℕ) → length xs ≤ room_length m₀ → m₁ ≡ filled_with xs m₀ → n ≡ room_length m₀ → m₂ ≡ cleared_in 0 n m₁ → m₂ ≡ filled_with [] m₀
-cleared-all xs m₀ m₁ m₂ n l e q z =
-    let k : room_length m₁ ≡ room_length m₀ = ap room_length e ∙ filled-room xs m₀ l in
-    z ∙ ap (λ (a : ℕ). cleared_in 0 a m₁) (q ∙ sym k) ∙ cleared-nothing m₁ m₁ (from-refl 0 m₁) ∙ ap (filled_with []) e ∙ filled-again [] xs m₀ l
-
-refused-into : (x : Reading) (k p : ℕ) (m₀ m₂ : Room) → judged_of x ≡ Refused k p → m₂ ≡ filled_with [] m₀ → ReadsInto x (refused_answer k p) m₀ m₂
-refused-into x k p m₀ m₂ j e = record {
-  answer = (refusal-answer k p x j).0;
-  room = e ∙ ap (λ (xs : List Decimal). filled_with xs m₀) (sym (refusal-answer k p x j).1);
-}
-
-none-size : (m₀ m₂ : Room) → m₂ ≡ filled_with [] m₀ → RoomFrom 0 m₀ m₂
-none-size m₀ m₂ e = subst (λ (m : Room). RoomFrom 0 m₀ m) (sym e) (filled-from [] m₀ (omega arith))
+-- and the whole room cleared, whatever it held
+pub list-refused : (x : Reading) (why : Refused) (m₀ m₁ m₂ : Room) (n : ℕ) → ListIn x (Err why) m₀ m₁ → n ≡ room_length m₁ → m₂ ≡ cleared_in 0 n m₁ → ReadsInto x (refused_answer why) m₀ m₂
+list-refused x why m₀ m₁ m₂ n h e z =
+    let a = refusal-answer why x h.0 in
+    record {
+      answer = a.0;
+      room = z ∙ ap (λ (b : ℕ). cleared_in 0 b m₁) e ∙ cleared-nothing m₀ m₁ h.1 ∙ ap (λ (xs : List Decimal). filled_with xs m₀) (sym a.1);
+    }
 
 fitting-less : (n : ℕ) (xs : List Decimal) → length (fitting_numbers n xs) ≤ n
 fitting-less n xs = simp length-take (omega arith)
@@ -202,20 +188,17 @@ module _ (s : List ℕ) (r : ListStep) (m₀ m₁ : Room) (h : ListReads 0 s r m
   text-judged : (j : Judged) → judged_step (length s) r n ≡ j → judged_of (read_text (room_length m₀) s) ≡ j
   text-judged j q = ap (λ (k : ℕ). judged_of (read_text k s)) (sym e) ∙ sym (judged-is 0 s r m₀ m₁ h n) ∙ q
 
-  module _ (k p : ℕ) (q : judged_step (length s) r n ≡ Refused k p) (m₂ : Room) (z : m₂ ≡ cleared_in 0 n m₁) where
-    zeroed : m₂ ≡ filled_with [] m₀
-    zeroed = cleared-all (fitting_numbers (room_length m₀) (all_numbers (whole_nodes s))) m₀ m₁ m₂ n (fitting-less (room_length m₀) (all_numbers (whole_nodes s))) h.room e z
-
-    pub text-refused : ReadsInto (read_text (room_length m₀) s) (refused_answer k p) m₀ m₂
-    text-refused = refused-into (read_text (room_length m₀) s) k p m₀ m₂ (text-judged (Refused k p) q) zeroed
-
-    pub refused-size : RoomFrom 0 m₀ m₂
-    refused-size = none-size m₀ m₂ zeroed
+  -- a refused text
+  text-refused : (why : Refused) → judged_step (length s) r n ≡ Err why → ListIn (read_text (room_length m₀) s) (Err why) m₀ m₁
+  text-refused why q = (
+    text-judged (Err why) q,
+    subst (λ (m : Room). RoomFrom 0 m₀ m) (sym h.room) (filled-from (fitting_numbers (room_length m₀) (all_numbers (whole_nodes s))) m₀ (fitting-less (room_length m₀) (all_numbers (whole_nodes s)))),
+  )
 
   -- an accepted reading: the numbers, and zeros behind them
-  module _ (q : judged_step (length s) r n ≡ Accepted) where
+  module _ (q : judged_step (length s) r n ≡ Ok tt) where
     well : Sound s (room_length m₀)
-    well = sound s (room_length m₀) (text-judged Accepted q)
+    well = sound s (room_length m₀) (text-judged (Ok tt) q)
 
     all_fit : length (all_numbers (whole_nodes s)) ≤ min (room_length m₀) Lists.most_numbers
     all_fit = omega (arith, well.fits, h.counted)
@@ -223,65 +206,68 @@ module _ (s : List ℕ) (r : ListStep) (m₀ m₁ : Room) (h : ListReads 0 s r m
     held : m₁ ≡ filled_with (all_numbers (whole_nodes s)) m₀
     held = h.room ∙ ap (λ (xs : List Decimal). filled_with xs m₀) (take_all (min (room_length m₀) Lists.most_numbers) (all_numbers (whole_nodes s)) all_fit)
 
-    answer-go : accepted_answer r.state ≡ reading_answer (accepted (whole_nodes s))
+    answer-go : accepted_answer (Lists.placed_list r.state.list) ≡ reading_answer (accepted (whole_nodes s))
     unfolding reading_answer
     answer-go =
         ap (λ (l : _). record { number = 0; place = 0; list = Lists.placed_list l }) (state-list 0 s r.state h.state)
         ∙ ap (λ (l : _). record { number = 0; place = 0; list = l })
         (list-placed (whole_nodes s) (omega (arith, well.few)) (omega (arith, well.fits)))
 
-    pub text-accepted : ReadsInto (read_text (room_length m₀) s) (accepted_answer r.state) m₀ m₁
-    text-accepted = subst (λ (x : Reading). ReadsInto x (accepted_answer r.state) m₀ m₁) (sym well.reading) (record { answer = answer-go; room = held })
-
-    pub accepted-size : RoomFrom 0 m₀ m₁
-    accepted-size = subst (λ (m : Room). RoomFrom 0 m₀ m) (sym held) (filled-from (all_numbers (whole_nodes s)) m₀ (omega (arith, all_fit)))
+    text-accepted : ListIn (read_text (room_length m₀) s) (Ok (Lists.placed_list r.state.list)) m₀ m₁
+    text-accepted = subst (λ (x : Reading). ReadsInto x (accepted_answer (Lists.placed_list r.state.list)) m₀ m₁) (sym well.reading) (record { answer = answer-go; room = held })
 
 -- ---- the limit of 16 MiB
 
-pub over-limit : (s : List ℕ) (b : Bool) → b ≡ ltb most_bytes (length s) → b ≡ true → most_bytes < length s
-over-limit s b e q = ltb-true most_bytes (length s) (sym e ∙ q)
+large : (s : List ℕ) (why : Refused) → judged_length (length s) ≡ Err why → (why ≡ record { number = 4; place = 0 }) × (most_bytes < length s)
+large s why q = by (ltb most_bytes (length s)) refl q
+  where
+    by : (b : Bool) → ltb most_bytes (length s) ≡ b → cond b (refused_at {A = Unit {0}} 4 0) (Ok (tt {0})) ≡ Err why → (why ≡ record { number = 4; place = 0 }) × (most_bytes < length s)
+    by true e w = (cc, ltb-true most_bytes (length s) e)
+    by false e w = nope cc
 
-pub within-limit : (s : List ℕ) (b : Bool) → b ≡ ltb most_bytes (length s) → b ≡ false → length s ≤ most_bytes
-within-limit s b e q = ltb-false most_bytes (length s) (sym e ∙ q)
+small : (s : List ℕ) → judged_length (length s) ≡ Ok tt → length s ≤ most_bytes
+small s q = by (ltb most_bytes (length s)) refl q
+  where
+    by : (b : Bool) → ltb most_bytes (length s) ≡ b → cond b (refused_at {A = Unit {0}} 4 0) (Ok (tt {0})) ≡ Ok (tt {0}) → length s ≤ most_bytes
+    by true e w = nope cc
+    by false e w = ltb-false most_bytes (length s) e
 
-pub read-large : (room : ℕ) (s : List ℕ) → most_bytes < length s → read room s ≡ faulty 4 0
+read-large : (room : ℕ) (s : List ℕ) → most_bytes < length s → read room s ≡ faulty 4 0
 unfolding read
 read-large room s h = ap (λ (b : Bool). cond b (faulty 4 0) (read_text room s)) (lt-ltb most_bytes (length s) h)
 
-pub read_small : (room : ℕ) (s : List ℕ) → length s ≤ most_bytes → read room s ≡ read_text room s
+read_small : (room : ℕ) (s : List ℕ) → length s ≤ most_bytes → read room s ≡ read_text room s
 unfolding read
 read_small room s h = ap (λ (b : Bool). cond b (faulty 4 0) (read_text room s)) (le-ltb most_bytes (length s) h)
 
 -- a file over 16 MiB
-module _ (s : List ℕ) (m₀ m₂ : Room) (n : ℕ) (e : n ≡ room_length m₀) (z : m₂ ≡ cleared_in 0 n m₀) where
-  emptied : m₂ ≡ filled_with [] m₀
-  emptied = z ∙ ap (λ (a : ℕ). cleared_in 0 a m₀) e ∙ cleared-nothing m₀ m₀ (from-refl 0 m₀)
+pub judged-large : (room : ℕ) (s : List ℕ) (why : Refused) → judged_length (length s) ≡ Err why → Err why ≡ judged_of (read room s)
+judged-large room s why q = let b = large s why q in ap Err b.0 ∙ ap judged_of (sym (read-large room s b.1))
 
-  pub large-refused : most_bytes < length s → ReadsInto (read (room_length m₀) s) (refused_answer 4 0) m₀ m₂
-  large-refused g = refused-into (read (room_length m₀) s) 4 0 m₀ m₂ (ap judged_of (read-large (room_length m₀) s g)) emptied
+pub list-large : (s : List ℕ) (why : Refused) (m : Room) → judged_length (length s) ≡ Err why → ListIn (read (room_length m) s) (Err why) m m
+list-large s why m q = (sym (judged-large (room_length m) s why q), from-refl 0 m)
 
-  pub large-size : RoomFrom 0 m₀ m₂
-  large-size = none-size m₀ m₂ emptied
+-- and any other
+module _ (s : List ℕ) (r : ListStep) (m₀ m₁ : Room) (q : judged_length (length s) ≡ Ok tt) (n : ℕ) (e : n ≡ room_length m₀) (h : ListReads 0 s r m₀ m₁) where
+  pub list-ill : (why : Refused) → judged_step (length s) r n ≡ Err why → ListIn (read (room_length m₀) s) (Err why) m₀ m₁
+  list-ill why j = rw (read_small (room_length m₀) s (small s q)) (text-refused s r m₀ m₁ h n e why j)
+
+  pub list-well : judged_step (length s) r n ≡ Ok tt → ListIn (read (room_length m₀) s) (Ok (Lists.placed_list r.state.list)) m₀ m₁
+  list-well j = rw (read_small (room_length m₀) s (small s q)) (text-accepted s r m₀ m₁ h n e j)
 
 -- ---- without room
 
-checked-is : (x : Reading) → checked_by (judged_of x) ≡ checked_of x
+pub checked-is : (x : Reading) → checked_by (judged_of x) ≡ checked_of x
 checked-is (accepted l) = refl
 checked-is (faulty k p) = refl
 checked-is (unfit k p) = refl
 
-pub checked-large : (room : ℕ) (s : List ℕ) → most_bytes < length s → checked_by (Refused 4 0) ≡ checked_of (read room s)
-checked-large room s h = ap checked_of (sym (read-large room s h))
-
-module _ (wanted : ℕ) (s : List ℕ) (r : ListStep) (t : TextAlone wanted s r) (small : length s ≤ most_bytes) where
-  alone : (room : ℕ) → judged_step (length s) r room ≡ judged_of (read room s)
-  alone room = judged-is wanted s r t.m₀ t.m₁ t.reads room ∙ ap judged_of (sym (read_small room s small))
-
-  pub checked-small : (room : ℕ) → checked_by (judged_step (length s) r room) ≡ checked_of (read room s)
-  checked-small room = ap checked_by (alone room) ∙ checked-is (read room s)
+module _ (wanted : ℕ) (s : List ℕ) (r : ListStep) (t : TextAlone wanted s r) (g : judged_length (length s) ≡ Ok tt) where
+  pub judged-alone : (room : ℕ) → judged_step (length s) r room ≡ judged_of (read room s)
+  judged-alone room = judged-is wanted s r t.m₀ t.m₁ t.reads room ∙ ap judged_of (sym (read_small room s (small s g)))
 
   -- the nodes of an accepted file
-  sound-alone : judged_step (length s) r 262144 ≡ Accepted → Sound s 262144
+  sound-alone : judged_step (length s) r 262144 ≡ Ok tt → Sound s 262144
   sound-alone q = sound s 262144 (sym (judged-is wanted s r t.m₀ t.m₁ t.reads 262144) ∙ q)
 
   count-is : length (whole_nodes s) ≤ 32 → r.state.list.count ≡ length (whole_nodes s)
@@ -290,18 +276,18 @@ module _ (wanted : ℕ) (s : List ℕ) (r : ListStep) (t : TextAlone wanted s r)
 
   asked-go : (k : ℕ) (j : Judged) → judged_step (length s) r 262144 ≡ j → asked_by j k r.state.list.count ≡ judged_of (description_asked k s)
   unfolding description_asked
-  asked-go k Accepted q =
+  asked-go k (Ok u) q =
       let v : Sound s 262144 = sound-alone q in
-      let a : read_alone s ≡ accepted (whole_nodes s) = read_small Lists.most_numbers s small ∙ v.reading in
-      ap (λ (x : ℕ). cond (ltb 0 k && leb k x) Accepted (Refused 19 0)) (count-is v.few) ∙ by (ltb 0 k && leb k (length (whole_nodes s)))
+      let a : read_alone s ≡ accepted (whole_nodes s) = read_small Lists.most_numbers s (small s g) ∙ v.reading in
+      ap (λ (x : ℕ). cond (ltb 0 k && leb k x) (Ok tt) (refused_at 19 0)) (count-is v.few) ∙ by (ltb 0 k && leb k (length (whole_nodes s)))
       ∙ sym (ap (λ (x : Reading). judged_of (asked_for k x)) a)
     where
-      by : (b : Bool) → cond b Accepted (Refused 19 0) ≡ judged_of (cond b (accepted (whole_nodes s)) (faulty 19 0))
+      by : (b : Bool) → cond b (Ok tt) (refused_at 19 0) ≡ judged_of (cond b (accepted (whole_nodes s)) (faulty 19 0))
       by true = refl
       by false = refl
-  asked-go k (Refused m p) q = let e : Refused m p ≡ judged_of (read_alone s) = sym q ∙ alone Lists.most_numbers in by (read_alone s) e
+  asked-go k (Err why) q = let e : Err why ≡ judged_of (read_alone s) = sym q ∙ judged-alone Lists.most_numbers in by (read_alone s) e
     where
-      by : (x : Reading) → Refused m p ≡ judged_of x → Refused m p ≡ judged_of (asked_for k x)
+      by : (x : Reading) → Err why ≡ judged_of x → Err why ≡ judged_of (asked_for k x)
       by (accepted l) e = nope cc
       by (faulty j i) e = e
       by (unfit j i) e = e
@@ -309,70 +295,73 @@ module _ (wanted : ℕ) (s : List ℕ) (r : ListStep) (t : TextAlone wanted s r)
   asked_is : (k : ℕ) → asked_by (judged_step (length s) r 262144) k r.state.list.count ≡ judged_of (description_asked k s)
   asked_is k = asked-go k (judged_step (length s) r 262144) refl
 
-  pub asked-small : (k : ℕ) → checked_by (asked_by (judged_step (length s) r 262144) k r.state.list.count) ≡ checked_of (description_asked k s)
-  asked-small k = ap checked_by (asked_is k) ∙ checked-is (description_asked k s)
+-- ---- where a node begins
 
-pub asked-large : (k : ℕ) (s : List ℕ) → most_bytes < length s → checked_by (Refused 4 0) ≡ checked_of (description_asked k s)
+pub node-large : (k : ℕ) (s : List ℕ) (why : Refused) → judged_length (length s) ≡ Err why → NodeAt k s (Err why)
 unfolding description_asked
-asked-large k s h = ap (λ (x : Reading). checked_of (asked_for k x)) (sym (read-large Lists.most_numbers s h))
+node-large k s why q = let b = large s why q in ap (λ (x : Reading). judged_of (asked_for k x)) (read-large Lists.most_numbers s b.1) ∙ ap Err (sym b.0)
+
+module _ (k : ℕ) (s : List ℕ) (r : ListStep) (t : TextAlone k s r) (g : judged_length (length s) ≡ Ok tt) where
+  asked : (j : Judged) → asked_by (judged_step (length s) r 262144) k r.state.list.count ≡ j → judged_of (description_asked k s) ≡ j
+  asked j q = sym (asked_is k s r t g k) ∙ q
+
+  pub node-ill : (why : Refused) → judged_step (length s) r 262144 ≡ Err why → NodeAt k s (Err why)
+  node-ill why q = asked (Err why) (ap (λ (j : Judged). asked_by j k r.state.list.count) q)
+
+  module _ (q : judged_step (length s) r 262144 ≡ Ok tt) where
+    by-number : (b : Bool) → (ltb 0 k && leb k r.state.list.count) ≡ b → asked_by (judged_step (length s) r 262144) k r.state.list.count ≡ cond b (Ok tt) (refused_at 19 0)
+    by-number b e = ap (λ (j : Judged). asked_by j k r.state.list.count) q ∙ ap (λ (c : Bool). cond c (Ok tt) (refused_at 19 0)) e
+
+    pub node-zero : k ≡ 0 → NodeAt k s (refused_at 19 0)
+    node-zero z = asked (refused_at 19 0) (by-number false (ap (λ (n : ℕ). ltb 0 n && leb n r.state.list.count) z))
+
+    pub node-beyond : r.state.list.count < k → NodeAt k s (refused_at 19 0)
+    node-beyond h = asked (refused_at 19 0) (by-number false (simp (lt-leb _ _ h) (none (ltb 0 k))))
+      where
+        none : (b : Bool) → (b && false) ≡ false
+        none true = refl
+        none false = refl
+
+    pub node-well : (k ≡ 0 → ⊥) → k ≤ r.state.list.count → NodeAt k s (Ok r.state.start)
+    node-well f h =
+        let v : Sound s 262144 = sound-alone k s r t g q in
+        let c : r.state.list.count ≡ length (whole_nodes s) = count-is k s r t g v.few in
+        let n : length (nodes_among v.text.parts) ≡ length (whole_nodes s) = ap length (document-whole s v.text v.behind v.found).nodes in
+        let i : 0 < k = omega arith in (
+          asked (Ok tt) (by-number true (simp (lt-ltb 0 k i, le-leb _ _ h))),
+          state-start k s r.state t.reads.state ∙ place-whole s v.text v.behind k v.found i (omega (arith, h)) (omega (arith, v.few)),
+        )
+
+-- the answer for one who asks for it
+pub node-checked : (k : ℕ) (s : List ℕ) (r : Result ℕ Refused) → NodeAt k s r → checked_by r ≡ checked_of (description_asked k s)
+node-checked k s (Ok a) h = ap checked_by (sym h.0) ∙ checked-is (description_asked k s)
+node-checked k s (Err why) h = ap checked_by (sym h) ∙ checked-is (description_asked k s)
 
 -- ---- where a Description stands
 
-pub part-large : (k : ℕ) (s : List ℕ) (r : Part) → r ≡ no_place → most_bytes < length s → IsPlace s (description_part k s) r
-unfolding description_part description_asked
-part-large k s r h g = none_found_lem s (description_part k s) r h (ap (λ (x : Reading). part_asked k s (asked_for k x)) (read-large Lists.most_numbers s g))
+refused-part : (k : ℕ) (s : List ℕ) (x : Reading) (why : Refused) → judged_of x ≡ Err why → part_asked k s x ≡ no_part
+refused-part k s (accepted l) why q = nope cc
+refused-part k s (faulty j i) why q = refl
+refused-part k s (unfit j i) why q = refl
 
-refused-part : (k : ℕ) (s : List ℕ) (x : Reading) (m p : ℕ) → judged_of x ≡ Refused m p → part_asked k s x ≡ no_part
-refused-part k s (accepted l) m p q = nope cc
-refused-part k s (faulty j i) m p q = refl
-refused-part k s (unfit j i) m p q = refl
-
-accepted-part : (k : ℕ) (s : List ℕ) (x : Reading) → judged_of x ≡ Accepted → part_asked k s x ≡ part_from (node_span s (k - 1)).0 s
+accepted-part : (k : ℕ) (s : List ℕ) (x : Reading) → judged_of x ≡ Ok tt → part_asked k s x ≡ part_from (node_span s (k - 1)).0 s
 accepted-part k s (accepted l) q = refl
 accepted-part k s (faulty j i) q = nope cc
 accepted-part k s (unfit j i) q = nope cc
 
--- a node that is asked for is numbered
-numbered : (j : Judged) (k n : ℕ) → asked_by j k n ≡ Accepted → (j ≡ Accepted) × (0 < k) × (k ≤ n)
-numbered (Refused m p) k n q = nope cc
-numbered Accepted k n q = by (ltb 0 k) (leb k n) refl refl q
-  where
-    by : (a b : Bool) → ltb 0 k ≡ a → leb k n ≡ b → cond (a && b) Accepted (Refused 19 0) ≡ Accepted → (Accepted ≡ Accepted) × (0 < k) × (k ≤ n)
-    by true true x y z = (refl, ltb-true 0 k x, leb-true k n y)
-    by true false x y z = nope cc
-    by false b x y z = nope cc
+pub part-refused : (k : ℕ) (s : List ℕ) (why : Refused) (d : Part) → NodeAt k s (Err why) → d ≡ no_place → IsPlace s (description_part k s) d
+unfolding description_part
+part-refused k s why d q h = none_found_lem s (description_part k s) d h (refused-part k s (description_asked k s) why q)
 
-module _ (k : ℕ) (s : List ℕ) (r : ListStep) (t : TextAlone k s r) (small : length s ≤ most_bytes) where
-  pub part-refused : (m p : ℕ) (d : Part) → d ≡ no_place → asked_by (judged_step (length s) r 262144) k r.state.list.count ≡ Refused m p → IsPlace s (description_part k s) d
-  unfolding description_part
-  part-refused m p d h q = none_found_lem s (description_part k s) d h (refused-part k s (description_asked k s) m p (sym (asked_is k s r t small k) ∙ q))
+pub part-found : (k : ℕ) (s : List ℕ) (start : ℕ) (d : Part) → NodeAt k s (Ok start) → IsPlace s (part_from start s) d → IsPlace s (description_part k s) d
+unfolding description_part
+part-found k s start d q h =
+    subst (λ (w : ℕ × ℕ). IsPlace s w d) (ap (λ (a : ℕ). part_from a s) q.1 ∙ sym (accepted-part k s (description_asked k s) q.0)) h
 
-  start_is : asked_by (judged_step (length s) r 262144) k r.state.list.count ≡ Accepted → r.state.start ≡ (node_span s (k - 1)).0
-  start_is q =
-      let i = numbered (judged_step (length s) r 262144) k r.state.list.count q in
-      let v : Sound s 262144 = sound-alone k s r t small i.0 in
-      let c : r.state.list.count ≡ length (whole_nodes s) = count-is k s r t small v.few in
-      let n : length (nodes_among v.text.parts) ≡ length (whole_nodes s) = ap length (document-whole s v.text v.behind v.found).nodes in
-      state-start k s r.state t.reads.state ∙ place-whole s v.text v.behind k v.found i.1 (omega (arith, i.2)) (omega (arith, v.few))
+-- ---- the verdict as the code takes it apart
 
-  pub part-found : (d : Part) → asked_by (judged_step (length s) r 262144) k r.state.list.count ≡ Accepted → IsPlace s (part_from r.state.start s) d → IsPlace s (description_part k s) d
-  unfolding description_part
-  part-found d q h =
-      let e : part_from r.state.start s ≡ part_asked k s (description_asked k s) =
-      ap (λ (a : ℕ). part_from a s) (start_is q) ∙ sym (accepted-part k s (description_asked k s) (sym (asked_is k s r t small k) ∙ q)) in
-      subst (λ (w : ℕ × ℕ). IsPlace s w d) e h
-
--- the verdict as the code takes it apart
-pub verdict-fine : (v : Verdict) → Lists.verdict_number v ≡ 0 → Accepted ≡ Code.judged_by v
-verdict-fine v q = sym (ap Code.judged_by (accepted-number v q))
-
-pub verdict-refused : (v : Verdict) → (Lists.verdict_number v ≡ 0 → ⊥) → Refused (Lists.verdict_number v) (Lists.verdict_place v) ≡ Code.judged_by v
-verdict-refused Verdicts.Accepted q = absurd (q refl)
-verdict-refused Verdicts.NoNode q = refl
-verdict-refused Verdicts.TooManyNodes q = refl
-verdict-refused (Verdicts.DepthDiffers k) q = refl
-verdict-refused (Verdicts.IdSeen k) q = refl
-verdict-refused Verdicts.TooManyNumbers q = refl
+pub judged-unfit : (v : Verdict) (why : Unfit) → v ≡ Err why → judged_by v ≡ refused_at (Lists.unfit_number why) (Lists.unfit_place why)
+judged-unfit v why q = ap judged_by q
 
 -- the part itself, of which the code knows its place
 pub part-is : (file result : Bor (List ℕ)) (w : ℕ × ℕ) (p : Part) → IsPlace file.now w p → result.ref_ptr.0 ≡ file.ref_ptr.0 → result.ref_ptr.1 ≡ file.ref_ptr.1 + p.start

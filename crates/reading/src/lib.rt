@@ -1,112 +1,103 @@
 #![tactic(auto)]
 
 // Reading a CLF file: its list and its numbers, its check without room, and a node's Description.
-ghost use Rattle.std.specs.Prelude.{◌≡◌, ltb, length};
+ghost use Rattle.std.specs.Prelude.{◌≡◌, length};
 ghost use Rattle.room.specs.Room.{room_length, lent};
+ghost use Rattle.process_list.specs.List.{unfit_number, unfit_place};
 ghost use Rattle.clf.specs.Reading as Reading;
 ghost use Rattle.clf.specs.Description.{description_part};
 ghost use Rattle.describing.specs.Code.{IsPlace, IsPart};
-ghost use Rattle.reading.specs.Code.{ReadsInto, checked_of, TextAlone, judged_by, judged_step, refused_answer, accepted_answer, checked_by, asked_by};
+ghost use Rattle.reading.specs.Code.{ReadsInto, checked_of, TextAlone, judged_length, judged_step, refused_stop, refused_answer, checked_by, judged_of, ListIn, NodeAt};
 
 use describing::Part;
-use file_text::{ListState, ListStep};
-use process_list::{ProcessList, Verdict};
-use xml::Scan;
+use file_text::ListStep;
+use process_list::{ProcessList, Unfit};
+use xml::Stop;
 
-// What reading answers: the refusal number with its place, and the list.
-#[derive(Clone, Copy)]
+// What reading answers, and what a replacing call does: the refusal number with its place, 0 and 0 where there is none, and the list. This is no `Result`: a refused call of `replacing` answers its list, too.
+#[derive(Clone, Copy, Debug, PartialEq, Eq)]
 pub struct Answer {
     pub number: u8,
     pub place: usize,
     pub list: ProcessList,
 }
 
-// What the file check answers.
-#[derive(Clone, Copy)]
+// What the file check answers: the refusal number with its place, 0 and 0 where there is none, as C hosts are answered (`clf_check_file`).
+#[derive(Clone, Copy, Debug, PartialEq, Eq)]
 pub struct Checked {
     pub number: u8,
     pub place: usize,
 }
 
-// Whether a file is accepted, or the refusal number with its place.
-#[derive(Clone, Copy)]
-pub enum Judged {
-    Accepted,
-    Refused(u8, usize),
+// Why a file or an element is refused: the refusal number with its place.
+#[derive(Clone, Copy, Debug, PartialEq, Eq)]
+pub struct Refused {
+    pub number: u8,
+    pub place: usize,
 }
 
-// Whether a file is over 16 MiB.
-fn too_long(file: &[u8]) -> bool
-    ensures { result ≡ ltb Reading.most_bytes (length file.now) }
-{
-    process_list::MOST_BYTES < file.len()
-}
+impl From<Unfit> for Refused {
+    ghost from_gives = { λ why r. r ≡ record { number = unfit_number why; place = unfit_place why } };
 
-// What the verdict over the finished list says.
-fn by_verdict(v: Verdict) -> Judged
-    ensures { result ≡ judged_by v }
-{
-    let number = process_list::refusal(v);
-    if number == 0 {
-        return Judged::Accepted;
+    fn from(why: Unfit) -> Refused {
+        Refused {
+            number: why.number(),
+            place: why.place(),
+        }
     }
-    Judged::Refused(number, process_list::place(v))
+}
+
+// Why bytes of this length are refused that do not read.
+pub fn refused_by(stop: Stop, length: usize) -> Refused
+    ensures { result ≡ refused_stop length stop }
+{
+    match stop {
+        Stop::Fault(number, place) => Refused { number, place },
+        Stop::Cut => Refused {
+            number: refusals::CUT_SHORT,
+            place: length,
+        },
+    }
+}
+
+// A file, or an element, of over 16 MiB is 4.
+pub fn judge_length(bytes: &[u8]) -> Result<(), Refused>
+    ensures { result ≡ judged_length (length bytes.now) }
+{
+    if process_list::MOST_BYTES < bytes.len() {
+        return Err(Refused {
+            number: refusals::TOO_LONG,
+            place: 0,
+        });
+    }
+    Ok(())
 }
 
 // What is to be said of a text that reads so, for a room of this length.
-fn judge_text(s: &[u8], step: ListStep, room: usize) -> Judged
+fn judge_text(s: &[u8], step: ListStep, room: usize) -> Result<(), Refused>
     ensures { result ≡ judged_step (length s.now) step room }
 {
-    let scan = step.scan;
-    let state = step.state;
-    match scan {
-        Scan::Fault(k, p) => Judged::Refused(k, p),
-        Scan::Cut => Judged::Refused(refusals::CUT_SHORT, s.len()),
-        Scan::At(e) => {
-            let list = state.list;
-            by_verdict(process_list::judge(state.over, list, room))
-        }
+    if let Err(stop) = step.scan {
+        return Err(refused_by(stop, s.len()));
     }
+    process_list::judge(step.state.over, step.state.list, room)?;
+    Ok(())
 }
 
-fn refused(number: u8, place: usize) -> Answer
-    ensures { result ≡ refused_answer number place }
-{
-    Answer {
-        number,
-        place,
-        list: process_list::empty(),
-    }
-}
-
-// The list of an accepted text.
-fn accepted(state: ListState) -> Answer
-    ensures { result ≡ accepted_answer state }
-{
-    let unplaced = state.list;
-    Answer {
-        number: 0,
-        place: 0,
-        list: process_list::placed(unplaced),
-    }
-}
-
-// Reads a text into the table room.
-fn read_text(file: &[u8], coefficients: &mut [i64], powers: &mut [i8]) -> Answer
-    ensures { ReadsInto (Reading.read_text (room_length (lent coefficients.old powers.old)) file.now) result (lent coefficients.old powers.old)
+// Reads a file into the table room, which is not cleared where the file is refused.
+fn read_list(
+    file: &[u8],
+    coefficients: &mut [i64],
+    powers: &mut [i8],
+) -> Result<ProcessList, Refused>
+    ensures { ListIn (Reading.read (room_length (lent coefficients.old powers.old)) file.now) result (lent coefficients.old powers.old)
         (lent coefficients.new powers.new) }
 {
+    judge_length(file)?;
     let length = room::length(coefficients, powers);
     let step = file_text::file_list(file, 0, coefficients, powers);
-    let state = step.state;
-    let j = judge_text(file, step, length);
-    match j {
-        Judged::Refused(k, p) => {
-            room::clear(coefficients, powers, 0, length);
-            refused(k, p)
-        }
-        Judged::Accepted => accepted(state),
-    }
+    judge_text(file, step, length)?;
+    Ok(process_list::placed(step.state.list))
 }
 
 // Reads a file into the table room.
@@ -114,12 +105,22 @@ pub fn read(file: &[u8], coefficients: &mut [i64], powers: &mut [i8]) -> Answer
     ensures { ReadsInto (Reading.read (room_length (lent coefficients.old powers.old)) file.now) result (lent coefficients.old powers.old)
         (lent coefficients.new powers.new) }
 {
-    if too_long(file) {
-        let length = room::length(coefficients, powers);
-        room::clear(coefficients, powers, 0, length);
-        return refused(refusals::TOO_LONG, 0);
+    match read_list(file, coefficients, powers) {
+        Ok(list) => Answer {
+            number: 0,
+            place: 0,
+            list,
+        },
+        Err(why) => {
+            let length = room::length(coefficients, powers);
+            room::clear(coefficients, powers, 0, length);
+            Answer {
+                number: why.number,
+                place: why.place,
+                list: process_list::empty(),
+            }
+        }
     }
-    read_text(file, coefficients, powers)
 }
 
 // The text of a file without room: how it reads, and what it holds, with the place of the node that is wanted.
@@ -131,29 +132,35 @@ fn text_alone(file: &[u8], wanted: usize) -> ListStep
     file_text::file_list(file, wanted, &mut coefficients, &mut powers)
 }
 
-fn to_checked(j: Judged) -> Checked
-    ensures { result ≡ checked_by j }
+// What a host is answered.
+fn to_checked<T: Copy>(judged: Result<T, Refused>) -> Checked
+    ensures { result ≡ checked_by judged }
 {
-    match j {
-        Judged::Accepted => Checked {
+    match judged {
+        Ok(_) => Checked {
             number: 0,
             place: 0,
         },
-        Judged::Refused(k, p) => Checked {
-            number: k,
-            place: p,
+        Err(why) => Checked {
+            number: why.number,
+            place: why.place,
         },
     }
+}
+
+// A file for a room of this length, without the room.
+fn judge_file(file: &[u8], room: usize) -> Result<(), Refused>
+    ensures { result ≡ judged_of (Reading.read room file.now) }
+{
+    judge_length(file)?;
+    judge_text(file, text_alone(file, 0), room)
 }
 
 // Checks a file for a room of this length, without the room.
 pub fn check_within(file: &[u8], room: usize) -> Checked
     ensures { result ≡ checked_of (Reading.read room file.now) }
 {
-    if too_long(file) {
-        return to_checked(Judged::Refused(refusals::TOO_LONG, 0));
-    }
-    to_checked(judge_text(file, text_alone(file, 0), room))
+    to_checked(judge_file(file, room))
 }
 
 // Checks a file without room: 13 means over 262,144 numbers.
@@ -163,57 +170,36 @@ pub fn check(file: &[u8]) -> Checked
     check_within(file, process_list::MOST_NUMBERS)
 }
 
-// Whether an accepted file has a node of the number k.
-fn asked(j: Judged, k: usize, count: usize) -> Judged
-    ensures { result ≡ asked_by j k count }
+// Where node k begins. A file that has none of this number is 19, behind what reading refuses.
+fn node_start(file: &[u8], k: usize) -> Result<usize, Refused>
+    ensures { NodeAt k file.now result }
 {
-    match j {
-        Judged::Accepted => {
-            if k == 0 {
-                return Judged::Refused(refusals::NO_SUCH_NODE, 0);
-            }
-            if count < k {
-                return Judged::Refused(refusals::NO_SUCH_NODE, 0);
-            }
-            Judged::Accepted
-        }
-        Judged::Refused(n, p) => Judged::Refused(n, p),
+    judge_length(file)?;
+    let step = text_alone(file, k);
+    judge_text(file, step, process_list::MOST_NUMBERS)?;
+    if k == 0 || step.state.list.count < k {
+        return Err(Refused {
+            number: refusals::NO_SUCH_NODE,
+            place: 0,
+        });
     }
-}
-
-// The refusal of asking for the Description of node k, with what the file holds.
-fn ask(file: &[u8], step: ListStep, k: usize) -> Judged
-    ensures { result ≡ asked_by (judged_step (length file.now) step 262144) k step.state.list.count }
-{
-    let state = step.state;
-    let list = state.list;
-    let count = list.count;
-    asked(judge_text(file, step, process_list::MOST_NUMBERS), k, count)
+    Ok(step.state.start)
 }
 
 // The refusal of asking for the Description of node k: reading's, then 19.
 pub fn description_number(file: &[u8], k: usize) -> Checked
     ensures { result ≡ checked_of (Reading.description_asked k file.now) }
 {
-    if too_long(file) {
-        return to_checked(Judged::Refused(refusals::TOO_LONG, 0));
-    }
-    to_checked(ask(file, text_alone(file, 0), k))
+    to_checked(node_start(file, k))
 }
 
 // Where the first Description inside node k stands.
 fn description_part(file: &[u8], k: usize) -> Part
     ensures { IsPlace file.now (description_part k file.now) result }
 {
-    if too_long(file) {
-        return describing::no_part();
-    }
-    let step = text_alone(file, k);
-    let state = step.state;
-    let j = ask(file, step, k);
-    match j {
-        Judged::Refused(n, p) => describing::no_part(),
-        Judged::Accepted => describing::text_part(file, state.start),
+    match node_start(file, k) {
+        Ok(start) => describing::text_part(file, start),
+        Err(_) => describing::no_part(),
     }
 }
 

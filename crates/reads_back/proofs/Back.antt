@@ -7,7 +7,7 @@ use native.Mathlib.Omega.{arith}
 use lib.Dec.{ltb}
 use lib.ListN.{length}
 use borrow.Author.Tests.{le-ltb}
-use Rattle.process_list.specs.declared.Verdict.TheVariants.{Accepted}
+use Rattle.std.proofs.Common.{Ok}
 use Rattle.process_list.specs.List.{Element, node_of, all_numbers, placed, verdict}
 use Rattle.process_list.specs.File.{file_list}
 use Rattle.process_list.proofs.Lists.{list_length, heads-length, fine-accepted}
@@ -68,7 +68,7 @@ tail-reads = refl
 
 -- ---- reading it
 
-allowed-verdict : (room : ℕ) (es : List Element) → Allowed room es → verdict room es ≡ Accepted
+allowed-verdict : (room : ℕ) (es : List Element) → Allowed room es → verdict room es ≡ Ok tt
 unfolding verdict
 allowed-verdict room es a =
     fine-accepted room (map node_of es) (record {
@@ -79,11 +79,11 @@ allowed-verdict room es a =
       holds = omega (arith, a.holds, all-length es a.nodes);
     })
 
-list-accepted : (room : ℕ) (es : List Element) → verdict room es ≡ Accepted → list_reading room es ≡ accepted es
+list-accepted : (room : ℕ) (es : List Element) → verdict room es ≡ Ok tt → list_reading room es ≡ accepted es
 unfolding list_reading
 list-accepted room es v = ap (reading_by es) v
 
-text-accepted : (room : ℕ) (id : List ℕ) (es : List Element) → id_right most_id_bytes id ≡ true → every sound es ≡ true → verdict room es ≡ Accepted
+text-accepted : (room : ℕ) (id : List ℕ) (es : List Element) → id_right most_id_bytes id ≡ true → every sound es ≡ true → verdict room es ≡ Ok tt
     → read_text room (joined (list_lines id es)) ≡ accepted es
 unfolding read_text
 text-accepted room id es k h v =

@@ -9,8 +9,8 @@ use lib.Dec.{eqb, ltb}
 use lib.ListN.{length, take, drop, length-append, length-take, length-drop, take-append-drop}
 use borrow.Author.Tests.{le-ltb, lt-leb, ne_eqb}
 use Rattle.decimal.specs.declared.Decimal.{Decimal}
-use Rattle.decimal.specs.declared.Token.{Token}
-use Rattle.decimal.specs.declared.Token.TheVariants.{Number}
+use Rattle.decimal.specs.Decimal.{Token}
+use Rattle.std.specs.Prelude.{Ok}
 use Rattle.decimal_read.specs.Number.{token_of}
 use Rattle.decimal_write.specs.Written.{written_of}
 use Rattle.decimal_write.specs.Laws.{Every, none, more, written-every, written-some}
@@ -109,10 +109,10 @@ module _ (w : List ℕ) (n : ℕ) (rule : Decimal → ℕ) where
       (ap (λ (o : Out (Unit {0})). then_out o (λ u. ret_p (last l))) (only_end-reads w t (cond (ltb (length l) n) 22 0) h q))
 
   -- a token
-  fault-none : (l : List Decimal) (d : Decimal) (k : Token) → k ≡ Number d → length l < n → rule d ≡ 0 → fault_of n rule (length l) k ≡ 0
+  fault-none : (l : List Decimal) (d : Decimal) (k : Token) → k ≡ Ok d → length l < n → rule d ≡ 0 → fault_of n rule (length l) k ≡ 0
   fault-none l d k e h q = ap (fault_of n rule (length l)) e ∙ ap (λ (v : Bool). cond v 22 (rule d)) (lt-leb n (length l) h) ∙ q
 
-  token-reads : (l : List Decimal) (d : Decimal) (x : ℕ) (v : List ℕ) (b : ℕ) (t : List ℕ) → every plain (x ∷ v) ≡ true → token_of (x ∷ v) ≡ Number d → length l < n → rule d ≡ 0
+  token-reads : (l : List Decimal) (d : Decimal) (x : ℕ) (v : List ℕ) (b : ℕ) (t : List ℕ) → every plain (x ∷ v) ≡ true → token_of (x ∷ v) ≡ Ok d → length l < n → rule d ≡ 0
       → ends_token b ≡ true → numbers_from l (x ∷ v ++ b ∷ t) ≡ numbers_from (l ++ d ∷ []) (b ∷ t)
   unfolding numbers_from token
   token-reads l d x v b t p e h q k =
@@ -131,7 +131,7 @@ module _ (w : List ℕ) (n : ℕ) (rule : Decimal → ℕ) where
   pub number-reads : (l : List Decimal) (d : Decimal) (s : List ℕ) → Kept rule d → length l < n → Ends s → numbers_from l (written_of d ++ s) ≡ numbers_from (l ++ d ∷ []) s
   number-reads l d s k h e = go (written_of d) (written-plain d) (reads-back d k.carried.ranged k.carried.settled) (written-some d k.carried.ranged)
     where
-      go : (v : List ℕ) → every plain v ≡ true → token_of v ≡ Number d → 1 ≤ length v → numbers_from l (v ++ s) ≡ numbers_from (l ++ d ∷ []) s
+      go : (v : List ℕ) → every plain v ≡ true → token_of v ≡ Ok d → 1 ≤ length v → numbers_from l (v ++ s) ≡ numbers_from (l ++ d ∷ []) s
       go [] p q z = absurd (omega arith)
       go (x ∷ v) p q z =
           ap (λ (u : List ℕ). numbers_from l (x ∷ v ++ u)) e.is

@@ -153,25 +153,37 @@ module _ (a i : ℕ) (ks ms bs ns ps s : List ℕ) where
   unfolding calls_from
   next p o q t u = rw (drop-cons ks i 0 p, drop-cons ms i 0 o, drop-cons bs i 0 q, drop-cons ns i 0 t, drop-cons ps i 0 u, add-one i) refl
 
-  pub no_node : length ks ≤ i → calls ≡ []
+  no_node : length ks ≤ i → calls ≡ []
   unfolding calls_from
   no_node p = rw (drop_of_length-le ks {i = i} p) refl
 
-  pub no-mark : i < length ks → length ms ≤ i → calls ≡ []
+  no-mark : i < length ks → length ms ≤ i → calls ≡ []
   unfolding calls_from
   no-mark p o = rw (drop-cons ks i 0 p, drop_of_length-le ms {i = i} o) refl
 
-  pub no_end : i < length ks → i < length ms → length bs ≤ i → calls ≡ []
+  no_end : i < length ks → i < length ms → length bs ≤ i → calls ≡ []
   unfolding calls_from
   no_end p o q = rw (drop-cons ks i 0 p, drop-cons ms i 0 o, drop_of_length-le bs {i = i} q) refl
 
-  pub no_number : i < length ks → i < length ms → i < length bs → length ns ≤ i → calls ≡ []
+  no_number : i < length ks → i < length ms → i < length bs → length ns ≤ i → calls ≡ []
   unfolding calls_from
   no_number p o q t = rw (drop-cons ks i 0 p, drop-cons ms i 0 o, drop-cons bs i 0 q, drop_of_length-le ns {i = i} t) refl
 
-  pub no_place : i < length ks → i < length ms → i < length bs → i < length ns → length ps ≤ i → calls ≡ []
+  no_place : i < length ks → i < length ms → i < length bs → i < length ns → length ps ≤ i → calls ≡ []
   unfolding calls_from
   no_place p o q t u = rw (drop-cons ks i 0 p, drop-cons ms i 0 o, drop-cons bs i 0 q, drop-cons ns i 0 t, drop_of_length-le ps {i = i} u) refl
+
+  -- one of the slices is at its end
+  pub no_more : (n : ℕ) → n ≡ min (min (min (min (length ks) (length ms)) (length bs)) (length ns)) (length ps) → n ≤ i → calls ≡ []
+  no_more n q h = go (order (length ks) i) (order (length ms) i) (order (length bs) i) (order (length ns) i) (order (length ps) i)
+    where
+      go : Order (length ks) i → Order (length ms) i → Order (length bs) i → Order (length ns) i → Order (length ps) i → calls ≡ []
+      go (low k) m b d e = no_node k
+      go (high k) (low m) b d e = no-mark k m
+      go (high k) (high m) (low b) d e = no_end k m b
+      go (high k) (high m) (high b) (low d) e = no_number k m b d
+      go (high k) (high m) (high b) (high d) (low e) = no_place k m b d e
+      go (high k) (high m) (high b) (high d) (high e) = absurd (omega (arith, q))
 
   -- a turn of the loop, whose call has the bytes e
   pub turn : (x : Look) (cs : Calls) (n₀ p₀ : List ℕ) (l : ProcessList) (m : Room) (n p : List ℕ) → Going x cs n₀ p₀ (look_of l m) calls i n p

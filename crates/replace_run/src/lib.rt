@@ -2,7 +2,7 @@
 
 // Any run of replacing calls, numbered and unnumbered, each on list and room as the last one left them. What the whole run answers and leaves is the contract here; what follows of it for
 // files and for the order of arrival are the contracts of the crates above.
-ghost use Rattle.std.specs.Prelude.{◌≡◌, min};
+ghost use Rattle.std.specs.Prelude.{◌≡◌};
 ghost use Rattle.room.specs.Room.{lent};
 ghost use Rattle.replacing.specs.Code.{look_of, Replaced};
 ghost use Rattle.replace_run.specs.Runs as Runs;
@@ -10,21 +10,12 @@ ghost use Rattle.replace_run.specs.Runs as Runs;
 use process_list::ProcessList;
 use reading::Answer;
 
-fn smaller(a: usize, b: usize) -> usize
-    ensures { result ≡ min a b }
-{
-    if a < b {
-        return a;
-    }
-    b
-}
-
 // The bytes from a up to b, as far as there are any.
 fn part(s: &[u8], a: usize, b: usize) -> &[u8]
     ensures { result.now ≡ Runs.call_part s.now a b }
 {
-    let end = smaller(b, s.len());
-    let start = smaller(a, end);
+    let end = b.min(s.len());
+    let start = a.min(end);
     &s[start..end]
 }
 
@@ -64,20 +55,13 @@ pub fn replace_all(
 {
     let mut l = list;
     let mut start: usize = 0;
-    let mut i: usize = 0;
-    while i < ks.len() {
-        if marks.len() <= i {
-            return l;
-        }
-        if ends.len() <= i {
-            return l;
-        }
-        if numbers.len() <= i {
-            return l;
-        }
-        if places.len() <= i {
-            return l;
-        }
+    let calls = ks
+        .len()
+        .min(marks.len())
+        .min(ends.len())
+        .min(numbers.len())
+        .min(places.len());
+    for i in 0..calls {
         let end = ends[i];
         let r = replace_marked(
             l,
@@ -87,12 +71,10 @@ pub fn replace_all(
             marks[i],
             part(elements, start, end),
         );
-        let next = r.list;
         numbers[i] = r.number;
         places[i] = r.place;
-        l = next;
+        l = r.list;
         start = end;
-        i += 1;
     }
     l
 }

@@ -10,27 +10,29 @@ use lib.Seq.{set-get_or}
 use borrow.Author.Tests.{lt-ltb, le-ltb, ltb-true, ltb-false, le-leb, lt-leb, leb-true}
 use Rattle.grammar.specs.Parse.{done}
 use Rattle.grammar.specs.Laws.{nope}
+use Rattle.process_list.specs.declared.Node.{Node}
 use Rattle.process_list.specs.declared.ProcessList.{ProcessList}
 use Rattle.process_list.specs.File.{kept_numbers}
 use Rattle.process_list.specs.List as Lists
 use Rattle.process_list.specs.List.{Element}
+use Rattle.process_list.proofs.Files.{kept-at}
 use Rattle.room.specs.Room.{Room, room_length}
 use Rattle.valid.specs.Valid.{is_valid}
 use Rattle.valid.specs.Valid as Valid
 use Rattle.valid.proofs.Elements.{both_true}
-use Rattle.xml.specs.declared.Scan.{Scan}
-use Rattle.xml.specs.declared.Scan.TheVariants as Scans
-use Rattle.xml.specs.Code.{scan_out, Inside}
+use Rattle.std.specs.Prelude.{Result, Ok, Err}
+use Rattle.xml.specs.declared.Stop.{Stop}
+use Rattle.xml.specs.declared.Stop.TheVariants as Stops
 use Rattle.clf.specs.Reading.{most_bytes, place_in, is_numbered}
-use Rattle.node_parts.specs.declared.NodeStep.{NodeStep}
-use Rattle.node_parts.specs.Code.{AllNumbers, node_after}
+use Rattle.node_parts.specs.declared.NodeRead.{NodeRead}
 use Rattle.reading.specs.declared.Answer.{Answer}
-use Rattle.reading.specs.declared.Judged.TheVariants.{Accepted, Refused}
+use Rattle.reading.specs.declared.Refused.{Refused}
+use Rattle.reading.specs.Code.{refused_at, refused_stop, judged_length}
 use Rattle.look.specs.Replacing.{element, by_element, replace, Call, plain_call, numbered_call, is_late, call}
 use Rattle.look.specs.Replacing as Replacing
 use Rattle.look.specs.Look.{Look, with_kept, holding, call_in, look_after}
 use Rattle.replacing.specs.Code.{replacing_answer, AnswersWith, look_of, Replaced, ReplacedKeeping, refused_answer, node_refusal}
-use Rattle.replacing.specs.Code.{NodeRefusal, kept_with, OnNode, ElementAlone, judged_scan, Callable, Fits}
+use Rattle.replacing.specs.Code.{KeptAt, answer_of, kept_with, OnNode, ElementAlone, ElementJudged, Callable}
 
 -- 'Any other refusal changes nothing'
 pub leaves-refused : (l : ProcessList) (m : Room) (c : Call) (a : Replacing.Replacing) (n i : ℕ) → a ≡ Replacing.refused n i → AnswersWith a (look_after (look_of l m) c a) (refused_answer n i l) m
@@ -101,27 +103,39 @@ module _ (l : ProcessList) (m : Room) where
     said-is = ap (λ (n : ℕ). said (is_valid l m) Y (is_numbered c.node n) G) elements-length
 
     -- one that is refused before its number and its element are looked at
-    pub call-refused : (r : ℕ) → NodeRefusal l m c.node r → (r ≡ 0 → ⊥) → Replaced l m c (refused_answer r 0 l) m
+    pub call-refused : (why : Refused) → KeptAt l m c.node (Err why) → Replaced l m c (answer_of l (Err why)) m
     unfolding node_refusal
-    call-refused r h z = leaves-refused l m c (call_in x c) r 0 (said-is ∙ by (is_valid l m) Y N h.number)
+    call-refused why h = rw h.0 (leaves-refused l m c (call_in x c) R 0 (said-is ∙ by R h.1 (is_valid l m) Y N refl))
       where
-        by : (v y n : Bool) → r ≡ cond v (cond n 0 19) 16 → said v y n G ≡ Replacing.refused r 0
-        by true y true q = absurd (z q)
-        by true true false q = ap (λ (n : ℕ). Replacing.refused n 0) (sym q)
-        by true false false q = ap (λ (n : ℕ). Replacing.refused n 0) (sym q)
-        by false y n q = ap (λ (n : ℕ). Replacing.refused n 0) (sym q)
+        R : ℕ
+        R = node_refusal (is_valid l m) (length (Lists.nodes_of l)) c.node
 
-  -- and one that is not
-  pub call-well : (k r : ℕ) → NodeRefusal l m k r → r ≡ 0 → OnNode l m k
-  unfolding node_refusal
-  call-well k r h z = by (is_valid l m) (is_numbered k (length (Lists.nodes_of l))) refl refl (sym z ∙ h.number)
-    where
-      by : (v n : Bool) → is_valid l m ≡ v → is_numbered k (length (Lists.nodes_of l)) ≡ n → ◌≡◌ {A = ℕ} 0 (cond v (cond n 0 19) 16) → OnNode l m k
-      by true true qv qn q =
-          let b = both_true (ltb 0 k) (leb k (length (Lists.nodes_of l))) qn in
-          record { valid = qv; array = h.array; there = record { first = ltb-true 0 k b.0; last = leb-true k (length (Lists.nodes_of l)) b.1 } }
-      by true false qv qn q = absurd (omega arith)
-      by false n qv qn q = absurd (omega arith)
+        by : (r : ℕ) → (r ≡ 0 → ⊥) → (v y n : Bool) → r ≡ cond v (cond n 0 19) 16 → said v y n G ≡ Replacing.refused r 0
+        by r z true y true q = absurd (z q)
+        by r z true true false q = ap (λ (n : ℕ). Replacing.refused n 0) (sym q)
+        by r z true false false q = ap (λ (n : ℕ). Replacing.refused n 0) (sym q)
+        by r z false y n q = ap (λ (n : ℕ). Replacing.refused n 0) (sym q)
+
+  -- ---- 16 and 19, or the number that is kept
+
+  module _ (k : ℕ) where
+    refused-so : (r : ℕ) → (r ≡ 0 → ⊥) → r ≡ node_refusal (is_valid l m) (length (Lists.nodes_of l)) k → KeptAt l m k (refused_at r 0)
+    refused-so r z q = (ap (λ (n : ℕ). record { number = n; place = 0 }) q, λ y. z (q ∙ y))
+
+    pub kept-invalid : is_valid l m ≡ false → KeptAt l m k (refused_at 16 0)
+    kept-invalid v = refused-so 16 (λ z. omega arith) (fault-invalid _ _ _ v)
+
+    pub kept-zero : is_valid l m ≡ true → k ≡ 0 → KeptAt l m k (refused_at 19 0)
+    kept-zero v z = refused-so 19 (λ z. omega arith) (fault-none _ _ _ v z)
+
+    pub kept-beyond : is_valid l m ≡ true → length (Lists.nodes_of l) < k → KeptAt l m k (refused_at 19 0)
+    kept-beyond v h = refused-so 19 (λ z. omega arith) (fault-beyond _ _ _ v h)
+
+    pub kept-there : is_valid l m ≡ true → (k ≡ 0 → ⊥) → k ≤ length (Lists.nodes_of l) → length l.nodes ≡ Lists.most_nodes → (n : Node) → n ≡ Lists.node_at l (k - 1) → KeptAt l m k (Ok n.newest)
+    kept-there v f h a n q = (
+      record { valid = v; array = a; there = record { first = omega arith; last = h } },
+      ap (λ (n : Node). n.newest) q ∙ sym (kept-at l (k - 1) (omega (arith, h))),
+    )
 
   module _ (k : ℕ) (e : List ℕ) (o : OnNode l m k) where
     on-node : is_numbered k (length (Lists.nodes_of l)) ≡ true
@@ -160,10 +174,22 @@ module _ (l : ProcessList) (m : Room) where
 
     -- ---- 4
 
-    pub call-large : (w : ℕ) → most_bytes < length e → ReplacedKeeping w l m k e (refused_answer 4 0 l) m
-    call-large w h =
-        let c : Call = plain_call k e in
-        leaves-refused l m (numbered_call k w e) (call_in x c) 4 0 (said-on c refl ∙ ap (λ (g : Bool). said c true false true g) (lt-ltb most_bytes (length e) h))
+    pub call-large : (w : ℕ) (why : Refused) → judged_length (length e) ≡ Err why → ReplacedKeeping w l m k e (answer_of l (Err why)) m
+    call-large w why q = by (ltb most_bytes (length e)) refl q
+      where
+        by : (b : Bool) → ltb most_bytes (length e) ≡ b → cond b (refused_at {A = Unit {0}} 4 0) (Ok (tt {0})) ≡ Err why → ReplacedKeeping w l m k e (answer_of l (Err why)) m
+        by true h q =
+            let c : Call = plain_call k e in
+            let z : why ≡ record { number = 4; place = 0 } = cc in
+            rw z (leaves-refused l m (numbered_call k w e) (call_in x c) 4 0 (said-on c refl ∙ ap (λ (g : Bool). said c true false true g) h))
+        by false h q = nope cc
+
+    pub call-small : judged_length (length e) ≡ Ok tt → Callable l m k e
+    call-small q = by (ltb most_bytes (length e)) refl q
+      where
+        by : (b : Bool) → ltb most_bytes (length e) ≡ b → cond b (refused_at {A = Unit {0}} 4 0) (Ok (tt {0})) ≡ Ok (tt {0}) → Callable l m k e
+        by true h q = nope cc
+        by false h q = record { on = o; small = ltb-false most_bytes (length e) h }
 
   module _ (k : ℕ) (e : List ℕ) where
     -- it answers by its element
@@ -174,52 +200,37 @@ module _ (l : ProcessList) (m : Room) where
 
     -- ---- the element's own fault
 
-    behind : (v : Element) (r : List ℕ) → 0 < length r → by_element room es k e (done v r) ≡ Replacing.refused 20 (place_in e r)
-    behind v [] h = absurd (omega arith)
-    behind v (b ∷ r) h = refl
+    pub call-judged : (w : ℕ) → Callable l m k e → (why : Refused) → ElementJudged e (Err why) → ReplacedKeeping w l m k e (answer_of l (Err why)) m
+    call-judged w h why j = leaves-refused l m (numbered_call k w e) (call_in x (plain_call k e)) why.number why.place (by-element h ∙ j room es k)
 
-    judged-ill : (v : Element) (y : Scan) (n i : ℕ) → Inside 1 e 0 y → judged_scan (length e) y ≡ Refused n i → by_element room es k e (scan_out (λ q. v) e y) ≡ Replacing.refused n i
-    judged-ill v (Scans.At q) n i b j = by (ltb q (length e)) refl j
-      where
-        by : (t : Bool) → ltb q (length e) ≡ t → cond t (Refused 20 q) Accepted ≡ Refused n i → by_element room es k e (done v (drop q e)) ≡ Replacing.refused n i
-        by true g j =
-            let h : q < length e = ltb-true q (length e) g in
-            let m : 20 ≡ n = cc in
-            let o : q ≡ i = cc in
-            let w : place_in e (drop q e) ≡ q = omega (arith, length-drop q e) in
-            behind v (drop q e) (simp length-drop (omega arith)) ∙ ap (Replacing.refused 20) (w ∙ o) ∙ ap (λ (a : ℕ). Replacing.refused a i) m
-        by false g j = nope cc
-    judged-ill v (Scans.Fault m q) n i b j =
-        let a : m ≡ n = cc in
-        let o : q ≡ i = cc in
-        let w : place_in e (drop q e) ≡ q = omega (arith, length-drop q e, b.1) in
-        ap (Replacing.refused m) (w ∙ o) ∙ ap (λ (a : ℕ). Replacing.refused a i) a
-    judged-ill v Scans.Cut n i b j =
-        let a : 1 ≡ n = cc in
-        let o : length e ≡ i = cc in
-        ap (Replacing.refused 1) o ∙ ap (λ (a : ℕ). Replacing.refused a i) a
+-- ---- the element by its reading
 
-    pub element-refused : (w : ℕ) (h : Callable l m k e) (r : NodeStep) → ElementAlone e r → (n i : ℕ) → judged_scan (length e) r.scan ≡ Refused n i
-        → ReplacedKeeping w l m k e (refused_answer n i l) m
-    element-refused w h r a n i j =
-        leaves-refused l m (numbered_call k w e) (call_in x (plain_call k e)) n i
-        (by-element h ∙ ap (by_element room es k e) (sym a.reads.out) ∙ judged-ill a.reads.value r.scan n i a.reads.inside j)
+module _ (e : List ℕ) where
+  behind : (room : ℕ) (es : List Element) (k : ℕ) (v : Element) (r : List ℕ) → 0 < length r → by_element room es k e (done v r) ≡ Replacing.refused 20 (place_in e r)
+  behind room es k v [] h = absurd (omega arith)
+  behind room es k v (b ∷ r) h = refl
 
-    judged-done : (v : Element) (y : Scan) → judged_scan (length e) y ≡ Accepted → AllNumbers y v
-        → (scan_out (λ q. v) e y ≡ done v []) × (length v.numbers ≡ Lists.numbers_of v.kind) × (node_after y v ≡ Lists.node_of v)
-    judged-done v (Scans.At q) j n = (by (ltb q (length e)) refl j, n, refl)
-      where
-        none : (r : List ℕ) → length r ≡ 0 → r ≡ []
-        none [] h = refl
-        none (b ∷ r) h = absurd (omega arith)
+  -- bytes behind it
+  pub element-behind : (n : NodeRead) → ElementAlone e (Ok n) → n.end < length e → ElementJudged e (refused_at 20 n.end)
+  element-behind n a h room es k =
+      let w : place_in e (drop n.end e) ≡ n.end = omega (arith, length-drop n.end e) in
+      ap (by_element room es k e) (sym a.reads.out) ∙ behind room es k a.reads.value (drop n.end e) (simp length-drop (omega arith)) ∙ ap (Replacing.refused 20) w
 
-        by : (t : Bool) → ltb q (length e) ≡ t → cond t (Refused 20 q) Accepted ≡ Accepted → done v (drop q e) ≡ done v []
-        by true g j = nope cc
-        by false g j = let h : length e ≤ q = ltb-false q (length e) g in ap (done v) (none (drop q e) (simp length-drop (omega arith)))
-    judged-done v (Scans.Fault m q) j n = nope cc
-    judged-done v Scans.Cut j n = nope cc
+  none : (r : List ℕ) → length r ≡ 0 → r ≡ []
+  none [] h = refl
+  none (b ∷ r) h = absurd (omega arith)
 
-    pub element-well : Callable l m k e → (r : NodeStep) → ElementAlone e r → judged_scan (length e) r.scan ≡ Accepted → Fits l m k r.node e
-    element-well h r a j =
-        let d = judged-done a.reads.value r.scan j a.reads.all in
-        record { callable = h; value = a.reads.value; out = sym a.reads.out ∙ d.0; is = a.reads.node ∙ d.2; all = d.1 }
+  -- it is whole
+  pub element-whole : (n : NodeRead) → ElementAlone e (Ok n) → length e ≤ n.end → ElementJudged e (Ok n.node)
+  element-whole n a h = record {
+    value = a.reads.value;
+    out = sym a.reads.out ∙ ap (done a.reads.value) (none (drop n.end e) (simp length-drop (omega arith)));
+    is = a.reads.node;
+    all = a.reads.all;
+  }
+
+  -- its own fault
+  pub element-stop : (x : Stop) → ElementAlone e (Err x) → ElementJudged e (Err (refused_stop (length e) x))
+  element-stop (Stops.Fault j p) a room es k =
+      let w : place_in e (drop p e) ≡ p = omega (arith, length-drop p e, a.reads.inside.1) in ap (by_element room es k e) (sym a.reads.out) ∙ ap (Replacing.refused j) w
+  element-stop Stops.Cut a room es k = ap (by_element room es k e) (sym a.reads.out)

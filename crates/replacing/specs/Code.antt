@@ -1,6 +1,6 @@
 -- What a replacing call answers and leaves, for the code's records.
 use Rattle.process_list.specs.List.{Element}
-use Rattle.std.specs.Prelude.{◌≡◌, Bool, true, cond, List, [], ℕ, ◌≤◌, ◌<◌, ltb, length}
+use Rattle.std.specs.Prelude.{◌≡◌, Bool, true, cond, List, [], ℕ, ◌≤◌, ◌<◌, length, Result, Ok, Err}
 use Rattle.grammar.specs.Parse.{done}
 use Rattle.process_list.specs.declared.Node.{Node}
 use Rattle.process_list.specs.declared.ProcessList.{ProcessList}
@@ -8,15 +8,13 @@ use Rattle.process_list.specs.File.{kept_numbers}
 use Rattle.process_list.specs.List as Lists
 use Rattle.room.specs.Room.{Room, resized_in}
 use Rattle.valid.specs.Valid.{is_valid}
-use Rattle.xml.specs.declared.Scan.{Scan}
-use Rattle.xml.specs.declared.Scan.TheVariants as Scans
+use Rattle.xml.specs.declared.Stop.{Stop}
 use Rattle.clf.specs.Reading.{most_bytes, is_numbered}
-use Rattle.node_parts.specs.declared.NodeStep.{NodeStep}
+use Rattle.node_parts.specs.declared.NodeRead.{NodeRead}
 use Rattle.node_parts.specs.Code.{NodeReads}
 use Rattle.reading.specs.declared.Answer.{Answer}
-use Rattle.reading.specs.declared.Judged.{Judged}
-use Rattle.reading.specs.declared.Judged.TheVariants.{Accepted, Refused}
-use Rattle.look.specs.Replacing.{element, Call, plain_call, numbered_call, kept_at}
+use Rattle.reading.specs.declared.Refused.{Refused}
+use Rattle.look.specs.Replacing.{element, by_element, Call, plain_call, numbered_call, kept_at}
 use Rattle.look.specs.Replacing as Replacing
 use Rattle.look.specs.Look.{Look, call_in, look_after}
 use Rattle.refusals.specs.Refusals as Refusal
@@ -61,10 +59,6 @@ refused_answer n p l = record { number = n; place = p; list = l }
 unfoldable pub node_refusal : Bool → ℕ → ℕ → ℕ
 node_refusal valid count k = cond valid (cond (is_numbered k count) 0 Refusal.no_such_node) Refusal.no_reading
 
-pub record NodeRefusal (l : ProcessList) (m : Room) (k r : ℕ) : Type 0 where
-  pub number : r ≡ node_refusal (is_valid l m) (length (Lists.nodes_of l)) k
-  pub array : length l.nodes ≡ Lists.most_nodes
-
 -- the list has node k, from 1
 pub record There (l : ProcessList) (k : ℕ) : Type 0 where
   pub first : 0 < k
@@ -80,21 +74,38 @@ pub record OnNode (l : ProcessList) (m : Room) (k : ℕ) : Type 0 where
   pub array : length l.nodes ≡ Lists.most_nodes
   pub there : There l k
 
+-- the number kept with node k of a call for which 16 and 19 are not given, or one of these
+abbrev pub KeptAt : ProcessList → Room → ℕ → Result ℕ Refused → Type 0
+KeptAt l m k (Ok n) = OnNode l m k × (n ≡ kept_with l k)
+KeptAt l m k (Err why) =
+    (why ≡ record { number = node_refusal (is_valid l m) (length (Lists.nodes_of l)) k; place = 0 }) × (node_refusal (is_valid l m) (length (Lists.nodes_of l)) k ≡ 0 → ⊥)
+
+-- the answer of a call on this list
+abbrev pub answer_of : ProcessList → Result ProcessList Refused → Answer
+answer_of l (Ok next) = record { number = 0; place = 0; list = next }
+answer_of l (Err why) = refused_answer why.number why.place l
+
 -- a call that answers as an unnumbered one does, and leaves the number w with node k if it is accepted
 abbrev pub ReplacedKeeping : ℕ → ProcessList → Room → ℕ → List ℕ → Answer → Room → Type 0
 ReplacedKeeping w l m₀ k e r m₁ = AnswersWith (call_in (look_of l m₀) (plain_call k e)) (look_after (look_of l m₀) (numbered_call k w e) (call_in (look_of l m₀) (plain_call k e))) r m₁
 
 -- an element read without room: some room of one number was lent
-pub record ElementAlone (s : List ℕ) (r : NodeStep) : Type 0 where
+pub record ElementAlone (s : List ℕ) (r : Result NodeRead Stop) : Type 0 where
   pub m₀ : Room
   pub m₁ : Room
   pub reads : NodeReads element.run s 0 0 r m₀ m₁
 
--- 'bytes after' are 20 at the first of them
-abbrev pub judged_scan : ℕ → Scan → Judged
-judged_scan n (Scans.At e) = cond (ltb e n) (Refused Refusal.not_one_node e) Accepted
-judged_scan n (Scans.Fault k p) = Refused k p
-judged_scan n Scans.Cut = Refused Refusal.cut_short n
+-- the bytes are an element without fault, which has this node
+pub record ElementIs (e : List ℕ) (node : Node) : Type 0 where
+  pub value : Element
+  pub out : element.run e ≡ done value []
+  pub is : node ≡ Lists.node_of value
+  pub all : length value.numbers ≡ Lists.numbers_of value.kind
+
+-- or why they are none, whatever the list: 'bytes after' are 20 at the first of them
+abbrev pub ElementJudged : List ℕ → Result Node Refused → Type 0
+ElementJudged e (Ok node) = ElementIs e node
+ElementJudged e (Err why) = (room : ℕ) (es : List Element) (k : ℕ) → by_element room es k e (element.run e) ≡ Replacing.refused why.number why.place
 
 -- the room in which the numbers of node i, from 0, have given way to as many zeros as the new node has numbers
 unfoldable pub made_way : ProcessList → ℕ → Node → Room → Room
@@ -103,7 +114,7 @@ made_way l i node m =
 
 -- the element read where node i stood
 pub record Stores (l : ProcessList) (i : ℕ) (node : Node) (e : List ℕ) (m₀ m₁ : Room) : Type 0 where
-  pub step : NodeStep
+  pub step : Result NodeRead Stop
   pub reads : NodeReads element.run e 0 (Lists.node_at l i).at step (made_way l i node m₀) m₁
 
 -- a call that 16, 19 and 4 do not refuse
@@ -114,7 +125,4 @@ pub record Callable (l : ProcessList) (m : Room) (k : ℕ) (e : List ℕ) : Type
 -- and whose element has no fault, and this node
 pub record Fits (l : ProcessList) (m : Room) (k : ℕ) (node : Node) (e : List ℕ) : Type 0 where
   pub callable : Callable l m k e
-  pub value : Element
-  pub out : element.run e ≡ done value []
-  pub is : node ≡ Lists.node_of value
-  pub all : length value.numbers ≡ Lists.numbers_of value.kind
+  pub element : ElementIs e node

@@ -3,54 +3,57 @@
 // Replacing a node of a look by an element (document 01, Replacing): 16, 19, 4 (the element alone), then the element's own fault, then 10, 23 (document 02, W-203), 13. A numbered replacement (W-208)
 // may be late: 28, between 19 and 4.
 // The element is read twice: first alone, so that a refusal changes nothing, then into the room.
-ghost use Rattle.std.specs.Prelude.{◌≡◌, ◌<◌, length};
+ghost use Rattle.std.specs.Prelude.{◌≡◌};
 ghost use Rattle.look.specs.Replacing.{plain_call, numbered_call};
 ghost use Rattle.room.specs.Room.{lent};
 ghost use Rattle.replacing.specs.Code as Code;
 
-use node_parts::NodeStep;
+use node_parts::NodeRead;
 use process_list::{Node, ProcessList};
-use reading::{Answer, Judged};
-use xml::Scan;
+use reading::{Answer, Refused};
+use xml::Stop;
 
-fn refused(number: u8, place: usize, list: ProcessList) -> Answer
-    ensures { result ≡ Code.refused_answer number place list }
+// The answer of a call on this list, which stays what it is where the call is refused.
+fn answer(list: ProcessList, replaced: Result<ProcessList, Refused>) -> Answer
+    ensures { result ≡ Code.answer_of list replaced }
 {
-    Answer {
-        number,
-        place,
-        list,
+    match replaced {
+        Ok(next) => Answer {
+            number: 0,
+            place: 0,
+            list: next,
+        },
+        Err(why) => Answer {
+            number: why.number,
+            place: why.place,
+            list,
+        },
     }
 }
 
-// 16 or 19, or 0 where neither is given.
-fn node_refusal(list: ProcessList, coefficients: &[i64], powers: &[i8], k: usize) -> u8
-    ensures { Code.NodeRefusal list (lent coefficients.now powers.now) k result }
+// The number kept with node k, from 1; 16, then 19.
+fn kept_at(list: ProcessList, coefficients: &[i64], powers: &[i8], k: usize) -> Result<u32, Refused>
+    ensures { Code.KeptAt list (lent coefficients.now powers.now) k result }
 {
     let count = process_list::held(list);
     if !valid::valid(list, coefficients, powers) {
-        return refusals::NO_READING;
+        return Err(Refused {
+            number: refusals::NO_READING,
+            place: 0,
+        });
     }
-    if k == 0 {
-        return refusals::NO_SUCH_NODE;
+    if k == 0 || count < k {
+        return Err(Refused {
+            number: refusals::NO_SUCH_NODE,
+            place: 0,
+        });
     }
-    if count < k {
-        return refusals::NO_SUCH_NODE;
-    }
-    0
-}
-
-// The number kept with node k, from 1, of a list that has it.
-fn kept_at(list: ProcessList, k: usize) -> u32
-    requires { Code.There list k }
-    ensures { result ≡ Code.kept_with list k }
-{
     let node = process_list::get(list, k - 1);
-    node.newest
+    Ok(node.newest)
 }
 
 // The element without room.
-fn element_alone(element: &[u8]) -> NodeStep
+fn element_alone(element: &[u8]) -> Result<NodeRead, Stop>
     ensures { Code.ElementAlone element.now result }
 {
     let mut coefficients = [0i64; 1];
@@ -58,19 +61,21 @@ fn element_alone(element: &[u8]) -> NodeStep
     element::element(element, &mut coefficients, &mut powers, 0)
 }
 
-// What is to be said of bytes that read so as an element: those behind it are 20.
-fn judge_element(element: &[u8], scan: Scan) -> Judged
-    ensures { result ≡ Code.judged_scan (length element.now) scan }
+// The node of an element: bytes behind it are 20.
+fn judge_element(element: &[u8]) -> Result<Node, Refused>
+    ensures { Code.ElementJudged element.now result }
 {
-    match scan {
-        Scan::Fault(n, p) => Judged::Refused(n, p),
-        Scan::Cut => Judged::Refused(refusals::CUT_SHORT, element.len()),
-        Scan::At(e) => {
-            if e < element.len() {
-                return Judged::Refused(refusals::NOT_ONE_NODE, e);
+    match element_alone(element) {
+        Ok(read) => {
+            if read.end < element.len() {
+                return Err(Refused {
+                    number: refusals::NOT_ONE_NODE,
+                    place: read.end,
+                });
             }
-            Judged::Accepted
+            Ok(read.node)
         }
+        Err(stop) => Err(reading::refused_by(stop, element.len())),
     }
 }
 
@@ -86,14 +91,11 @@ fn store_element(
     ensures { Code.Stores list i node element.now (lent coefficients.old powers.old) (lent coefficients.new powers.new) }
 {
     let old = process_list::get(list, i);
-    let at = old.at;
-    let old_kind = old.kind;
-    let new_kind = node.kind;
-    let old_count = process_list::numbers_of(old_kind);
-    let new_count = process_list::numbers_of(new_kind);
+    let old_count = process_list::numbers_of(old.kind);
+    let new_count = process_list::numbers_of(node.kind);
     let used = process_list::used(list);
-    room::resize(coefficients, powers, at, old_count, new_count, used);
-    element::element(element, coefficients, powers, at);
+    room::resize(coefficients, powers, old.at, old_count, new_count, used);
+    let _ = element::element(element, coefficients, powers, old.at);
 }
 
 // The element, which has this node and no fault, in the place of node k, from 1, with this number kept where it is accepted: 10, 23 or 13, or it is there.
@@ -105,50 +107,20 @@ fn replace_node(
     kept: u32,
     node: Node,
     element: &[u8],
-) -> Answer
+) -> Result<ProcessList, Refused>
     requires { Code.Fits list (lent coefficients.old powers.old) k node element.now }
-    ensures { Code.ReplacedKeeping kept list (lent coefficients.old powers.old) k element.now result (lent coefficients.new powers.new) }
+    ensures { Code.ReplacedKeeping kept list (lent coefficients.old powers.old) k element.now (Code.answer_of list result) (lent coefficients.new powers.new) }
 {
     let i = k - 1;
     let numbered = process_list::with_newest(kept, node);
     let next = process_list::replaced(list, i, numbered);
     let room = room::length(coefficients, powers);
-    let verdict = process_list::judge(false, next, room);
-    let number = process_list::refusal(verdict);
-    if number != 0 {
-        return refused(number, process_list::place(verdict), list);
-    }
+    process_list::judge(false, next, room)?;
     store_element(list, coefficients, powers, i, node, element);
-    Answer {
-        number: 0,
-        place: 0,
-        list: process_list::placed(next),
-    }
+    Ok(process_list::placed(next))
 }
 
-// The element in the place of node k of a valid look, with this number kept where it is accepted.
-fn replace_valid(
-    list: ProcessList,
-    coefficients: &mut [i64],
-    powers: &mut [i8],
-    k: usize,
-    kept: u32,
-    element: &[u8],
-) -> Answer
-    requires { Code.Callable list (lent coefficients.old powers.old) k element.now }
-    ensures { Code.ReplacedKeeping kept list (lent coefficients.old powers.old) k element.now result (lent coefficients.new powers.new) }
-{
-    let step = element_alone(element);
-    let scan = step.scan;
-    let node = step.node;
-    let j = judge_element(element, scan);
-    match j {
-        Judged::Refused(n, p) => refused(n, p, list),
-        Judged::Accepted => replace_node(list, coefficients, powers, k, kept, node, element),
-    }
-}
-
-// What is left behind 16, 19 and 28: 4, and then the element, with this number kept where it is accepted.
+// What is left behind 16, 19 and 28: 4, then the element's own fault, then the list with it, with this number kept where it is accepted.
 fn replace_there(
     list: ProcessList,
     coefficients: &mut [i64],
@@ -156,14 +128,49 @@ fn replace_there(
     k: usize,
     kept: u32,
     element: &[u8],
-) -> Answer
+) -> Result<ProcessList, Refused>
     requires { Code.OnNode list (lent coefficients.old powers.old) k }
-    ensures { Code.ReplacedKeeping kept list (lent coefficients.old powers.old) k element.now result (lent coefficients.new powers.new) }
+    ensures { Code.ReplacedKeeping kept list (lent coefficients.old powers.old) k element.now (Code.answer_of list result) (lent coefficients.new powers.new) }
 {
-    if process_list::MOST_BYTES < element.len() {
-        return refused(refusals::TOO_LONG, 0, list);
+    reading::judge_length(element)?;
+    let node = judge_element(element)?;
+    replace_node(list, coefficients, powers, k, kept, node, element)
+}
+
+// The list with the element in the place of node k, from 1.
+fn replaced(
+    list: ProcessList,
+    coefficients: &mut [i64],
+    powers: &mut [i8],
+    k: usize,
+    element: &[u8],
+) -> Result<ProcessList, Refused>
+    ensures { Code.Replaced list (lent coefficients.old powers.old) (plain_call k element.now) (Code.answer_of list result) (lent coefficients.new powers.new) }
+{
+    let kept = kept_at(list, coefficients, powers, k)?;
+    replace_there(list, coefficients, powers, k, kept, element)
+}
+
+// The same for a numbered replacement.
+fn replaced_numbered(
+    list: ProcessList,
+    coefficients: &mut [i64],
+    powers: &mut [i8],
+    k: usize,
+    number: u32,
+    element: &[u8],
+) -> Result<ProcessList, Refused>
+    ensures { Code.Replaced list (lent coefficients.old powers.old) (numbered_call k number element.now) (Code.answer_of list result)
+        (lent coefficients.new powers.new) }
+{
+    let kept = kept_at(list, coefficients, powers, k)?;
+    if number <= kept {
+        return Err(Refused {
+            number: refusals::LATE,
+            place: 0,
+        });
     }
-    replace_valid(list, coefficients, powers, k, kept, element)
+    replace_there(list, coefficients, powers, k, number, element)
 }
 
 // Puts the element in the place of node k, from 1, in list and room; the number kept with the node stays. Refused, nothing changes, and the answer has the list as it was given.
@@ -176,12 +183,7 @@ pub fn replace(
 ) -> Answer
     ensures { Code.Replaced list (lent coefficients.old powers.old) (plain_call k element.now) result (lent coefficients.new powers.new) }
 {
-    let fault = node_refusal(list, coefficients, powers, k);
-    if fault != 0 {
-        return refused(fault, 0, list);
-    }
-    let kept = kept_at(list, k);
-    replace_there(list, coefficients, powers, k, kept, element)
+    answer(list, replaced(list, coefficients, powers, k, element))
 }
 
 // The same for a numbered replacement: 28 where its number is not larger than the one kept with the node; accepted, its number is kept.
@@ -196,12 +198,8 @@ pub fn replace_numbered(
     ensures { Code.Replaced list (lent coefficients.old powers.old) (numbered_call k number element.now) result
         (lent coefficients.new powers.new) }
 {
-    let fault = node_refusal(list, coefficients, powers, k);
-    if fault != 0 {
-        return refused(fault, 0, list);
-    }
-    if number <= kept_at(list, k) {
-        return refused(refusals::LATE, 0, list);
-    }
-    replace_there(list, coefficients, powers, k, number, element)
+    answer(
+        list,
+        replaced_numbered(list, coefficients, powers, k, number, element),
+    )
 }

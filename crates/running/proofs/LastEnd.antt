@@ -14,9 +14,9 @@ use Rattle.pixel_room.specs.Room.{number_at}
 use Rattle.pixel_room.proofs.Known.{number-known}
 use Rattle.pixel_run.specs.declared.Prepared.{Prepared}
 use Rattle.pixel_run.specs.declared.Prepared.TheVariants as prepared
-use Rattle.pixel_run.specs.Each.{each_pixel, EachInside}
+use Rattle.pixel_run.specs.Each.{EachInside}
 use Rattle.pixel_run.specs.Prepare.{one_end_from}
-use Rattle.pixel_run.specs.Step.{step_pixel, ClampHolds}
+use Rattle.pixel_run.specs.Step.{ClampHolds}
 use Rattle.pixel_run.proofs.ClampRuns.{node-ran}
 use Rattle.running.specs.Running.{prepared_as, prepared_of, rows_of, run_node, run_nodes, LastEndHolds}
 use Rattle.running.specs.RunningLaws.{run-parts}

@@ -52,31 +52,20 @@ fn rows(step: Prepared, coefficients: &[i64], powers: &[i8]) -> [[f64; 4]; 3]
     if let Prepared::Matrix { at, wide } = step {
         return pixel_room::rows_from(coefficients, powers, at, wide);
     }
-    [
-        [0.0, 0.0, 0.0, 0.0],
-        [0.0, 0.0, 0.0, 0.0],
-        [0.0, 0.0, 0.0, 0.0],
-    ]
+    [[0.0; 4]; 3]
 }
 
 // One node over all pixels of the slice.
 fn run_one(node: Node, coefficients: &[i64], powers: &[i8], pixels: &mut [f64])
     ensures { pixels.new ≡ Spec.run_node (lent coefficients.now powers.now) node pixels.old }
 {
-    let kind = node.kind;
-    let at = node.at;
-    let input = node.input;
-    let output = node.output;
-    let step = prepared(kind, at, coefficients, powers);
-    let handed = rows(step, coefficients, powers);
-    let in_scale = process_list::scale(input);
-    let out_scale = process_list::scale(output);
+    let step = prepared(node.kind, node.at, coefficients, powers);
     pixel_run::run_node(
         pixels,
         step,
-        handed,
-        in_scale,
-        out_scale,
+        rows(step, coefficients, powers),
+        process_list::scale(node.input),
+        process_list::scale(node.output),
         coefficients,
         powers,
     );
@@ -87,11 +76,8 @@ fn run_all(list: ProcessList, coefficients: &[i64], powers: &[i8], pixels: &mut 
     ensures { pixels.new ≡ Spec.run_nodes (lent coefficients.now powers.now) (List.nodes_of list) pixels.old }
 {
     let count = process_list::held(list);
-    let mut k: usize = 0;
-    while k < count {
-        let node = list.nodes[k];
-        run_one(node, coefficients, powers, pixels);
-        k += 1;
+    for node in &list.nodes[..count] {
+        run_one(*node, coefficients, powers, pixels);
     }
 }
 

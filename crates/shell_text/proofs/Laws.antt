@@ -7,48 +7,43 @@ use native.Mathlib.Omega.{arith}
 use native.Mathlib.Numerals.{add-one}
 use native.Mathlib.Nat.{add_assoc}
 use borrow.Author.Tests.{eq-eqb, ne_eqb, lt-ltb, le-ltb, le-leb, lt-leb}
-use lib.Dec.{T, eqb, leb}
+use lib.Dec.{T, eqb}
 use lib.ListN.{length, take, drop, get_or, set, length-set, length-drop, take-append-drop, drop_of_length-le}
 use lib.Seq.{get_or-drop, drop-drop, drop-set-lt, take-suc-set, length-take-le}
 use lib.Ieee.{Float, nan, inf, fin, binary64, of_bits, to_bits, nan_bits, is_nan, eq, ne, level, up, down, div, of_fields}
+use Rattle.std.proofs.lemmas.Grind.{common_steps}
 use Rattle.scanning.specs.Steps.{here, part_length}
-use Rattle.fields.specs.declared.Parsed.{Parsed}
-use Rattle.fields.specs.declared.Parsed.TheVariants as Parses
+use Rattle.std.specs.Prelude.{Option, Some, None}
 use Rattle.text_out.specs.Output.{Goes}
 use Rattle.fields.specs.declared.Field.{Field}
 use Rattle.fields.specs.Fields.{field_from, word_number}
 use Rattle.tags.specs.Code.{part_in}
 use Rattle.xml.specs.Bytes.{bytes}
-use Rattle.shell_text.specs.declared.Decoded.{Decoded}
-use Rattle.shell_text.specs.declared.Decoded.TheVariants as Hexes
-use Rattle.shell_text.specs.declared.Word.TheVariants.{Bits, Malformed}
+use Rattle.std.specs.Option.{option_map_or}
 use Rattle.shell_text.specs.Hex.{digit_of, glyph_of, pair_text, joined_of, bytes_of, Decodes, word_at, is_none, part_of, part_left, DecodesPart, is_last, last_of, last_left, DecodesLast}
 use Rattle.shell_text.specs.Show.{hex_text, id_shown}
-use Rattle.shell_text.specs.Lines.{is_run, last_number, line_end}
-use Rattle.shell_text.specs.Words.{with_digit, bits_from, bits_of, top_digits, bits_text}
+use Rattle.shell_text.specs.Lines.{last_number, line_end}
+use Rattle.shell_text.specs.Words.{with_digit, bits_from, top_digits, bits_text}
 
 -- ---- the words of X
 
-pub bits-short : (w : List ℕ) → (length w ≡ 16 → ⊥) → Malformed ≡ bits_of w
-unfolding bits_of
-bits-short w h = rw (ne_eqb (length w) 16 h)
-
-pub bits-whole : (w : List ℕ) → length w ≡ 16 → bits_of w ≡ bits_from 0 w
-unfolding bits_of
-bits-whole w h = rw (eq-eqb (length w) 16 h)
-
-module _ (w : List ℕ) (n i d : ℕ) (h : i < length w) (e : d ≡ digit_of (get_or w i 0)) where
-  pub bits-bad : 16 ≤ d → bits_from n (drop i w) ≡ Malformed
-  unfolding bits_from
-  bits-bad k = rw (here w i h, ← e, le-leb 16 d k)
-
-  pub bits-more : d < 16 → bits_from n (drop i w) ≡ bits_from (with_digit n d) (drop (i + 1) w)
-  unfolding bits_from
-  bits-more k = rw (here w i h, ← e, lt-leb 16 d k)
-
-pub bits-end : (w : List ℕ) (n i : ℕ) → drop i w ≡ [] → bits_from n (drop i w) ≡ Bits n
+pub bits-end : (w : List ℕ) (n i : ℕ) → length w ≤ i → bits_from n (drop i w) ≡ Some n
 unfolding bits_from
-bits-end w n i h = rw h
+bits-end w n i h = rw (drop_of_length-le w h)
+
+module _ (w : List ℕ) (n i : ℕ) (h : i < length w) where
+  pub bits-bad : digit_of (get_or w i 0) ≡ None → bits_from n (drop i w) ≡ None
+  unfolding bits_from
+  bits-bad e = rw (here w i h, e)
+
+  pub bits-more : (d : ℕ) → digit_of (get_or w i 0) ≡ Some d → bits_from n (drop i w) ≡ bits_from (with_digit n d) (drop (i + 1) w)
+  unfolding bits_from
+  bits-more d e = rw (here w i h, e)
+
+-- ---- digits
+pub digit-below : (b d : ℕ) → digit_of b ≡ Some d → d < 16
+unfolding digit_of
+digit-below b d e = grind (arith, common_steps)
 
 -- ---- which bit patterns and which floats are no NaN
 
@@ -102,16 +97,14 @@ pub digits-first : (n at : ℕ) (s : List ℕ) → Goes (λ t. bits_text n ++ t)
 unfolding bits_text
 digits-first n at s = record { bytes = λ t. refl; next = λ t. refl; size = refl }
 
-pub top-more : (i rest d : ℕ) → 0 < i → d ≡ glyph_of (rest / 1152921504606846976 % 16) → (t : List ℕ)
-    → top_digits i rest ++ t ≡ (d ∷ []) ++ (top_digits (i - 1) (rest % 1152921504606846976 * 16) ++ t)
+pub top-more : (i rest d : ℕ) → i < 16 → d ≡ glyph_of (rest / 1152921504606846976 % 16) → (t : List ℕ)
+    → top_digits (16 - i) rest ++ t ≡ (d ∷ []) ++ (top_digits (16 - (i + 1)) (rest % 1152921504606846976 * 16) ++ t)
 unfolding top_digits
-top-more zero rest d h e t = absurd (omega arith)
-top-more (suc i) rest d h e t = let q : suc i - 1 ≡ i = omega arith in rw (e, q)
+top-more i rest d h e t = let q : 16 - i ≡ suc (16 - (i + 1)) = omega arith in rw (e, q)
 
-pub top-none : (i rest : ℕ) → i ≤ 0 → (t : List ℕ) → top_digits i rest ++ t ≡ t
+pub top-none : (i rest : ℕ) → 16 ≤ i → (t : List ℕ) → top_digits (16 - i) rest ++ t ≡ t
 unfolding top_digits
-top-none zero rest h t = refl
-top-none (suc i) rest h t = absurd (omega arith)
+top-none i rest h t = let q : 16 - i ≡ 0 = omega arith in rw q
 
 -- ---- a node's id: hex digits, two a byte, `-` for none
 pub hex-more : (w : List ℕ) (i : ℕ) (pair : List ℕ) → i < length w → pair ≡ pair_text (get_or w i 0) → (t : List ℕ) → hex_text (drop i w) t ≡ pair ++ hex_text (drop (i + 1) w) t
@@ -133,30 +126,6 @@ unfolding id_shown
 shown-some [] w h e t = absurd (omega arith)
 shown-some (b ∷ s) w h e t = rw e
 
--- ---- the command X
-pub run_none : (l : List ℕ) → length l ≡ 0 → false ≡ is_run l
-unfolding is_run
-run_none [] h = refl
-run_none (x ∷ l) h = absurd (omega arith)
-
-pub run-other : (l : List ℕ) → (length l ≡ 0 → ⊥) → (get_or l 0 0 ≡ 88 → ⊥) → false ≡ is_run l
-unfolding is_run
-run-other [] h k = refl
-run-other (x ∷ []) h k = rw (ne_eqb x 88 k)
-run-other (x ∷ (b ∷ l)) h k = rw (ne_eqb x 88 k)
-
-pub run_alone : (l : List ℕ) → get_or l 0 0 ≡ 88 → length l ≡ 1 → true ≡ is_run l
-unfolding is_run
-run_alone [] h k = absurd (omega arith)
-run_alone (x ∷ []) h k = rw (eq-eqb x 88 h)
-run_alone (x ∷ (b ∷ l)) h k = absurd (omega arith)
-
-pub run-words : (l : List ℕ) → (length l ≡ 0 → ⊥) → get_or l 0 0 ≡ 88 → (length l ≡ 1 → ⊥) → eqb (get_or l 1 0) 32 ≡ is_run l
-unfolding is_run
-run-words [] n h k = absurd (n refl)
-run-words (x ∷ []) n h k = absurd (k refl)
-run-words (x ∷ (b ∷ l)) n h k = rw (eq-eqb x 88 h)
-
 -- ---- the last field of a line: f is the field from `at` on, g the one behind it
 module _ (s : List ℕ) (at : ℕ) (f g : Field) (ef : f ≡ field_from s at) (eg : g ≡ field_from s f.end) where
   pub start_is : f.start ≡ (field_from s at).start
@@ -177,11 +146,11 @@ module _ (s : List ℕ) (at : ℕ) (f g : Field) (ef : f ≡ field_from s at) (e
   pub is-last : g.end ≤ g.start → is_last s at ≡ true
   is-last h = le-leb _ _ (subst (λ (k : ℕ). k ≤ (field_from s (field_from s at).end).start) more-end (subst (λ (k : ℕ). g.end ≤ k) more-start h))
 
-  pub no-last-number : g.start < g.end → Parses.Malformed ≡ last_number s at
+  pub no-last-number : g.start < g.end → None ≡ last_number s at
   unfolding last_number
   no-last-number h = rw (not_last h)
 
-  pub last-number : (w : List ℕ) (r : Parsed) → g.end ≤ g.start → w ≡ part_in s f.start f.end → r ≡ word_number w → r ≡ last_number s at
+  pub last-number : (w : List ℕ) (r : Option ℕ) → g.end ≤ g.start → w ≡ part_in s f.start f.end → r ≡ word_number w → r ≡ last_number s at
   unfolding last_number
   last-number w r h ew er = er ∙ ap word_number (ew ∙ ap (λ (k : ℕ). part_in s k f.end) start_is ∙ ap (λ (k : ℕ). part_in s (field_from s at).start k) end_is) ∙ (rw (is-last h))
 
@@ -201,8 +170,8 @@ module _ (w₀ w : List ℕ) (i b : ℕ) (p : Passed w₀ w i) where
   same_byte : (k : ℕ) → get_or w (i + k) 0 ≡ get_or w₀ (i + k) 0
   same_byte k = sym (get_or-drop i w k 0) ∙ ap (λ (l : List ℕ). get_or l k 0) p.rest ∙ get_or-drop i w₀ k 0
 
-  module _ (x y : ℕ) (x-is : x ≡ i + i) (y-is : y ≡ i + i + 1) (e : b ≡ joined_of (get_or w x 0) (get_or w y 0)) (h : y < length w) where
-    joined_is : b ≡ joined_of (get_or w₀ (i + i) 0) (get_or w₀ (i + i + 1) 0)
+  module _ (x y : ℕ) (o : Option ℕ) (x-is : x ≡ i + i) (y-is : y ≡ i + i + 1) (e : o ≡ joined_of (get_or w x 0) (get_or w y 0)) (h : y < length w) where
+    joined_is : o ≡ joined_of (get_or w₀ (i + i) 0) (get_or w₀ (i + i + 1) 0)
     joined_is =
         let ex : get_or w x 0 ≡ get_or w₀ (i + i) 0 = ap (λ (k : ℕ). get_or w k 0) x-is ∙ same_byte i in
         let ey : get_or w y 0 ≡ get_or w₀ (i + i + 1) 0 = ap (λ (k : ℕ). get_or w k 0) (y-is ∙ add_assoc i i 1) ∙ same_byte (i + 1) ∙ ap (λ (k : ℕ). get_or w₀ k 0) (sym (add_assoc i i 1)) in
@@ -211,15 +180,15 @@ module _ (w₀ w : List ℕ) (i b : ℕ) (p : Passed w₀ w i) where
     inside : i + i + 1 < length w₀
     inside = omega (arith, p.size)
 
-    pub stops : 256 ≤ b → bytes_of (drop (i + i) w₀) ≡ []
+    pub stops : o ≡ None → bytes_of (drop (i + i) w₀) ≡ []
     unfolding bytes_of
-    stops k = rw (two_here w₀ (i + i) inside, ← joined_is, le-leb 256 b k)
+    stops k = rw (two_here w₀ (i + i) inside, ← joined_is, k)
 
-    pub decodes-one : b < 256 → bytes_of (drop (i + i) w₀) ≡ b ∷ bytes_of (drop (i + i + 1 + 1) w₀)
+    pub decodes-one : o ≡ Some b → bytes_of (drop (i + i) w₀) ≡ b ∷ bytes_of (drop (i + i + 1 + 1) w₀)
     unfolding bytes_of
-    decodes-one k = rw (two_here w₀ (i + i) inside, ← joined_is, lt-leb 256 b k)
+    decodes-one k = rw (two_here w₀ (i + i) inside, ← joined_is, k)
 
-    pub passes-one : b < 256 → Passed w₀ (set w i b) (i + 1)
+    pub passes-one : o ≡ Some b → Passed w₀ (set w i b) (i + 1)
     passes-one k = record {
       rest = drop-set-lt (i + 1) w i b (omega arith) ∙ further;
       bytes =
@@ -257,37 +226,20 @@ pub few_bytes : (w : List ℕ) (k : ℕ) → length w ≤ k + 1 → bytes_of (dr
 few_bytes w k h = few-by (drop k w) (omega (arith, length-drop k w))
 
 -- ---- a part of a line
-pub none-empty : (s : List ℕ) (a e : ℕ) → e ≤ a → false ≡ is_none s a e
-unfolding is_none
-none-empty s a e h = rw (ne_eqb (e - a) 1 (λ z. omega arith))
-
-pub none-longer : (s : List ℕ) (a e : ℕ) → (e - a ≡ 1 → ⊥) → false ≡ is_none s a e
-unfolding is_none
-none-longer s a e h = rw (ne_eqb (e - a) 1 h)
-
-pub none-outside : (s : List ℕ) (a e : ℕ) → length s ≤ a → e - a ≡ 1 → false ≡ is_none s a e
-unfolding is_none
-none-outside s a e h k = rw (eq-eqb (e - a) 1 k, get_d_past s a h)
-  where
-    get_d_past : (l : List ℕ) (k : ℕ) → length l ≤ k → get_or l k 0 ≡ 0
-    get_d_past [] k h = refl
-    get_d_past (x ∷ l) zero h = absurd (omega arith)
-    get_d_past (x ∷ l) (suc k) h = get_d_past l k (omega arith)
-
-pub none-byte : (s : List ℕ) (a e : ℕ) → e - a ≡ 1 → eqb (get_or s a 0) 45 ≡ is_none s a e
-unfolding is_none
-none-byte s a e k = rw (eq-eqb (e - a) 1 k)
 
 -- two bytes of a word at least for each that it says
 pub bytes-half : (w : List ℕ) → length (bytes_of w) + length (bytes_of w) ≤ length w
 unfolding bytes_of
 bytes-half [] = omega arith
 bytes-half (h ∷ []) = omega arith
-bytes-half (h ∷ (l ∷ w)) = go (leb 256 (joined_of h l)) (bytes-half w)
+bytes-half (h ∷ (l ∷ w)) = go (joined_of h l) (bytes-half w)
   where
-    go : (t : Bool) → length (bytes_of w) + length (bytes_of w) ≤ length w → length (cond t [] (joined_of h l ∷ bytes_of w)) + length (cond t [] (joined_of h l ∷ bytes_of w)) ≤ length (h ∷ (l ∷ w))
-    go true k = omega arith
-    go false k = omega arith
+    more : Option ℕ → List ℕ
+    more o = option_map_or (λ b. b ∷ bytes_of w) o []
+
+    go : (o : Option ℕ) → length (bytes_of w) + length (bytes_of w) ≤ length w → length (more o) + length (more o) ≤ length (h ∷ (l ∷ w))
+    go None k = omega arith
+    go (Some b) k = omega arith
 
 -- a list cut at two places and joined again
 seam : (n m : ℕ) (l : List ℕ) → drop n (take (n + m) l) ++ drop (n + m) l ≡ drop n l
@@ -296,17 +248,17 @@ seam (suc n) m [] = let e : suc n + m ≡ suc (n + m) = omega arith in rw e
 seam (suc n) m (x ∷ l) = let e : suc n + m ≡ suc (n + m) = omega arith in rw e (seam n m l)
 
 module _ (s : List ℕ) (a e : ℕ) where
-  pub part-beyond : length s < e → DecodesPart s a e s Hexes.Malformed
+  pub part-beyond : length s < e → DecodesPart s a e s None
   unfolding part_of part_left
   part-beyond h = record { says = simp (lt-ltb (length s) e h); line = simp (lt-ltb (length s) e h) }
 
   module _ (h : e ≤ length s) where
-    pub part-empty : e ≤ a → DecodesPart s a e s Hexes.Malformed
+    pub part-empty : e ≤ a → DecodesPart s a e s None
     unfolding part_of part_left
     part-empty k = record { says = simp (le-ltb (length s) e h, le-leb e a k); line = simp (le-ltb (length s) e h, le-leb e a k) }
 
     module _ (k : a < e) where
-      pub part_none : is_none s a e ≡ true → DecodesPart s a e s (Hexes.Bytes a a)
+      pub part_none : is_none s a e ≡ true → DecodesPart s a e s (Some (record { start = a; end = a }))
       unfolding part_of part_left
       part_none n = record { says = simp (le-ltb (length s) e h, lt-leb e a k, n); line = simp (le-ltb (length s) e h, lt-leb e a k, n) }
 
@@ -330,13 +282,16 @@ module _ (s : List ℕ) (a e : ℕ) where
             ∙ ap (λ (x : List ℕ). take a s ++ x) (append_assoc (bytes_of (word_at s a e)) (drop size-w (word_at s a e)) (drop (e - a) (drop a s)) ∙ ap (λ (x : List ℕ). bytes_of (word_at s a e) ++ x) back)
             ∙ simp (le-ltb (length s) e h, lt-leb e a k, n)
 
-        pub part_bytes : m * 2 ≡ e - a → DecodesPart s a e l (Hexes.Bytes a (a + m))
+        abbrev up-to : ℕ → Option Field
+        up-to x = Some (record { start = a; end = a + x })
+
+        pub part_bytes : m * 2 ≡ e - a → DecodesPart s a e l (Some (record { start = a; end = a + m }))
         unfolding part_of
         part_bytes t =
             let u : size-w * 2 ≡ e - a = ap (λ (x : ℕ). x * 2) (sym p.count) ∙ t in
-            record { says = simp (le-ltb (length s) e h, lt-leb e a k, n, eq-eqb (size-w * 2) (e - a) u) (ap (λ (x : ℕ). Hexes.Bytes a (a + x)) p.count); line = line-is }
+            record { says = simp (le-ltb (length s) e h, lt-leb e a k, n, eq-eqb (size-w * 2) (e - a) u) (ap up-to p.count); line = line-is }
 
-        pub part-malformed : (m * 2 ≡ e - a → ⊥) → DecodesPart s a e l Hexes.Malformed
+        pub part-malformed : (m * 2 ≡ e - a → ⊥) → DecodesPart s a e l None
         unfolding part_of
         part-malformed t =
             let u : (size-w * 2 ≡ e - a → ⊥) = λ z. t (ap (λ (x : ℕ). x * 2) p.count ∙ z) in
@@ -344,11 +299,11 @@ module _ (s : List ℕ) (a e : ℕ) where
 
 -- ---- the last field, in hex
 module _ (s : List ℕ) (at : ℕ) (f g : Field) (ef : f ≡ field_from s at) (eg : g ≡ field_from s f.end) where
-  pub no-last-field : g.start < g.end → DecodesLast s at s Hexes.Malformed
+  pub no-last-field : g.start < g.end → DecodesLast s at s None
   unfolding last_of last_left
   no-last-field h = record { says = simp (not_last s at f g ef eg h); line = simp (not_last s at f g ef eg h) }
 
-  pub last-field : (s' : List ℕ) (r : Decoded) → g.end ≤ g.start → DecodesPart s f.start f.end s' r → DecodesLast s at s' r
+  pub last-field : (s' : List ℕ) (r : Option Field) → g.end ≤ g.start → DecodesPart s f.start f.end s' r → DecodesLast s at s' r
   unfolding last_of last_left
   last-field s' r h p =
       let q : DecodesPart s (field_from s at).start (field_from s at).end s' r =
@@ -363,5 +318,3 @@ line_end-nil at = refl
 pub line_end-cons : (at b : ℕ) (l : List ℕ) → line_end at (b ∷ l) ≡ cond (eqb b 10) at (line_end (at + 1) l)
 unfolding line_end
 line_end-cons at b l = refl
-
-pub ruleset line_end-laws = (line_end-nil, line_end-cons)

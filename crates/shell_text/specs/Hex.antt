@@ -1,17 +1,16 @@
 -- Bytes as hex digits (tests/PROTOCOL.md): 'HEX is lowercase hex digits, two a byte, `-` for no bytes'. Definitions only.
 use Rattle.std.specs.Prelude.{◌≡◌, Bool, cond, ◌&&◌, ◌||◌, List, [], ◌∷◌, ◌++◌, ℕ, ◌+◌, ◌-◌, ◌*◌, ◌/◌, ◌%◌, eqb, ltb, leb, length, take, drop, get_or}
 use Prim.Native.Char.{code}
+use Rattle.std.specs.Prelude.{Option, Some, None}
+use Rattle.std.specs.Option.{option_and_then, option_map, option_map_or}
+use Rattle.fields.specs.declared.Field.{Field}
 use Rattle.fields.specs.Fields.{field_from}
-use Rattle.shell_text.specs.declared.Decoded.{Decoded}
-use Rattle.shell_text.specs.declared.Decoded.TheVariants.{Bytes, Malformed}
 
--- the value of a digit, `0` to `9` and `a` to `f`; 16 for another byte
-unfoldable pub digit_of : ℕ → ℕ
+-- the value of a digit, `0` to `9` and `a` to `f`; another byte has none
+unfoldable pub digit_of : ℕ → Option ℕ
 digit_of b =
-    cond (ltb b (code "0")) 16
-    (cond (leb b (code "9")) (b - code "0")
-    (cond (ltb b (code "a")) 16
-    (cond (leb b (code "f")) (10 + (b - code "a")) 16)))
+    cond (leb (code "0") b && leb b (code "9")) (Some (b - code "0"))
+    (cond (leb (code "a") b && leb b (code "f")) (Some (10 + (b - code "a"))) None)
 
 -- the digit of a value; `?` from 16 on
 unfoldable pub glyph_of : ℕ → ℕ
@@ -21,15 +20,15 @@ glyph_of d = cond (ltb d 10) (code "0" + d) (cond (ltb d 16) (code "a" + (d - 10
 unfoldable pub pair_text : ℕ → List ℕ
 pair_text b = glyph_of (b / 16) ∷ glyph_of (b % 16) ∷ []
 
--- the byte of two digits; 256, which no byte is, where one of them is no digit
-unfoldable pub joined_of : ℕ → ℕ → ℕ
-joined_of high low = cond (leb 16 (digit_of high)) 256 (cond (leb 16 (digit_of low)) 256 (digit_of high * 16 + digit_of low))
+-- the byte of two digits; none where one of them is no digit
+unfoldable pub joined_of : ℕ → ℕ → Option ℕ
+joined_of high low = option_and_then (λ h. option_map (λ l. h * 16 + l) (digit_of low)) (digit_of high)
 
 -- the bytes of a word, two digits each, up to the first two that are not both digits
 unfoldable pub bytes_of : List ℕ → List ℕ
 bytes_of [] = []
 bytes_of (h ∷ []) = []
-bytes_of (h ∷ (l ∷ w)) = cond (leb 256 (joined_of h l)) [] (joined_of h l ∷ bytes_of w)
+bytes_of (h ∷ (l ∷ w)) = option_map_or (λ b. b ∷ bytes_of w) (joined_of h l) []
 
 -- a word w decoded in place: its bytes, then the rest of the word as it was; n is how many bytes they are
 pub record Decodes (w w' : List ℕ) (n : ℕ) : Type 0 where
@@ -44,12 +43,12 @@ word_at s a e = take (e - a) (drop a s)
 unfoldable pub is_none : List ℕ → ℕ → ℕ → Bool
 is_none s a e = eqb (e - a) 1 && eqb (get_or s a 0) (code "-")
 
--- what the line's part from a up to e is: `-` alone is no bytes, else all of it has to be pairs of digits; an empty part, or one that is none of the line's, is malformed
-unfoldable pub part_of : List ℕ → ℕ → ℕ → Decoded
+-- where the bytes of the line's part from a up to e stand when they are decoded: `-` alone is no bytes, else all of it has to be pairs of digits; an empty part, or one that is none of the line's, has none
+unfoldable pub part_of : List ℕ → ℕ → ℕ → Option Field
 part_of s a e =
-    cond (ltb (length s) e || leb e a) Malformed
-    (cond (is_none s a e) (Bytes a a)
-    (cond (eqb (length (bytes_of (word_at s a e)) * 2) (e - a)) (Bytes a (a + length (bytes_of (word_at s a e)))) Malformed))
+    cond (ltb (length s) e || leb e a) None
+    (cond (is_none s a e) (Some (record { start = a; end = a }))
+    (cond (eqb (length (bytes_of (word_at s a e)) * 2) (e - a)) (Some (record { start = a; end = a + length (bytes_of (word_at s a e)) })) None))
 
 -- the line afterwards: the part's bytes stand at its start
 unfoldable pub part_left : List ℕ → ℕ → ℕ → List ℕ
@@ -58,7 +57,7 @@ part_left s a e =
     (cond (is_none s a e) s
     (take a s ++ (bytes_of (word_at s a e) ++ drop (a + length (bytes_of (word_at s a e))) s)))
 
-pub record DecodesPart (s : List ℕ) (a e : ℕ) (s' : List ℕ) (r : Decoded) : Type 0 where
+pub record DecodesPart (s : List ℕ) (a e : ℕ) (s' : List ℕ) (r : Option Field) : Type 0 where
   pub says : r ≡ part_of s a e
   pub line : s' ≡ part_left s a e
 
@@ -66,12 +65,12 @@ pub record DecodesPart (s : List ℕ) (a e : ℕ) (s' : List ℕ) (r : Decoded) 
 abbrev pub is_last : List ℕ → ℕ → Bool
 is_last s at = leb (field_from s (field_from s at).end).end (field_from s (field_from s at).end).start
 
-unfoldable pub last_of : List ℕ → ℕ → Decoded
-last_of s at = cond (is_last s at) (part_of s (field_from s at).start (field_from s at).end) Malformed
+unfoldable pub last_of : List ℕ → ℕ → Option Field
+last_of s at = cond (is_last s at) (part_of s (field_from s at).start (field_from s at).end) None
 
 unfoldable pub last_left : List ℕ → ℕ → List ℕ
 last_left s at = cond (is_last s at) (part_left s (field_from s at).start (field_from s at).end) s
 
-pub record DecodesLast (s : List ℕ) (at : ℕ) (s' : List ℕ) (r : Decoded) : Type 0 where
+pub record DecodesLast (s : List ℕ) (at : ℕ) (s' : List ℕ) (r : Option Field) : Type 0 where
   pub says : r ≡ last_of s at
   pub line : s' ≡ last_left s at

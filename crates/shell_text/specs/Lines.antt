@@ -1,8 +1,7 @@
 -- What a command line is (tests/PROTOCOL.md). Definitions only.
-use Rattle.std.specs.Prelude.{Bool, true, false, cond, ◌&&◌, ◌||◌, List, [], ◌∷◌, ℕ, ◌+◌, eqb, ltb}
+use Rattle.std.specs.Prelude.{Bool, false, cond, ◌&&◌, List, [], ◌∷◌, ℕ, ◌+◌, eqb, ltb}
 use Prim.Native.Char.{code}
-use Rattle.fields.specs.declared.Parsed.{Parsed}
-use Rattle.fields.specs.declared.Parsed.TheVariants.{Malformed}
+use Rattle.std.specs.Prelude.{Option, None}
 use Rattle.fields.specs.Fields.{field_from, word_number}
 use Rattle.tags.specs.Code.{part_in}
 use Rattle.shell_text.specs.Hex.{is_last}
@@ -19,8 +18,8 @@ unfoldable pub is_too_long : ℕ → ℕ → ℕ → Bool
 is_too_long number room length = eqb number Refusal.short_output && ltb room length
 
 -- the number in the last field from `at` on
-unfoldable pub last_number : List ℕ → ℕ → Parsed
-last_number s at = cond (is_last s at) (word_number (part_in s (field_from s at).start (field_from s at).end)) Malformed
+unfoldable pub last_number : List ℕ → ℕ → Option ℕ
+last_number s at = cond (is_last s at) (word_number (part_in s (field_from s at).start (field_from s at).end)) None
 
 -- the place of the first line feed of l, which stands from `at` on, or its end
 unfoldable pub line_end : ℕ → List ℕ → ℕ

@@ -1,10 +1,10 @@
 -- The words of the command X (tests/PROTOCOL.md): 'each WORD is the 16 hex digits of an f64's bits', 'every NaN is `7ff8000000000000`'. Definitions only.
-use Rattle.std.specs.Prelude.{cond, List, [], ◌∷◌, ◌++◌, ℕ, zero, suc, ◌+◌, ◌*◌, ◌/◌, ◌%◌, eqb, leb, length, Float}
+use Rattle.std.specs.Prelude.{cond, List, [], ◌∷◌, ◌++◌, ℕ, zero, suc, ◌+◌, ◌*◌, ◌/◌, ◌%◌, eqb, length, Float}
 use Rattle.std.specs.Float.{binary64}
 use Rattle.std.specs.Float.Ieee.{to_bits}
 use Rattle.xml.specs.Bytes.{bytes}
-use Rattle.shell_text.specs.declared.Word.{Word}
-use Rattle.shell_text.specs.declared.Word.TheVariants.{Bits, Malformed}
+use Rattle.std.specs.Prelude.{Option, Some, None}
+use Rattle.std.specs.Option.{option_and_then}
 use Rattle.shell_text.specs.Hex.{digit_of, glyph_of}
 
 -- the lower 60 bits of n moved up by four, and the digit d below them (1152921504606846976 is 2 to the power 60)
@@ -12,12 +12,12 @@ abbrev pub with_digit : ℕ → ℕ → ℕ
 with_digit n d = n % 1152921504606846976 * 16 + d
 
 -- the digits of a word, behind those that say n
-unfoldable pub bits_from : ℕ → List ℕ → Word
-bits_from n [] = Bits n
-bits_from n (b ∷ w) = cond (leb 16 (digit_of b)) Malformed (bits_from (with_digit n (digit_of b)) w)
+unfoldable pub bits_from : ℕ → List ℕ → Option ℕ
+bits_from n [] = Some n
+bits_from n (b ∷ w) = option_and_then (λ d. bits_from (with_digit n d) w) (digit_of b)
 
-unfoldable pub bits_of : List ℕ → Word
-bits_of w = cond (eqb (length w) 16) (bits_from 0 w) Malformed
+unfoldable pub bits_of : List ℕ → Option ℕ
+bits_of w = cond (eqb (length w) 16) (bits_from 0 w) None
 
 -- so many digits, the first for the highest four bits of n
 unfoldable pub top_digits : ℕ → ℕ → List ℕ

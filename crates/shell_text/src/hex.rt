@@ -2,38 +2,28 @@
 ghost use Rattle.std.specs.Prelude.{◌≡◌};
 ghost use Rattle.shell_text.specs.Hex as Hex;
 
-use crate::Decoded;
+use fields::Field;
 
-// The value of a hex digit, and 16 for another byte.
-pub fn digit(b: u8) -> u8
+// The value of a hex digit.
+pub fn digit(b: u8) -> Option<u8>
     ensures { result ≡ Hex.digit_of b }
 {
-    if b < 48 {
-        return 16;
+    match b {
+        b'0'..=b'9' => Some(b - b'0'),
+        b'a'..=b'f' => Some(b - b'a' + 10),
+        _ => None,
     }
-    if b <= 57 {
-        return b - 48;
-    }
-    if b < 97 {
-        return 16;
-    }
-    if b <= 102 {
-        return b - 87;
-    }
-    16
 }
 
 // The hex digit of a value.
 pub fn glyph(d: u8) -> u8
     ensures { result ≡ Hex.glyph_of d }
 {
-    if d < 10 {
-        return 48 + d;
+    match d {
+        0..10 => b'0' + d,
+        10..16 => b'a' + (d - 10),
+        _ => b'?',
     }
-    if d < 16 {
-        return 87 + d;
-    }
-    b'?'
 }
 
 // The two digits of a byte.
@@ -43,84 +33,68 @@ pub fn hex_pair(b: u8) -> [u8; 2]
     [glyph(b / 16), glyph(b % 16)]
 }
 
-// The byte of two digits, and 256 where one of them is no digit.
-fn joined(high: u8, low: u8) -> u64
+// The byte of two digits.
+fn joined(high: u8, low: u8) -> Option<u8>
     ensures { result ≡ Hex.joined_of high low }
 {
-    let h = digit(high);
-    let l = digit(low);
-    if 16 <= h {
-        return 256;
-    }
-    if 16 <= l {
-        return 256;
-    }
-    (h as u64) * 16 + (l as u64)
+    let h = digit(high)?;
+    let l = digit(low)?;
+    Some(h * 16 + l)
 }
 
-// Decodes a word in place, from its start, up to the first two bytes that are no digits: how many bytes it has decoded.
+// Decodes a word in place, from its start, up to the first two bytes that are no digits: how many bytes it has decoded. The loop goes by index, since the
+// bytes are stored in the very slice that their digits are read from.
 fn decode(word: &mut [u8]) -> usize
     ensures { Hex.Decodes word.old word.new result }
 {
     let half = word.len() / 2;
-    let mut i = 0;
-    while i < half {
-        let byte = joined(word[2 * i], word[2 * i + 1]);
-        if 256 <= byte {
+    for i in 0..half {
+        let Some(byte) = joined(word[2 * i], word[2 * i + 1]) else {
             return i;
-        }
-        word[i] = byte as u8;
-        i += 1;
+        };
+        word[i] = byte;
     }
-    i
+    half
 }
 
 // Whether the part of a line from `start` up to `end` is `-`.
 fn is_none(line: &[u8], start: usize, end: usize) -> bool
     ensures { result ≡ Hex.is_none line.now start end }
 {
-    if end <= start {
-        return false;
-    }
-    if end - start != 1 {
-        return false;
-    }
-    if line.len() <= start {
-        return false;
-    }
-    line[start] == b'-'
+    start < line.len() && start + 1 == end && line[start] == b'-'
 }
 
-// Decodes the part of a line from `start` up to `end`, in place.
-pub fn decoded_part(line: &mut [u8], start: usize, end: usize) -> Decoded
+// Decodes the part of a line from `start` up to `end`, in place: where its bytes stand.
+pub fn decoded_part(line: &mut [u8], start: usize, end: usize) -> Option<Field>
     ensures { Hex.DecodesPart line.old start end line.new result }
 {
     if line.len() < end {
-        return Decoded::Malformed;
+        return None;
     }
     if end <= start {
-        return Decoded::Malformed;
+        return None;
     }
     if is_none(line, start, end) {
-        return Decoded::Bytes(start, start);
+        return Some(Field { start, end: start });
     }
     let n = decode(&mut line[start..end]);
-    if n * 2 == end - start {
-        return Decoded::Bytes(start, start + n);
+    if n * 2 != end - start {
+        return None;
     }
-    Decoded::Malformed
+    Some(Field {
+        start,
+        end: start + n,
+    })
 }
 
-// Decodes the last field of a line, from `at` on, in place.
-pub fn last_field(line: &mut [u8], at: usize) -> Decoded
+// Decodes the last field of a line, from `at` on, in place: where its bytes stand.
+pub fn last_field(line: &mut [u8], at: usize) -> Option<Field>
     ensures { Hex.DecodesLast line.old at line.new result }
 {
     let last = fields::next_field(line, at);
-    let start = last.start;
-    let end = last.end;
-    let more = fields::next_field(line, end);
+    let more = fields::next_field(line, last.end);
     if more.start < more.end {
-        return Decoded::Malformed;
+        return None;
     }
-    decoded_part(line, start, end)
+    decoded_part(line, last.start, last.end)
 }

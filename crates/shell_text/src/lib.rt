@@ -8,31 +8,26 @@ pub mod lines;
 pub mod show;
 pub mod words;
 
-// What a field of a line is when decoded: its bytes stand in the line from the first number up to the second.
-#[derive(Clone, Copy)]
-pub enum Decoded {
-    Bytes(usize, usize),
-    Malformed,
+// The numbers that stand in a line before its bytes: the command's own and that of the feed, 0 where the command has none; then the place behind them.
+#[derive(Clone, Copy, Debug, PartialEq, Eq)]
+pub struct Numbers {
+    pub number: usize,
+    pub feed: u32,
+    pub end: usize,
 }
 
-// What a word of 16 hex digits says.
-#[derive(Clone, Copy)]
-pub enum Word {
-    Bits(u64),
-    Malformed,
+// What a letter asks of its line: bytes alone, a number and bytes, two numbers and bytes, or an id and a number.
+#[derive(Clone, Copy, Debug, PartialEq, Eq)]
+pub enum Form {
+    Bytes,
+    Numbered,
+    Fed,
+    Named,
 }
 
-// The numbers that stand in a line before its bytes: the command's own and that of the feed, 0 where the command has none; then the place behind them. None
-// where the line does not have those that its letter asks for.
-#[derive(Clone, Copy)]
-pub enum Numbers {
-    Given(usize, u32, usize),
-    None,
-}
-
-// A command: its letter (`?` for none), its number (0 where it has none), the feed's number of a numbered replacement (0 for every other command), and its bytes, which
+// A command: its letter, its number (0 where it has none), the feed's number of a numbered replacement (0 for every other command), and its bytes, which
 // stand in the line from `start` up to `end`.
-#[derive(Clone, Copy)]
+#[derive(Clone, Copy, Debug, PartialEq, Eq)]
 pub struct Command {
     pub letter: u8,
     pub number: usize,

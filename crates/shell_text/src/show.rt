@@ -131,11 +131,8 @@ fn put_hex(out: &mut [u8], at: usize, bytes: &[u8]) -> usize
     ensures { Puts (Show.hex_text bytes.now) at out.old out.new result }
 {
     let mut held = at;
-    let mut i = 0;
-    while i < bytes.len() {
-        let pair = hex_pair(bytes[i]);
-        held = put(out, held, &pair);
-        i += 1;
+    for b in bytes {
+        held = put(out, held, &hex_pair(*b));
     }
     held
 }
@@ -155,18 +152,14 @@ fn put_id(out: &mut [u8], at: usize, places: &[u8]) -> usize
 pub fn put_node(out: &mut [u8], at: usize, node: Node) -> usize
     ensures { Puts (Show.shown_node node) at out.old out.new result }
 {
-    let kind = node.kind;
-    let input = node.input;
-    let output = node.output;
     let a = put(out, at, b";");
-    let b = put_name(out, a, kind);
-    let c = put_depths(out, b, input, output);
-    let d = put_form(out, c, kind);
+    let b = put_name(out, a, node.kind);
+    let c = put_depths(out, b, node.input, node.output);
+    let d = put_form(out, c, node.kind);
     let e = put(out, d, b",");
     let f = put_place(out, e, node.at, node.newest);
     let g = put(out, f, b",");
-    let id = node.id;
-    put_id(out, g, &id)
+    put_id(out, g, &node.id)
 }
 
 // A number of the table room: its coefficient, `:` and its power.

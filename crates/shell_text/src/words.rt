@@ -5,28 +5,22 @@ ghost use Rattle.std.specs.Float.Ieee.{of_bits};
 ghost use Rattle.text_out.specs.Output.{Puts};
 ghost use Rattle.shell_text.specs.Words as Words;
 
-use crate::Word;
 use crate::hex::{digit, glyph};
 use text_out::put;
 
 // A word of 16 hex digits; each digit moves those before it up by one, so no more than the last 16 would count.
-pub fn bits(word: &[u8]) -> Word
+pub fn bits(word: &[u8]) -> Option<u64>
     ensures { result ≡ Words.bits_of word.now }
 {
     if word.len() != 16 {
-        return Word::Malformed;
+        return None;
     }
     let mut n: u64 = 0;
-    let mut i = 0;
-    while i < word.len() {
-        let d = digit(word[i]);
-        if 16 <= d {
-            return Word::Malformed;
-        }
+    for b in word {
+        let d = digit(*b)?;
         n = n % 1152921504606846976 * 16 + d as u64;
-        i += 1;
     }
-    Word::Bits(n)
+    Some(n)
 }
 
 // The number of a bit pattern, for each pattern of a NaN the same NaN: an exponent's field of all ones with other digits is a NaN.
@@ -49,12 +43,10 @@ fn put_bits(out: &mut [u8], at: usize, n: u64) -> usize
 {
     let mut held = at;
     let mut rest = n;
-    let mut i: usize = 16;
-    while 0 < i {
+    for _ in 0..16usize {
         let top = [glyph((rest / 1152921504606846976 % 16) as u8)];
         held = put(out, held, &top);
         rest = rest % 1152921504606846976 * 16;
-        i -= 1;
     }
     held
 }

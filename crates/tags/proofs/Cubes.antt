@@ -5,7 +5,7 @@ use mathlib.Core.List.{List, [], ◌∷◌, ◌++◌}
 use mathlib.Core.Option.{Option, none, some}
 use Prim.Native.Nat.{ℕ, zero, suc, ◌+◌, ◌/◌, ◌%◌, ◌≤◌, ◌<◌}
 use native.Mathlib.Omega.{arith}
-use lib.Dec.{leb, ltb}
+use lib.Dec.{leb}
 use borrow.Author.Tests.{le-leb, lt-leb, lt-ltb, le-ltb}
 use Rattle.process_list.specs.declared.Interpolation.{Interpolation}
 use Rattle.process_list.specs.declared.Kind.{Kind}
@@ -15,7 +15,7 @@ use Rattle.xml.specs.Bytes.{bytes, same}
 use Rattle.clf.specs.Nodes.{whole_from, cube_dim, cube_shape}
 use Rattle.tags.specs.Code.{DigitsOf, PointsOf}
 use Rattle.tags.specs.declared.Digits.{Digits}
-use Rattle.tags.specs.declared.PointsRead.TheVariants.{Is, Other}
+use Rattle.std.specs.Prelude.{Some, None}
 
 -- ---- the text "n n n 3" of a number of one digit, and of two
 
@@ -65,10 +65,10 @@ never true = refl
 never false = refl
 
 module _ (t : List ℕ) (r : Digits) (d : DigitsOf t r) where
-  pub points-few : r.value < 2 → PointsOf t Other
+  pub points-few : r.value < 2 → PointsOf t None
   points-few h i = sym (shape-by i t ∙ rw (lt-leb 2 (whole_from 0 t) (omega (arith, d.value))))
 
-  pub points-many : 33 < r.value → PointsOf t Other
+  pub points-many : 33 < r.value → PointsOf t None
   points-many h i = sym (shape-by i t ∙ rw (lt-leb (whole_from 0 t) 33 (omega (arith, d.value)), never (leb 2 (whole_from 0 t))))
 
   counted : r.value ≤ 33 → whole_from 0 t ≡ r.value
@@ -78,8 +78,8 @@ module _ (t : List ℕ) (r : Digits) (d : DigitsOf t r) where
     by-dim : (i : Interpolation) → cube_shape i t ≡ cond v (some (Lut3d r.value i)) none
     by-dim i = shape-by i t ∙ ap (shape_by i t) (counted most) ∙ rw (le-leb 2 r.value least, le-leb r.value 33 most, ← e)
 
-    pub points-is : v ≡ true → PointsOf t (Is r.value)
+    pub points-is : v ≡ true → PointsOf t (Some r.value)
     points-is h i = sym (by-dim i ∙ ap (λ (x : Bool). cond x (some (Lut3d r.value i)) none) h)
 
-    pub points_none : v ≡ false → PointsOf t Other
+    pub points_none : v ≡ false → PointsOf t None
     points_none h i = sym (by-dim i ∙ ap (λ (x : Bool). cond x (some (Lut3d r.value i)) none) h)

@@ -67,13 +67,13 @@ module _ (t : List ℕ) (n i : ℕ) (v : DigitsInv t n i) where
         rest = sym (v.rest ∙ ap behind_digits (here t i h) ∙ ap (λ (d : Bool). cond d (behind_digits l) (b ∷ l)) q ∙ sym (here t i h));
       }
 
-  pub digits-end : length t ≤ i → DigitsOf t (record { value = n; end = i })
+  pub digits-end : length t ≤ i → DigitsOf t (record { value = n; end = length t })
   digits-end h =
       let w : cap (whole_from 0 t) ≡ cap n = v.whole ∙ ap (λ (x : List ℕ). cap (whole_from n x)) (past t i h) in
       record {
         value = omega (arith, v.small);
-        within = v.within;
-        rest = sym (v.rest ∙ ap behind_digits (past t i h) ∙ sym (past t i h));
+        within = omega arith;
+        rest = sym (v.rest ∙ ap behind_digits (past t i h) ∙ sym (past t (length t) (omega arith)));
       }
 
 -- ---- the shape that it says

@@ -2,7 +2,7 @@
 use mathlib.Core.Path.{◌≡◌, refl, ap, ◌∙◌}
 use mathlib.Core.Bool.{Bool, true, false, cond}
 use mathlib.Core.List.{List, [], ◌∷◌}
-use Prim.Native.Nat.{ℕ, ◌+◌, ◌-◌, ◌<◌}
+use Prim.Native.Nat.{ℕ, ◌+◌, ◌<◌}
 use native.Mathlib.Omega.{arith}
 use lib.ListN.{length, get_or, drop, length-drop}
 use Rattle.scanning.specs.Steps.{here, part_length}
@@ -10,10 +10,10 @@ use Rattle.grammar.specs.Parse.{Out, done, fault, cut, then_out, ret_p, span_p, 
 use Rattle.xml.specs.Bytes.{bytes, same, is_space, is_letter, is_digit, is_name_byte, is_quote}
 use Rattle.xml.specs.Xml.{spaces, name, text, plain, is_named, attribute, start_tag, Attribute}
 use Rattle.xml.specs.Code.{part}
-use Rattle.tags.specs.Code.{to_quote, no_attributes, with_attribute, AttributeInside}
+use Rattle.tags.specs.Code.{to_quote, no_attributes, places, with_attribute, AttributeInside}
 use Rattle.tags.specs.Places.{place_behind, attribute_places_from, attribute_places}
 use Rattle.tags.specs.declared.Attributes.{Attributes}
-use Rattle.tags.specs.declared.AttributeRead.TheVariants as Reads
+use Rattle.std.specs.Prelude.{Ok}
 
 module _ (s : List ℕ) (i : ℕ) (h : i < length s) where
   abbrev behind_spaces : ℕ → ℕ
@@ -47,13 +47,13 @@ module _ (s : List ℕ) (i : ℕ) (h : i < length s) where
   attributes-space q (a ∷ l) attributes = rw (space-on q) refl
 
   -- the first of the attributes that are left stands here
-  pub attributes-attribute : is_space (get_or s i 0) ≡ false → (e a t : ℕ) → AttributeInside s i (Reads.At e a t) → (l : List Attribute) (attributes : Attributes)
+  pub attributes-attribute : is_space (get_or s i 0) ≡ false → (e a t : ℕ) → AttributeInside s i (Ok (places i e a t)) → (l : List Attribute) (attributes : Attributes)
       → attribute_places_from s i (record { name = part s i e; text = part s a t } ∷ l) attributes ≡ attribute_places_from s (t + 1) l (with_attribute attributes i e a t)
   unfolding attribute_places_from
   attributes-attribute q e a t v l attributes =
       let n : behind_spaces i ≡ i = space-here q in
       let x : i + length (part s i e) ≡ e = omega (arith, v, part_length s i e (omega (arith, v)) (omega (arith, v))) in
-      let y : place_behind s (to_quote.run (drop e s)) ≡ a = ap (place_behind s) v.4 ∙ simp length-drop (omega (arith, v)) in
+      let y : place_behind s (to_quote.run (drop e s)) ≡ a = ap (place_behind s) v.5 ∙ simp length-drop (omega (arith, v)) in
       let z : a + length (part s a t) ≡ t = omega (arith, v, part_length s a t (omega (arith, v)) (omega (arith, v))) in
       rw (n, x, y, z) refl
 

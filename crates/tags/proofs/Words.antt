@@ -1,19 +1,23 @@
 -- The rules on names and texts, as equations. Assumes nothing.
 use mathlib.Core.Path.{◌≡◌, refl, sym, ap, ◌∙◌}
 use mathlib.Core.Bool.{Bool, true, false, cond, ◌||◌}
-use mathlib.Core.List.{List, [], ◌∷◌}
+use mathlib.Core.List.{List, []}
 use mathlib.Core.Option.{none, some}
-use Prim.Native.Nat.{ℕ, ◌-◌, ◌≤◌, ◌<◌}
+use Prim.Native.Nat.{ℕ, ◌+◌, ◌-◌, ◌≤◌, ◌<◌}
 use native.Mathlib.Omega.{arith}
-use lib.Dec.{eqb, leb}
-use lib.ListN.{length, get_or, take, drop}
+use lib.Dec.{leb}
+use lib.ListN.{length, take, drop}
 use borrow.Author.Tests.{le-leb, lt-leb}
+use Rattle.std.specs.Prelude.{◌⊎◌, Option, Some, None, MatchOption, slice_range}
+use Rattle.std.specs.Option.{unwrap_or}
+use Rattle.std.proofs.Common.{Bor}
+use mathlib.Core.Logic.{inl, inr}
 use Rattle.process_list.specs.declared.Depth.TheVariants.{I8, I10, I12, I16, F16, F32}
 use Rattle.process_list.specs.declared.Kind.TheVariants.{Matrix}
 use Rattle.xml.specs.Bytes.{bytes, same}
 use Rattle.xml.specs.Code.{part}
 use Rattle.tags.specs.Code.{part_in}
-use Rattle.clf.specs.Nodes.{is_some, depth_of, matrix_shape, lut_columns, begins_with_zero}
+use Rattle.clf.specs.Nodes.{is_some, depth_of, matrix_shape, lut_columns}
 
 pub depth_of-def : (t : List ℕ) → depth_of t ≡
     cond (same t (bytes "8i")) (some I8)
@@ -39,16 +43,6 @@ matrix_shape-fault t = go (same t (bytes "3 3")) (same t (bytes "3 4"))
     go false true = refl
     go false false = refl
 
--- ---- a text that begins with `0`
-
-pub zero-none : (t : List ℕ) → length t ≡ 0 → false ≡ begins_with_zero t
-zero-none [] h = refl
-zero-none (b ∷ t) h = absurd (omega arith)
-
-pub zero-some : (t : List ℕ) → (length t ≡ 0 → ⊥) → eqb (get_or t 0 0) 48 ≡ begins_with_zero t
-zero-some [] h = absurd (h refl)
-zero-some (b ∷ t) h = refl
-
 -- ---- a part of the bytes, within them or not
 
 either-none : (v : Bool) → ◌≡◌ {A = List ℕ} (cond v [] []) []
@@ -70,3 +64,10 @@ part_in_lem s a e h = sym (ap (λ (v : Bool). cond v (part s a e) []) (le-leb e 
 pub part-nothing : (s : List ℕ) → part_in s 0 0 ≡ []
 unfolding part_in
 part-nothing s = either-none (leb 0 (length s))
+
+-- as `get` has it, and no bytes where it has none
+pub part-got : (s : List ℕ) (a e : ℕ) (o : Option (Bor (List ℕ))) (none_there : Bor (List ℕ)) → none_there.now ≡ []
+    → MatchOption o ((e < a) ⊎ (length s < e)) (λ x. (a ≤ e) × (e ≤ length s) × (x.now ≡ slice_range s a e) × (length x.now + a ≡ e)) → (unwrap_or o none_there).now ≡ part_in s a e
+part-got s a e None d z (inl h) = z ∙ part-order s a e h
+part-got s a e None d z (inr h) = z ∙ part-past s a e h
+part-got s a e (Some x) d z m = m.2 ∙ part_in_lem s a e m.1

@@ -1,5 +1,4 @@
 -- What each start tag asks of its attributes.
-use Rattle.std.specs.Prelude.{ℕ}
 use Rattle.xml.specs.Xml.{Rules, plain}
 use Rattle.clf.specs.Numbers.{value_rules}
 use Rattle.clf.specs.Nodes.{node_rules, array_rules, matrix_shape, lut_shape, cube_shape, lut_names, lut_texts, cube_texts, range_texts, cdl_rules, not_empty_rules}

@@ -8,24 +8,13 @@ ghost use Rattle.text_out.specs.Output.{counted, Puts};
 
 use decimal::Decimal;
 
-// The next index; the largest one has none.
-fn next(at: usize) -> usize
-    ensures { result ≡ counted (at + 1) }
-{
-    if at < usize::MAX {
-        return at + 1;
-    }
-    at
-}
-
 fn put_byte(out: &mut [u8], at: usize, b: u8) -> usize
     ensures { Puts (λ t. b ∷ t) at out.old out.new result }
 {
     if at < out.len() {
         out[at] = b;
-        return next(at);
     }
-    next(at)
+    at.saturating_add(1)
 }
 
 // The bytes of a text.
@@ -33,10 +22,8 @@ pub fn put(out: &mut [u8], at: usize, text: &[u8]) -> usize
     ensures { Puts (λ t. text.now ++ t) at out.old out.new result }
 {
     let mut held = at;
-    let mut i = 0;
-    while i < text.len() {
-        held = put_byte(out, held, text[i]);
-        i += 1;
+    for b in text {
+        held = put_byte(out, held, *b);
     }
     held
 }

@@ -17,7 +17,7 @@ use Rattle.process_list.specs.declared.Depth.{Depth}
 use Rattle.process_list.specs.declared.Depth.TheVariants.{I8}
 use Rattle.process_list.specs.declared.Node.{Node}
 use Rattle.process_list.specs.declared.ProcessList.{ProcessList}
-use Rattle.process_list.specs.declared.Verdict.TheVariants.{Accepted}
+use Rattle.std.proofs.Common.{Ok}
 use Rattle.process_list.specs.List.{Element, most_nodes, numbers_of, node_of, unplaced, with_position, total, place_from, placed, capped, blank_node, list_of, nodes_of, judged, verdict, same_depth, all_numbers}
 use Rattle.process_list.specs.File.{file_node, file_list}
 use Rattle.process_list.proofs.Maps.{map-drop}
@@ -202,7 +202,7 @@ module _ (m : Room) where
       let P : List Decimal → Type 0 = λ ys. map (element_of (filled_with ys m)) (place_from (length x) (map node_of (e ∷ es))) ≡ e ∷ es in
       subst P (sym a) (rw (l, element-back x e (all_numbers es) p.0, elements-back (x ++ e.numbers) es p.1) refl)
 
-  module _ (es : List Element) (s : every sound es ≡ true) (v : verdict (room_length m) es ≡ Accepted) where
+  module _ (es : List Element) (s : every sound es ≡ true) (v : verdict (room_length m) es ≡ Ok tt) where
     fine : Fine (room_length m) (map node_of es)
     unfolding verdict
     fine = accepted-fine (room_length m) (map node_of es) v
@@ -434,7 +434,7 @@ zero-filled m t h z =
 pub record Reading (l : ProcessList) (m : Room) (es : List Element) : Type 0 where
   pub list : file_list l ≡ list_of (placed es)
   pub room : m ≡ filled_with (all_numbers es) m
-  pub accepted : verdict (room_length m) es ≡ Accepted
+  pub accepted : verdict (room_length m) es ≡ Ok tt
   pub sounds : every sound es ≡ true
 
 module _ (l : ProcessList) (m : Room) (h : is_valid l m ≡ true) where
@@ -481,7 +481,7 @@ module _ (l : ProcessList) (m : Room) (array : length l.nodes ≡ 32) (h : is_va
       let n : length (map file_node (nodes_of l)) ≡ l.count = length-map (nodes_of l) file_node ∙ held in
       rw (list-is (map file_node (nodes_of l)) (omega arith), length-map, nodes-back, held) refl
 
-  accepted-back : verdict (room_length m) (elements_of l m) ≡ Accepted
+  accepted-back : verdict (room_length m) (elements_of l m) ≡ Ok tt
   unfolding verdict placed
   accepted-back = sym (place-judged (room_length m) 0 (map node_of (elements_of l m))) ∙ ap (judged (room_length m)) back ∙ file-judged (room_length m) (nodes_of l) ∙ right.accepted
 

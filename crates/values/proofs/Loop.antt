@@ -20,11 +20,13 @@ use Rattle.xml.specs.Xml.{spaces, byte, comment, open_name, close_name, end_tag}
 use Rattle.xml.specs.Elements.{forbidden, only_end}
 use Rattle.xml.specs.Code.{Reads, no_value}
 use Rattle.xml.specs.CodeLaws.{look_at}
-use Rattle.xml.specs.declared.Scan.{Scan}
-use Rattle.xml.specs.declared.Scan.TheVariants.{At, Fault, Cut}
+use Rattle.xml.specs.Code.{Scan}
+use Rattle.std.specs.Prelude.{Ok, Err}
+use Rattle.xml.specs.declared.Stop.{Stop}
+use Rattle.xml.specs.declared.Stop.TheVariants.{Fault, Cut}
 use Rattle.clf.specs.Numbers.{ends_token, token, said_by, fault_of, number_byte, numbers}
 use Rattle.values.specs.Code.{number_token, TokenReads, Laid, NumbersStored}
-use Rattle.values.specs.declared.TokenRead.TheVariants as Reading
+use Rattle.values.specs.declared.TokenRead.{TokenRead}
 use Rattle.values.proofs.Tokens.{ends-neither}
 use Rattle.values.proofs.Stored.{laid-none-yet, laid_then, laid_from}
 
@@ -109,16 +111,16 @@ module _ {w : List ℕ} {n : ℕ} {rule : Decimal → ℕ} {s : List ℕ} {at ba
   pub numbers-from : RoomFrom base m₀ m
   numbers-from = laid_from base v.xs m₀ m v.room
 
-  numbers-cut : run v.xs (drop i s) ≡ cut → Read Cut
+  numbers-cut : run v.xs (drop i s) ≡ cut → Read (Err Cut)
   unfolding numbers
   numbers-cut q = record { xs = v.xs; out = sym (v.out ∙ q); inside = tt; counted = tt; room = v.room }
 
-  numbers-fault : (k q : ℕ) → i ≤ q → q ≤ length s → run v.xs (drop i s) ≡ fault k (drop q s) → Read (Fault k q)
+  numbers-fault : (k q : ℕ) → i ≤ q → q ≤ length s → run v.xs (drop i s) ≡ fault k (drop q s) → Read (Err (Fault k q))
   unfolding numbers
   numbers-fault k q h j e = record { xs = v.xs; out = sym (v.out ∙ e); inside = (omega (arith, v.low), j); counted = tt; room = v.room }
 
   -- the bytes have ended
-  pub numbers-ended : length s ≤ i → Read Cut
+  pub numbers-ended : length s ≤ i → Read (Err Cut)
   numbers-ended h = numbers-cut (ap (run v.xs) (past s i h) ∙ loop-cut one v.xs [] refl)
 
   module _ (h : i < length s) where
@@ -164,7 +166,7 @@ module _ {w : List ℕ} {n : ℕ} {rule : Decimal → ℕ} {s : List ℕ} {at ba
             K o = then_out o (λ u. ret_p (last v.xs))
 
             go : (r : Scan) → Reads 1 (only_end w (cond (ltb count n) 22 0)).run no_value s i r → Read r
-            go (At e) u =
+            go (Ok e) u =
                 let j : (i + 1 ≤ e) × (e ≤ length s) = u.inside in
                 record {
                   xs = v.xs;
@@ -173,8 +175,8 @@ module _ {w : List ℕ} {n : ℕ} {rule : Decimal → ℕ} {s : List ℕ} {at ba
                   counted = all_there e (ltb count n) refl u.out;
                   room = v.room;
                 }
-            go (Fault k e) u = numbers-fault k e u.inside.0 u.inside.1 (loop-fault one v.xs (drop i s) k (drop e s) (end-turn ∙ ap K (sym u.out)))
-            go Cut u = numbers-cut (loop-cut one v.xs (drop i s) (end-turn ∙ ap K (sym u.out)))
+            go (Err (Fault k e)) u = numbers-fault k e u.inside.0 u.inside.1 (loop-fault one v.xs (drop i s) k (drop e s) (end-turn ∙ ap K (sym u.out)))
+            go (Err Cut) u = numbers-cut (loop-cut one v.xs (drop i s) (end-turn ∙ ap K (sym u.out)))
 
       module _ (nl : get_or s i 0 ≡ 60 → ⊥) where
         abbrev K : Out Decimal → Out (Turn (List Decimal) (List Decimal))
@@ -205,25 +207,25 @@ module _ {w : List ℕ} {n : ℕ} {rule : Decimal → ℕ} {s : List ℕ} {at ba
                 let y : ends_token (get_or s i 0) ≡ true = rw g q in
                 nope (cc (ends-neither (get_or s i 0) ns nl))
 
-        pub token-forward : (d : Decimal) (e : ℕ) → TokenReads n rule count s i (Reading.Number d e) → (i < e) × (e ≤ length s)
-        token-forward d e t = (forward e t.inside.1 t.inside.3, t.inside.2)
+        module _ (t : TokenRead) (r : TokenReads n rule count s i (Ok t)) where
+          pub token-forward : (i < t.end) × (t.end ≤ length s)
+          token-forward = (forward t.end r.inside.1 r.inside.3, r.inside.2)
 
-        -- one number more
-        pub numbers-token : (d : Decimal) (e : ℕ) (m₁ : Room) → TokenReads n rule count s i (Reading.Number d e) → Laid (base + count) (d ∷ []) m m₁ → NumbersInv w n rule s at base m₀ e (count + 1) m₁
-        numbers-token d e m₁ t z =
-            let j : i < e = forward e t.inside.1 t.inside.3 in
-            let q : e ≤ length s = t.inside.2 in
-            record {
-              xs = v.xs ++ d ∷ [];
-              counted = rw v.counted (sym (length-append v.xs (d ∷ [])));
-              low = omega (arith, v.low);
-              most = omega (arith, t.inside.0);
-              out = v.out ∙ loop-again one v.xs (drop i s) (v.xs ++ d ∷ []) (drop e s) (token-turn ∙ ap K (sym t.out)) (simp length-drop (omega arith));
-              room = laid_then base v.xs (d ∷ []) m₀ m m₁ v.room (rw v.counted at z);
-            }
+          -- one number more
+          pub numbers-token : (m₁ : Room) → Laid (base + count) (t.number ∷ []) m m₁ → NumbersInv w n rule s at base m₀ t.end (count + 1) m₁
+          numbers-token m₁ z =
+              let j : i < t.end = token-forward.0 in
+              record {
+                xs = v.xs ++ t.number ∷ [];
+                counted = rw v.counted (sym (length-append v.xs (t.number ∷ [])));
+                low = omega (arith, v.low);
+                most = omega (arith, r.inside.0);
+                out =
+                    v.out ∙ loop-again one v.xs (drop i s) (v.xs ++ t.number ∷ []) (drop t.end s) (token-turn ∙ ap K (sym r.out)) (simp length-drop (omega (arith, token-forward)));
+                room = laid_then base v.xs (t.number ∷ []) m₀ m m₁ v.room (rw v.counted at z);
+              }
 
-        pub numbers-token-fault : (k q : ℕ) → TokenReads n rule count s i (Reading.Fault k q) → Read (Fault k q)
-        numbers-token-fault k q t = numbers-fault k q t.inside.0 t.inside.1 (loop-fault one v.xs (drop i s) k (drop q s) (token-turn ∙ ap K (sym t.out)))
-
-        pub numbers-token-cut : TokenReads n rule count s i Reading.Cut → Read Cut
-        numbers-token-cut t = numbers-cut (loop-cut one v.xs (drop i s) (token-turn ∙ ap K (sym t.out)))
+        -- a token at fault or cut short
+        pub numbers-stop : (x : Stop) → TokenReads n rule count s i (Err x) → Read (Err x)
+        numbers-stop (Fault k q) t = numbers-fault k q t.inside.0 t.inside.1 (loop-fault one v.xs (drop i s) k (drop q s) (token-turn ∙ ap K (sym t.out)))
+        numbers-stop Cut t = numbers-cut (loop-cut one v.xs (drop i s) (token-turn ∙ ap K (sym t.out)))

@@ -6,13 +6,14 @@ use native.Mathlib.Omega.{arith}
 use lib.ListN.{length}
 use Rattle.decimal.specs.declared.Decimal.{Decimal}
 use Rattle.grammar.specs.Parse.{Parser}
-use Rattle.xml.specs.Code.{Failed}
-use Rattle.xml.specs.declared.Scan.{Scan}
-use Rattle.xml.specs.declared.Scan.TheVariants.{At, Fault, Cut}
-use Rattle.room.specs.Room.{Room, room_length, stored_in, laid_in, cleared_in, cleared_from}
+use Rattle.grammar.specs.Laws.{nope}
+use Rattle.xml.specs.Code.{Scan}
+use Rattle.std.specs.Prelude.{Ok, Err, true}
+use Rattle.std.specs.Result.{is_err}
+use Rattle.room.specs.Room.{Room, room_length, stored_in, laid_in, cleared_from}
 use Rattle.room.proofs.Laws.{stored-out}
 use Rattle.room.proofs.Rooms.{same-room, laid-nothing, laid_both, stored_one, RoomFrom, from-laid, from-cleared, cleared-same}
-use Rattle.values.specs.Code.{Laid, NumbersStored, NumbersRead, kept_or_cleared}
+use Rattle.values.specs.Code.{Laid, NumbersStored, NumbersRead}
 
 -- ---- one run after the other
 
@@ -40,15 +41,6 @@ laid_from base xs m₀ m₁ e = subst (λ (m : Room). RoomFrom base m₀ m) (sym
 
 -- ---- what a fault leaves
 
-pub cleared-to : (base n : ℕ) (m m₁ : Room) → n ≡ room_length m → m₁ ≡ cleared_in base n m → m₁ ≡ cleared_from base m
-cleared-to base n m m₁ q e = e ∙ ap (λ (k : ℕ). cleared_in base k m) q
-
--- at an answer that is no next place
-pub fault-clears : (r : Scan) (base n : ℕ) (m m₁ : Room) → Failed r → n ≡ room_length m → m₁ ≡ cleared_in base n m → m₁ ≡ kept_or_cleared base r m
-fault-clears (At e) base n m m₁ f q e₁ = absurd f
-fault-clears (Fault k p) base n m m₁ f q e = cleared-to base n m m₁ q e
-fault-clears Cut base n m m₁ f q e = cleared-to base n m m₁ q e
-
 -- cleared, it is as the room before, cleared so
 pub cleared-laid : (base : ℕ) (xs : List Decimal) (m₀ m₁ : Room) → Laid base xs m₀ m₁ → cleared_from base m₁ ≡ cleared_from base m₀
 cleared-laid base xs m₀ m₁ e = cleared-same base m₀ m₁ (laid_from base xs m₀ m₁ e)
@@ -56,10 +48,7 @@ cleared-laid base xs m₀ m₁ e = cleared-same base m₀ m₁ (laid_from base x
 pub cleared-twice : (base : ℕ) (m₀ m₁ : Room) → m₁ ≡ cleared_from base m₀ → cleared_from base m₁ ≡ cleared_from base m₀
 cleared-twice base m₀ m₁ e = cleared-same base m₀ m₁ (subst (λ (m : Room). RoomFrom base m₀ m) (sym e) (from-cleared base base m₀ (omega arith)))
 
-module _ (n : ℕ) (p : Parser (List Decimal)) (s : List ℕ) (at base : ℕ) (m₀ m₁ m₂ : Room) where
-  pub numbers-kept : (r : Scan) → NumbersStored n p s at base r m₀ m₁ → m₂ ≡ kept_or_cleared base r m₁ → NumbersRead n p s at base r m₀ m₂
-  numbers-kept (At e) v q = record { xs = v.xs; out = v.out; inside = v.inside; counted = v.counted; room = q ∙ v.room }
-  numbers-kept (Fault k e) v q =
-      record { xs = v.xs; out = v.out; inside = v.inside; counted = tt; room = q ∙ cleared-laid base v.xs m₀ m₁ v.room }
-  numbers-kept Cut v q =
-      record { xs = v.xs; out = v.out; inside = v.inside; counted = tt; room = q ∙ cleared-laid base v.xs m₀ m₁ v.room }
+module _ (n : ℕ) (p : Parser (List Decimal)) (s : List ℕ) (at base : ℕ) (m₀ m₁ : Room) where
+  pub numbers-cleared : (m₂ : Room) (r : Scan) → true ≡ is_err r → NumbersStored n p s at base r m₀ m₁ → m₂ ≡ cleared_from base m₁ → NumbersRead n p s at base r m₀ m₂
+  numbers-cleared m₂ (Ok e) q v h = nope cc
+  numbers-cleared m₂ (Err x) q v h = record { xs = v.xs; out = v.out; inside = v.inside; counted = tt; room = h ∙ cleared-laid base v.xs m₀ m₁ v.room }

@@ -1,44 +1,39 @@
 #![tactic(auto)]
 
 // The numbers of value elements and Arrays, stored in the table room as they are read.
-ghost use Rattle.std.specs.Prelude.{◌≡◌, cond, [], ◌∷◌, ◌+◌, leb, ltb};
-ghost use Rattle.decimal.specs.declared.Token.TheVariants as Tokens;
+ghost use Rattle.std.specs.Prelude.{◌≡◌, cond, Ok, [], ◌∷◌, ◌+◌, leb, ltb};
 ghost use Rattle.decimal_value.specs.Value.{is_one};
-ghost use Rattle.room.specs.Room.{lent};
+ghost use Rattle.room.specs.Room.{lent, cleared_from};
 ghost use Rattle.clf.specs.Numbers as Numbers;
-ghost use Rattle.values.specs.Code.{rule_of, judged_as, TokenBytes, TokenReads, Laid, kept_or_cleared, NumbersStored, NumbersRead};
+ghost use Rattle.values.specs.Code.{rule_of, judged_as, TokenBytes, TokenReads, Laid, NumbersStored, NumbersRead};
 
-use decimal::{Decimal, Token};
+use decimal::{Decimal, NumberFault};
 use tags::TagKind;
-use xml::Scan;
+use xml::{Scan, Stop};
 
 // The rule on each number of an element.
-#[derive(Clone, Copy)]
+#[derive(Clone, Copy, Debug, PartialEq, Eq)]
 pub enum Rule {
     Any,
     NotNegative,
     One,
 }
 
-// A token: the number that it says and its end, or its fault.
-#[derive(Clone, Copy)]
-enum TokenRead {
-    Number(Decimal, usize),
-    Fault(u8, usize),
-    Cut,
+// A token: the number that it says, and its end.
+#[derive(Clone, Copy, Debug, PartialEq, Eq)]
+struct TokenRead {
+    number: Decimal,
+    end: usize,
 }
 
 // Whether a byte ends a token.
 fn ends_token(b: u8) -> bool
     ensures { result ≡ Numbers.ends_token b }
 {
-    if xml::is_space(b) {
-        return true;
-    }
-    b == b'<'
+    xml::is_space(b) || b == b'<'
 }
 
-// The bytes of a token.
+// The bytes of a token. The place jumps behind an `&` form, so no `for` counts it.
 fn token(s: &[u8], at: usize) -> Scan
     ensures { TokenBytes s.now at result }
 {
@@ -46,20 +41,18 @@ fn token(s: &[u8], at: usize) -> Scan
     while i < s.len() {
         let b = s[i];
         if ends_token(b) {
-            return Scan::At(i);
+            return Ok(i);
         }
         if b == b'&' {
-            let r = xml::entity(s, i);
-            let Scan::At(e) = r else {
-                return r;
-            };
-            i = e;
+            i = xml::entity(s, i)?;
         } else {
             i += 1;
         }
     }
-    Scan::Cut
+    Err(Stop::Cut)
 }
+
+// A fault is its number here, and 0 is none: so the definitions have it that the contracts cite (`fault_of` and the rules of `clf/Numbers`).
 
 // 'a Power above 0 that is not 1'
 fn not_one(d: Decimal) -> u8
@@ -72,6 +65,7 @@ fn not_one(d: Decimal) -> u8
 }
 
 // What the rule says of a number.
+#[tactic(auto, unfolding(crate::specs::Code::rule_of))]
 fn rule_fault(rule: Rule, d: Decimal) -> u8
     ensures { result ≡ rule_of rule d }
 {
@@ -93,17 +87,24 @@ fn rule_fault(rule: Rule, d: Decimal) -> u8
 }
 
 // The number d of the token from `at` to e, after `count` numbers of n.
-fn judged(d: Decimal, at: usize, e: usize, n: usize, rule: Rule, count: usize) -> TokenRead
-    ensures { result ≡ judged_as (Numbers.fault_of n (rule_of rule) count (Tokens.Number d)) d at e }
+fn judged(
+    d: Decimal,
+    at: usize,
+    e: usize,
+    n: usize,
+    rule: Rule,
+    count: usize,
+) -> Result<TokenRead, Stop>
+    ensures { result ≡ judged_as (Numbers.fault_of n (rule_of rule) count (Ok d)) d at e }
 {
     if n <= count {
-        return TokenRead::Fault(refusals::WRONG_COUNT, at);
+        return Err(Stop::Fault(refusals::WRONG_COUNT, at));
     }
     let k = rule_fault(rule, d);
     if k != 0 {
-        return TokenRead::Fault(k, at);
+        return Err(Stop::Fault(k, at));
     }
-    TokenRead::Number(d, e)
+    Ok(TokenRead { number: d, end: e })
 }
 
 // The fault of a token of the right form that is out of bounds, after `count` numbers of n.
@@ -117,21 +118,14 @@ fn beyond_bounds(n: usize, count: usize) -> u8
 }
 
 // The token at `at`, after `count` numbers of n.
-fn token_read(s: &[u8], at: usize, n: usize, rule: Rule, count: usize) -> TokenRead
+fn token_read(s: &[u8], at: usize, n: usize, rule: Rule, count: usize) -> Result<TokenRead, Stop>
     ensures { TokenReads n (rule_of rule) count s.now at result }
 {
-    let r = token(s, at);
-    match r {
-        Scan::At(e) => {
-            let t = decimal_read::number(&s[at..e]);
-            match t {
-                Token::Number(d) => judged(d, at, e, n, rule, count),
-                Token::Malformed => TokenRead::Fault(refusals::NO_NUMBER, at),
-                Token::OutOfBounds => TokenRead::Fault(beyond_bounds(n, count), at),
-            }
-        }
-        Scan::Fault(k, p) => TokenRead::Fault(k, p),
-        Scan::Cut => TokenRead::Cut,
+    let e = token(s, at)?;
+    match decimal_read::number(&s[at..e]) {
+        Ok(d) => judged(d, at, e, n, rule, count),
+        Err(NumberFault::Malformed) => Err(Stop::Fault(refusals::NO_NUMBER, at)),
+        Err(NumberFault::OutOfBounds) => Err(Stop::Fault(beyond_bounds(n, count), at)),
     }
 }
 
@@ -149,17 +143,13 @@ fn too_few(count: usize, n: usize) -> u8
 pub fn store(coefficients: &mut [i64], powers: &mut [i8], base: usize, j: usize, d: Decimal)
     ensures { Laid (base + j) (d ∷ []) (lent coefficients.old powers.old) (lent coefficients.new powers.new) }
 {
-    let length = coefficients.len();
-    if length <= base {
-        return;
+    if j < coefficients.len().saturating_sub(base) {
+        room::store(coefficients, powers, base + j, d);
     }
-    if length - base <= j {
-        return;
-    }
-    room::store(coefficients, powers, base + j, d);
 }
 
-// The n numbers of an element of the name w, each kept to the rule, and its end tag. They are stored from `base` on as they are read.
+// The n numbers of an element of the name w, each kept to the rule, and its end tag. They are stored from `base` on as they are read. The place jumps behind a token, so no
+// `for` counts it.
 fn stored_numbers(
     s: &[u8],
     at: usize,
@@ -182,57 +172,21 @@ fn stored_numbers(
         } else if b == b'<' {
             return markup::only_end(s, i, w, too_few(count, n));
         } else {
-            let t = token_read(s, i, n, rule, count);
-            match t {
-                TokenRead::Number(d, e) => {
-                    store(coefficients, powers, base, count, d);
-                    count += 1;
-                    i = e;
-                }
-                TokenRead::Fault(k, p) => {
-                    return Scan::Fault(k, p);
-                }
-                TokenRead::Cut => {
-                    return Scan::Cut;
-                }
-            }
+            let t = token_read(s, i, n, rule, count)?;
+            store(coefficients, powers, base, count, t.number);
+            count += 1;
+            i = t.end;
         }
     }
-    Scan::Cut
+    Err(Stop::Cut)
 }
 
-// A value element of the name w, behind its name.
-fn stored_value(
-    s: &[u8],
-    at: usize,
-    w: &[u8],
-    n: usize,
-    rule: Rule,
-    coefficients: &mut [i64],
-    powers: &mut [i8],
-    base: usize,
-) -> Scan
-    ensures { NumbersStored n (Numbers.value_element w.now n (rule_of rule)).run s.now at base result (lent coefficients.old powers.old)
-        (lent coefficients.new powers.new) }
+// Zeroes the room from `base` on.
+pub fn clear_from(coefficients: &mut [i64], powers: &mut [i8], base: usize)
+    ensures { lent coefficients.new powers.new ≡ cleared_from base (lent coefficients.old powers.old) }
 {
-    let tag = tags::start_tag(s, at, TagKind::Value);
-    let end = tag.end;
-    let r = tags::behind(end);
-    let Scan::At(q) = r else {
-        return r;
-    };
-    stored_numbers(s, q, w, n, rule, coefficients, powers, base)
-}
-
-// Clears the room from `base` on, where an answer is no next place.
-pub fn clear_at_fault(r: Scan, coefficients: &mut [i64], powers: &mut [i8], base: usize)
-    ensures { lent coefficients.new powers.new ≡ kept_or_cleared base r (lent coefficients.old powers.old) }
-{
-    let Scan::At(e) = r else {
-        let length = room::length(coefficients, powers);
-        room::clear(coefficients, powers, base, length);
-        return;
-    };
+    let length = room::length(coefficients, powers);
+    room::clear(coefficients, powers, base, length);
 }
 
 // The n numbers of an element of the name w, each kept to the rule, and its end tag. They stand from `base` on; at a fault the room is zero from there on.
@@ -250,7 +204,9 @@ pub fn numbers(
         (lent coefficients.new powers.new) }
 {
     let r = stored_numbers(s, at, w, n, rule, coefficients, powers, base);
-    clear_at_fault(r, coefficients, powers, base);
+    if r.is_err() {
+        clear_from(coefficients, powers, base);
+    }
     r
 }
 
@@ -268,7 +224,14 @@ pub fn value_element(
     ensures { NumbersRead n (Numbers.value_element w.now n (rule_of rule)).run s.now at base result (lent coefficients.old powers.old)
         (lent coefficients.new powers.new) }
 {
-    let r = stored_value(s, at, w, n, rule, coefficients, powers, base);
-    clear_at_fault(r, coefficients, powers, base);
-    r
+    match tags::start_tag(s, at, TagKind::Value) {
+        Ok(tag) => {
+            let q = tag.end.behind();
+            numbers(s, q, w, n, rule, coefficients, powers, base)
+        }
+        Err(stop) => {
+            clear_from(coefficients, powers, base);
+            Err(stop)
+        }
+    }
 }

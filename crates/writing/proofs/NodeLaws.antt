@@ -9,13 +9,14 @@ use mathlib.Core.List.{List, [], ◌∷◌, ◌++◌}
 use Prim.Native.Nat.{ℕ, zero, suc, ◌+◌, ◌*◌, ◌≤◌, ◌<◌}
 use native.Mathlib.Omega.{arith}
 use native.Mathlib.Numerals.{add-one}
-use lib.ListN.{length, drop, get_or, drop_of_length-le}
-use lib.Seq.{drop-cons}
+use lib.ListN.{length, take, drop, get_or, drop_of_length-le, length-take}
+use lib.Seq.{drop-cons, get_or-take}
 use Rattle.process_list.specs.declared.Kind.{Kind}
 use Rattle.process_list.specs.declared.Kind.TheVariants.{Matrix, Lut1d, Range, Cdl, Lut3d, OneEnd}
 use Rattle.process_list.specs.declared.Node.{Node}
 use Rattle.process_list.specs.declared.ProcessList.{ProcessList}
-use Rattle.process_list.specs.List.{cube_numbers, numbers_of, nodes_of, node_at, blank_node}
+use Rattle.process_list.specs.List.{cube_numbers, numbers_of, nodes_of, node_at, blank_node, Held}
+use Rattle.process_list.proofs.Maps.{getD-within}
 use Rattle.room.specs.Room.{Room, room_length}
 use Rattle.valid.specs.Valid.{every, sound, is_valid, numbers_at, element_of, elements_of}
 use Rattle.valid.proofs.Laws.{elements-at, elements-length}
@@ -105,6 +106,19 @@ unfolding every
 every-at p [] k d h j = absurd (omega arith)
 every-at p (x ∷ xs) zero d h j = (both_true (p x) (every p xs) h).0
 every-at p (x ∷ xs) (suc k) d h j = every-at p xs k d (both_true (p x) (every p xs) h).1 (omega arith)
+
+-- the loop's item of index k, read from the first n nodes with whatever default, is the list's node
+pub item-is : (l : ProcessList) (n k : ℕ) (d : Node) → Held l n → k < length (take n l.nodes) → get_or (take n l.nodes) k d ≡ node_at l k
+unfolding node_at nodes_of
+item-is l n k d h j =
+    let i : k < n × k < length l.nodes = omega (arith, length-take n l.nodes) in
+    let c : k < l.count = omega (arith, h.within) in
+    get_or-take _ _ _ _ i.0 ∙ getD-within l.nodes k d blank_node i.1 ∙ sym (get_or-take _ _ _ _ c)
+
+-- the loop goes over all nodes of the list
+pub items-length : (l : ProcessList) (n : ℕ) → Held l n → length (take n l.nodes) ≡ length (nodes_of l)
+unfolding nodes_of
+items-length l n h = omega (arith, h.nodes, length-take n l.nodes, length-take l.count l.nodes)
 
 module _ (m : Room) where
   module _ (l : ProcessList) where

@@ -118,15 +118,12 @@ fn put_content(
         Kind::Lut1d { entries, columns } => {
             put_table(out, at, coefficients, powers, from, entries, columns)
         }
-        Kind::Range { style: _ } => put_range(out, at, coefficients, powers, from),
-        Kind::Cdl { style: _ } => {
+        Kind::Range { .. } => put_range(out, at, coefficients, powers, from),
+        Kind::Cdl { .. } => {
             let held = put_sop(out, at, coefficients, powers, from);
             put_sat(out, held, coefficients, powers, from)
         }
-        Kind::Lut3d {
-            points,
-            interpolation: _,
-        } => put_cube(out, at, coefficients, powers, from, points),
+        Kind::Lut3d { points, .. } => put_cube(out, at, coefficients, powers, from, points),
         Kind::OneEnd { end } => put_one_end(out, at, end, coefficients, powers, from),
     }
 }
@@ -135,14 +132,9 @@ fn put_node(out: &mut [u8], at: usize, node: Node, coefficients: &[i64], powers:
     requires { node.at + numbers_of node.kind ≤ room_length (lent coefficients.now powers.now) }
     ensures { Puts (Tail.node_text (element_of (lent coefficients.now powers.now) node)) at out.old out.new result }
 {
-    let kind = node.kind;
-    let input = node.input;
-    let output = node.output;
-    let from = node.at;
-    let id = node.id;
-    let a = put_start(out, at, kind, input, output, &id);
-    let b = put_content(out, a, kind, coefficients, powers, from);
-    put_end(out, b, kind)
+    let a = put_start(out, at, node.kind, node.input, node.output, &node.id);
+    let b = put_content(out, a, node.kind, coefficients, powers, node.at);
+    put_end(out, b, node.kind)
 }
 
 // The nodes of a valid list.
@@ -158,11 +150,8 @@ pub fn put_nodes(
 {
     let count = process_list::held(list);
     let mut held = at;
-    let mut k: usize = 0;
-    while k < count {
-        let node = process_list::get(list, k);
-        held = put_node(out, held, node, coefficients, powers);
-        k += 1;
+    for node in &list.nodes[..count] {
+        held = put_node(out, held, *node, coefficients, powers);
     }
     held
 }

@@ -41,18 +41,11 @@ fn put_style(out: &mut [u8], at: usize, kind: Kind) -> usize
     ensures { Puts (λ t. Text.style_text kind ++ t) at out.old out.new result }
 {
     match kind {
-        Kind::Matrix { wide: _ } => at,
-        Kind::Lut1d {
-            entries: _,
-            columns: _,
-        } => at,
+        Kind::Matrix { .. } | Kind::Lut1d { .. } => at,
         Kind::Range { style } => put_range_style(out, at, style),
         Kind::Cdl { style } => put_cdl_style(out, at, style),
-        Kind::Lut3d {
-            points: _,
-            interpolation,
-        } => put_interpolation(out, at, interpolation),
-        Kind::OneEnd { end: _ } => put_range_style(out, at, RangeStyle::Clamp),
+        Kind::Lut3d { interpolation, .. } => put_interpolation(out, at, interpolation),
+        Kind::OneEnd { .. } => put_range_style(out, at, RangeStyle::Clamp),
     }
 }
 

@@ -32,11 +32,9 @@ fn put_spaced(
     ensures { Puts (Tail.spaced_text (numbers_at (lent coefficients.now powers.now) from count)) at out.old out.new result }
 {
     let mut held = at;
-    let mut i = 0;
-    while i < count {
+    for i in 0..count {
         held = text_out::put(out, held, b" ");
         held = put_number(out, held, coefficients, powers, from + i);
-        i += 1;
     }
     held
 }
@@ -75,12 +73,10 @@ fn put_rows(
 {
     let mut held = at;
     let mut k = from;
-    let mut i = 0;
-    while i < rows {
+    for i in 0..rows {
         held = put_row(out, held, coefficients, powers, k, columns);
         held = text_out::put(out, held, b"\n");
         k += columns;
-        i += 1;
     }
     held
 }
@@ -155,8 +151,7 @@ pub fn put_cube(
 {
     let a = text_out::put(out, at, b"<Array dim=\"");
     let b = put_cube_dims(out, a, points);
-    let square = points * points;
-    let entries = square * points;
+    let entries = points * points * points;
     put_lines(out, b, coefficients, powers, from, entries, 3)
 }
 

@@ -8,15 +8,16 @@ use lib.ListN.{length, get_or, drop}
 use lib.Dec.{eqb}
 use borrow.Author.Tests.{eq-eqb, ne_eqb, lt-ltb}
 use Rattle.scanning.specs.Steps.{here, past}
-use Rattle.grammar.specs.Parse.{Out, done, fault, cut, Turn, again, last, then_out, bind_p, ret_p, look_p, eat_p, span_p, turn_out, loop_p}
+use Rattle.grammar.specs.Parse.{Out, done, fault, cut, Turn, again, last, then_out, ret_p, look_p, eat_p, span_p, turn_out, loop_p}
 use Rattle.grammar.specs.Grammar.{ret, eat, ◌>>◌}
 use Rattle.grammar.specs.Laws.{nope, loop-step, loop-again, loop-last, loop-cut, loop-fault}
 use Rattle.xml.specs.Bytes.{bytes, dash, greater_than}
 use Rattle.xml.specs.Xml.{byte, word, after_dash, comment_part, comment}
-use Rattle.xml.specs.Code.{Reads, ReadsFrom, no_value, blamed_scan, Failed}
+use Rattle.xml.specs.Code.{Reads, ReadsFrom, no_value, blamed_scan, Failed, comment_found}
 use Rattle.xml.specs.CodeLaws.{reads-ended, reads-fewer, reads-from, reads-blame, reads_then, reads-failed}
-use Rattle.xml.specs.declared.Scan.{Scan}
-use Rattle.xml.specs.declared.Scan.TheVariants.{At, Fault, Cut}
+use Rattle.xml.specs.Code.{Scan}
+use Rattle.std.specs.Prelude.{Ok, Err}
+use Rattle.xml.specs.declared.Stop.TheVariants.{Fault, Cut}
 
 -- ---- a part of a comment, to its dash
 
@@ -103,7 +104,7 @@ pub comment-start : (s : List ℕ) (at : ℕ) → CommentInv s at at
 comment-start s at = record { low = omega arith; out = refl }
 
 module _ (s : List ℕ) (at i : ℕ) (v : CommentInv s at i) where
-  pub comment-end : length s ≤ i → Reads 1 body no_value s at Cut
+  pub comment-end : length s ≤ i → Reads 1 body no_value s at (Err Cut)
   unfolding comment_part
   comment-end h = record { out = sym (v.out ∙ ap body (past s i h) ∙ loop-cut (λ (st : Unit {0}). comment_part.run) tt [] refl); inside = tt }
 
@@ -115,7 +116,7 @@ module _ (s : List ℕ) (at i : ℕ) (v : CommentInv s at i) where
       at-dash : comment_part.run (drop i s) ≡ look_p (λ x. (after_dash x).run) (drop (i + 1) s)
       at-dash = ap comment_part.run (here s i h) ∙ part-dash (get_or s i 0) (drop (i + 1) s) (eq-eqb (get_or s i 0) 45 d)
 
-      pub comment-dash-end : length s ≤ i + 1 → Reads 1 body no_value s at Cut
+      pub comment-dash-end : length s ≤ i + 1 → Reads 1 body no_value s at (Err Cut)
       comment-dash-end k =
           record { out = sym (v.out ∙ loop-cut (λ (st : Unit {0}). comment_part.run) tt (drop i s) (at-dash ∙ ap (look_p (λ x. (after_dash x).run)) (past s (i + 1) k))); inside = tt }
 
@@ -139,36 +140,34 @@ module _ (s : List ℕ) (at i : ℕ) (v : CommentInv s at i) where
             K o = then_out o (λ x. ret_p (last tt))
 
             go : (r : Scan) → Reads 1 (byte greater_than 2).run (λ e. get_or s (i + 1 + 1) 0) s (i + 1 + 1) r → Reads 1 body no_value s at r
-            go (At e) w = record {
+            go (Ok e) w = record {
               out = sym (v.out ∙ loop-last (λ (st : Unit {0}). comment_part.run) tt (drop i s) tt (drop e s) (turn ∙ ap K (sym w.out)));
               inside = (omega (arith, v.low, w.inside), w.inside.1);
             }
-            go (Fault n p) w = record {
+            go (Err (Fault n p)) w = record {
               out = sym (v.out ∙ loop-fault (λ (st : Unit {0}). comment_part.run) tt (drop i s) n (drop p s) (turn ∙ ap K (sym w.out)));
               inside = (omega (arith, v.low, w.inside), w.inside.1);
             }
-            go Cut w = record { out = sym (v.out ∙ loop-cut (λ (st : Unit {0}). comment_part.run) tt (drop i s) (turn ∙ ap K (sym w.out))); inside = tt }
+            go (Err Cut) w = record { out = sym (v.out ∙ loop-cut (λ (st : Unit {0}). comment_part.run) tt (drop i s) (turn ∙ ap K (sym w.out))); inside = tt }
 
 -- ---- a comment
 
 module _ (s : List ℕ) (at : ℕ) where
-  pub comment-cut : length s ≤ at → Reads 1 comment.run no_value s at Cut
+  pub comment-cut : length s ≤ at → Reads 1 comment.run no_value s at (Err Cut)
   unfolding comment
   comment-cut h = reads-ended comment.run no_value s at 1 refl h
 
-  abbrev opened : List ℕ → Out (Unit {0})
-  opened = bind_p (word (bytes "<!--") 3).run (λ u. body)
+  -- a fault in it has its first byte for a place
+  pub comment-blamed : (r : Scan) → Reads 1 comment_found no_value s at r → Reads 1 comment.run no_value s at (blamed_scan r at)
+  unfolding comment
+  comment-blamed r v = reads-blame comment_found no_value s at 1 r v
 
   module _ (h : at < length s) where
-    pub comment-none : (r : Scan) → Failed r → ReadsFrom 4 (word (bytes "<!--") 3).run no_value s at r → Reads 1 comment.run no_value s at (blamed_scan r at)
-    unfolding comment
+    pub comment-none : (r : Scan) → Failed r → ReadsFrom 4 (word (bytes "<!--") 3).run no_value s at r → Reads 1 comment_found no_value s at r
     comment-none r f v =
-        reads-blame opened no_value s at 1 r
-        (reads-failed (word (bytes "<!--") 3).run no_value (λ u. body) no_value s at 4 1 r f (reads-from (word (bytes "<!--") 3).run no_value s at 4 r (omega arith) v))
+        reads-failed (word (bytes "<!--") 3).run no_value (λ u. body) no_value s at 4 1 r f (reads-from (word (bytes "<!--") 3).run no_value s at 4 r (omega arith) v)
 
-    pub comment-rest : (e : ℕ) (r : Scan) → ReadsFrom 4 (word (bytes "<!--") 3).run no_value s at (At e) → Reads 1 body no_value s e r → Reads 1 comment.run no_value s at (blamed_scan r at)
-    unfolding comment
+    pub comment-rest : (e : ℕ) (r : Scan) → ReadsFrom 4 (word (bytes "<!--") 3).run no_value s at (Ok e) → Reads 1 body no_value s e r → Reads 1 comment_found no_value s at r
     comment-rest e r v w =
-        reads-blame opened no_value s at 1 r
-        (reads-fewer opened no_value s at 5 1 r (omega arith)
-        (reads_then (word (bytes "<!--") 3).run no_value (λ u. body) no_value s at 4 1 e r (reads-from (word (bytes "<!--") 3).run no_value s at 4 (At e) (omega arith) v) w))
+        reads-fewer comment_found no_value s at 5 1 r (omega arith)
+        (reads_then (word (bytes "<!--") 3).run no_value (λ u. body) no_value s at 4 1 e r (reads-from (word (bytes "<!--") 3).run no_value s at 4 (Ok e) (omega arith) v) w)

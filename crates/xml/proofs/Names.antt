@@ -13,19 +13,20 @@ use Rattle.xml.specs.Xml.{name, open_name, close_name}
 use Rattle.xml.specs.Code.{part, Reads}
 use Rattle.xml.specs.CodeLaws.{reads-ended, look_at, reads-eat, reads_then, span-first}
 use Rattle.xml.proofs.Tests.{letter-in-name}
-use Rattle.xml.specs.declared.Scan.{Scan}
-use Rattle.xml.specs.declared.Scan.TheVariants.{At, Fault, Cut}
+use Rattle.xml.specs.Code.{Scan}
+use Rattle.std.specs.Prelude.{Ok, Err}
+use Rattle.xml.specs.declared.Stop.TheVariants.{Fault, Cut}
 
 module _ (s : List ℕ) (at : ℕ) where
-  pub name-cut : length s ≤ at → Reads 1 name.run (part s at) s at Cut
+  pub name-cut : length s ≤ at → Reads 1 name.run (part s at) s at (Err Cut)
   unfolding name
   name-cut h = reads-ended name.run (part s at) s at 1 refl h
 
-  pub open-cut : length s ≤ at → Reads 2 open_name.run (part s (at + 1)) s at Cut
+  pub open-cut : length s ≤ at → Reads 2 open_name.run (part s (at + 1)) s at (Err Cut)
   unfolding open_name
   open-cut h = reads-ended open_name.run (part s (at + 1)) s at 2 refl h
 
-  pub close-cut : length s ≤ at → Reads 3 close_name.run (part s (at + 2)) s at Cut
+  pub close-cut : length s ≤ at → Reads 3 close_name.run (part s (at + 2)) s at (Err Cut)
   unfolding close_name
   close-cut h = reads-ended close_name.run (part s (at + 2)) s at 3 refl h
 
@@ -40,7 +41,7 @@ module _ (s : List ℕ) (at : ℕ) where
         let w : Reads 1 (span_p is_name_byte) (part s at) s at r = span-first is_name_byte 0 s at r h (letter-in-name (get_or s at 0) q) v in
         record { out = w.out ∙ sym (by-letter true q); inside = w.inside }
 
-    pub name-other : is_letter (get_or s at 0) ≡ false → Reads 1 name.run (part s at) s at (Fault 2 at)
+    pub name-other : is_letter (get_or s at 0) ≡ false → Reads 1 name.run (part s at) s at (Err (Fault 2 at))
     name-other q = record { out = sym (by-letter false q); inside = (omega arith, omega arith) }
 
     pub open-name : (r : Scan) → Reads 1 name.run (part s (at + 1)) s (at + 1) r → Reads 2 open_name.run (part s (at + 1)) s at r
@@ -58,6 +59,6 @@ module _ (s : List ℕ) (at : ℕ) where
         z = omega arith
 
         go : (r : Scan) → Reads 2 open_name.run (part s (at + 1 + 1)) s (at + 1) r → Reads 3 close_name.run (part s (at + 2)) s at r
-        go (At e) v = record { out = ap (λ (n : ℕ). done (part s n e) (drop e s)) z ∙ v.out ∙ sym close-run; inside = (omega (arith, v.inside), v.inside.1) }
-        go (Fault k q) v = record { out = v.out ∙ sym close-run; inside = (omega (arith, v.inside), v.inside.1) }
-        go Cut v = record { out = v.out ∙ sym close-run; inside = tt }
+        go (Ok e) v = record { out = ap (λ (n : ℕ). done (part s n e) (drop e s)) z ∙ v.out ∙ sym close-run; inside = (omega (arith, v.inside), v.inside.1) }
+        go (Err (Fault k q)) v = record { out = v.out ∙ sym close-run; inside = (omega (arith, v.inside), v.inside.1) }
+        go (Err Cut) v = record { out = v.out ∙ sym close-run; inside = tt }

@@ -14,8 +14,9 @@ use Rattle.grammar.specs.Laws.{loop-again, loop-last, loop-cut, loop-fault}
 use Rattle.xml.specs.Xml.{entity, text_byte, text}
 use Rattle.xml.specs.Code.{part, Reads, no_value, Failed}
 use Rattle.xml.specs.CodeLaws.{look_at}
-use Rattle.xml.specs.declared.Scan.{Scan}
-use Rattle.xml.specs.declared.Scan.TheVariants.{At, Fault, Cut}
+use Rattle.xml.specs.Code.{Scan}
+use Rattle.std.specs.Prelude.{Ok, Err}
+use Rattle.xml.specs.declared.Stop.TheVariants.{Fault, Cut}
 
 -- the bytes between two places
 between-places : (s : List ℕ) (at e : ℕ) → at ≤ e → e ≤ length s → before (drop at s) (drop e s) ≡ part s at e
@@ -39,22 +40,22 @@ module _ (stop : ℕ → Bool) where
   text-start s at = record { low = omega arith; out = refl }
 
   module _ (s : List ℕ) (at i : ℕ) (v : TextInv s at i) where
-    text-done : (e : ℕ) → at ≤ e → e ≤ length s → run (drop i s) ≡ done tt (drop e s) → Reads 0 (text stop).run (λ e. (tt, part s at e)) s at (At e)
+    text-done : (e : ℕ) → at ≤ e → e ≤ length s → run (drop i s) ≡ done tt (drop e s) → Reads 0 (text stop).run (λ e. (tt, part s at e)) s at (Ok e)
     unfolding text
     text-done e h k q = record {
       out = sym (ap (λ (o : Out (Unit {0})). kept_out o (drop at s)) (v.out ∙ q) ∙ ap (λ (l : List ℕ). done (tt, l) (drop e s)) (between-places s at e h k));
       inside = (omega arith, k);
     }
 
-    text-fault : (k p : ℕ) → at ≤ p → p ≤ length s → run (drop i s) ≡ fault k (drop p s) → Reads 0 (text stop).run (λ e. (tt, part s at e)) s at (Fault k p)
+    text-fault : (k p : ℕ) → at ≤ p → p ≤ length s → run (drop i s) ≡ fault k (drop p s) → Reads 0 (text stop).run (λ e. (tt, part s at e)) s at (Err (Fault k p))
     unfolding text
     text-fault k p h j q = record { out = sym (ap (λ (o : Out (Unit {0})). kept_out o (drop at s)) (v.out ∙ q)); inside = (h, j) }
 
-    text-cut : run (drop i s) ≡ cut → Reads 0 (text stop).run (λ e. (tt, part s at e)) s at Cut
+    text-cut : run (drop i s) ≡ cut → Reads 0 (text stop).run (λ e. (tt, part s at e)) s at (Err Cut)
     unfolding text
     text-cut q = record { out = sym (ap (λ (o : Out (Unit {0})). kept_out o (drop at s)) (v.out ∙ q)); inside = tt }
 
-    pub text-end : length s ≤ i → Reads 0 (text stop).run (λ e. (tt, part s at e)) s at Cut
+    pub text-end : length s ≤ i → Reads 0 (text stop).run (λ e. (tt, part s at e)) s at (Err Cut)
     text-end h = text-cut (ap run (past s i h) ∙ loop-cut one tt [] refl)
 
     module _ (h : i < length s) where
@@ -68,13 +69,13 @@ module _ (stop : ℕ → Bool) where
           ∙ ap (λ (t : Bool). (choose x t (eqb (get_or s i 0) 38)).run (drop i s)) qy
           ∙ ap (λ (t : Bool). (choose x y t).run (drop i s)) qz
 
-      pub text-stop : stop (get_or s i 0) ≡ true → Reads 0 (text stop).run (λ e. (tt, part s at e)) s at (At i)
+      pub text-stop : stop (get_or s i 0) ≡ true → Reads 0 (text stop).run (λ e. (tt, part s at e)) s at (Ok i)
       text-stop q =
           text-done i v.low (omega arith)
           (loop-last one tt (drop i s) tt (drop i s) (turn true (eqb (get_or s i 0) 60) (eqb (get_or s i 0) 38) q refl refl))
 
       module _ (ns : stop (get_or s i 0) ≡ false) where
-        pub text-less : get_or s i 0 ≡ 60 → Reads 0 (text stop).run (λ e. (tt, part s at e)) s at (Fault 2 i)
+        pub text-less : get_or s i 0 ≡ 60 → Reads 0 (text stop).run (λ e. (tt, part s at e)) s at (Err (Fault 2 i))
         text-less q =
             text-fault 2 i v.low (omega arith)
             (loop-fault one tt (drop i s) 2 (drop i s) (turn false true (eqb (get_or s i 0) 38) ns (eq-eqb (get_or s i 0) 60 q) refl))
@@ -95,7 +96,7 @@ module _ (stop : ℕ → Bool) where
             abbrev K : Out (Unit {0}) → Out (Turn (Unit {0}) (Unit {0}))
             K o = then_out o (λ u. ret_p (again tt))
 
-            pub text-and : (e : ℕ) → Reads 1 entity.run no_value s i (At e) → TextInv s at e
+            pub text-and : (e : ℕ) → Reads 1 entity.run no_value s i (Ok e) → TextInv s at e
             text-and e r =
                 let k : (i + 1 ≤ e) × (e ≤ length s) = r.inside in
                 record {
@@ -104,6 +105,6 @@ module _ (stop : ℕ → Bool) where
                 }
 
             pub text-failed : (r : Scan) → Failed r → Reads 1 entity.run no_value s i r → Reads 0 (text stop).run (λ e. (tt, part s at e)) s at r
-            text-failed (At e) f r = absurd f
-            text-failed (Fault k p) f r = text-fault k p (omega (arith, v.low, r.inside)) r.inside.1 (loop-fault one tt (drop i s) k (drop p s) (and-turn ∙ ap K (sym r.out)))
-            text-failed Cut f r = text-cut (loop-cut one tt (drop i s) (and-turn ∙ ap K (sym r.out)))
+            text-failed (Ok e) f r = absurd f
+            text-failed (Err (Fault k p)) f r = text-fault k p (omega (arith, v.low, r.inside)) r.inside.1 (loop-fault one tt (drop i s) k (drop p s) (and-turn ∙ ap K (sym r.out)))
+            text-failed (Err Cut) f r = text-cut (loop-cut one tt (drop i s) (and-turn ∙ ap K (sym r.out)))

@@ -11,8 +11,9 @@ use Rattle.scanning.specs.Steps.{here, past}
 use Rattle.grammar.specs.Parse.{Out, fault, judged_to, then_out}
 use Rattle.xml.specs.Xml.{byte, word}
 use Rattle.xml.specs.Code.{Reads, ReadsFrom, no_value, Failed}
-use Rattle.xml.specs.declared.Scan.{Scan}
-use Rattle.xml.specs.declared.Scan.TheVariants.{At, Fault, Cut}
+use Rattle.xml.specs.Code.{Scan}
+use Rattle.std.specs.Prelude.{Ok, Err}
+use Rattle.xml.specs.declared.Stop.TheVariants.{Fault, Cut}
 
 -- ---- a byte
 
@@ -20,19 +21,19 @@ module _ (s : List ℕ) (at c k : ℕ) where
   byte-here : at < length s → (t : Bool) → eqb (get_or s at 0) c ≡ t → (byte c k).run (drop at s) ≡ judged_to (cond t 0 k) (get_or s at 0) (drop (at + 1) s) (get_or s at 0 ∷ drop (at + 1) s)
   byte-here h t q = ap (byte c k).run (here s at h) ∙ ap (λ (t : Bool). judged_to (cond t 0 k) (get_or s at 0) (drop (at + 1) s) (get_or s at 0 ∷ drop (at + 1) s)) q
 
-  pub byte_cut : length s ≤ at → Reads 1 (byte c k).run (λ e. get_or s at 0) s at Cut
+  pub byte_cut : length s ≤ at → Reads 1 (byte c k).run (λ e. get_or s at 0) s at (Err Cut)
   byte_cut h = record { out = sym (ap (byte c k).run (past s at h)); inside = tt }
 
-  pub byte-is : at < length s → get_or s at 0 ≡ c → Reads 1 (byte c k).run (λ e. get_or s at 0) s at (At (at + 1))
+  pub byte-is : at < length s → get_or s at 0 ≡ c → Reads 1 (byte c k).run (λ e. get_or s at 0) s at (Ok (at + 1))
   byte-is h q = record { out = sym (byte-here h true (eq-eqb (get_or s at 0) c q)); inside = (omega arith, omega arith) }
 
-  pub byte-any : at < length s → (get_or s at 0 ≡ c → ⊥) → k ≡ 0 → Reads 1 (byte c k).run (λ e. get_or s at 0) s at (At (at + 1))
+  pub byte-any : at < length s → (get_or s at 0 ≡ c → ⊥) → k ≡ 0 → Reads 1 (byte c k).run (λ e. get_or s at 0) s at (Ok (at + 1))
   byte-any h q z = record {
     out = sym (byte-here h false (ne_eqb (get_or s at 0) c q) ∙ ap (λ (n : ℕ). judged_to n (get_or s at 0) (drop (at + 1) s) (get_or s at 0 ∷ drop (at + 1) s)) z);
     inside = (omega arith, omega arith);
   }
 
-  pub byte-other : at < length s → (get_or s at 0 ≡ c → ⊥) → (k ≡ 0 → ⊥) → Reads 1 (byte c k).run (λ e. get_or s at 0) s at (Fault k at)
+  pub byte-other : at < length s → (get_or s at 0 ≡ c → ⊥) → (k ≡ 0 → ⊥) → Reads 1 (byte c k).run (λ e. get_or s at 0) s at (Err (Fault k at))
   byte-other h q z = record {
     out = sym (byte-here h false (ne_eqb (get_or s at 0) c q) ∙ go k z ∙ ap (fault k) (sym (here s at h)));
     inside = (omega arith, omega arith);
@@ -56,7 +57,7 @@ pub word-start : (s : List ℕ) (at : ℕ) (w : List ℕ) (k : ℕ) → WordInv 
 word-start s at w k = record { low = omega arith; left = omega arith; high = λ h. h; still = λ h. refl; out = refl }
 
 module _ (s : List ℕ) (at : ℕ) (w : List ℕ) (k i j : ℕ) (v : WordInv s at w k i j) where
-  pub word-done : length w ≤ j → ReadsFrom (length w) (word w k).run no_value s at (At i)
+  pub word-done : length w ≤ j → ReadsFrom (length w) (word w k).run no_value s at (Ok i)
   word-done h = record {
     out = sym (v.out ∙ ap (λ (l : List ℕ). (word l k).run (drop i s)) (past w j h));
     inside = λ g. (omega (arith, v.low), v.high g);
@@ -70,7 +71,7 @@ module _ (s : List ℕ) (at : ℕ) (w : List ℕ) (k i j : ℕ) (v : WordInv s a
     abbrev K : Out ℕ → Out (Unit {0})
     K o = then_out o (λ b. (word (drop (j + 1) w) k).run)
 
-    pub word_more : (e : ℕ) → Reads 1 (byte (get_or w j 0) k).run (λ e. get_or s i 0) s i (At e) → WordInv s at w k e (j + 1)
+    pub word_more : (e : ℕ) → Reads 1 (byte (get_or w j 0) k).run (λ e. get_or s i 0) s i (Ok e) → WordInv s at w k e (j + 1)
     word_more e r = record {
       low = omega (arith, v.low, r.inside);
       left = omega arith;
@@ -80,10 +81,10 @@ module _ (s : List ℕ) (at : ℕ) (w : List ℕ) (k i j : ℕ) (v : WordInv s a
     }
 
     pub word-failed : (r : Scan) → Failed r → Reads 1 (byte (get_or w j 0) k).run (λ e. get_or s i 0) s i r → ReadsFrom (length w) (word w k).run no_value s at r
-    word-failed (At e) h r = absurd h
-    word-failed (Fault n q) h r = record {
+    word-failed (Ok e) h r = absurd h
+    word-failed (Err (Fault n q)) h r = record {
       out = ap K r.out ∙ sym turn;
       inside = λ g. (omega (arith, v.low, r.inside), r.inside.1);
       beyond = λ g. absurd (omega (arith, v.low, r.inside));
     }
-    word-failed Cut h r = record { out = ap K r.out ∙ sym turn; inside = λ g. tt; beyond = λ g. tt }
+    word-failed (Err Cut) h r = record { out = ap K r.out ∙ sym turn; inside = λ g. tt; beyond = λ g. tt }

@@ -1,11 +1,12 @@
 -- Laws of `Reads`, for proofs of functions that read a slice from a place on. None names a grammar of this crate. Assumes nothing.
-use Rattle.std.specs.Prelude.{◌≡◌, refl, Bool, true, false, cond, ◌⊎◌, List, [], ◌∷◌, ◌++◌, ℕ, zero, suc, ◌+◌, ◌-◌, ◌≤◌, ◌<◌, length, take, drop, get_or, leb}
-use Rattle.std.proofs.Common.{sym, ap, ◌∙◌, inl, inr, append_assoc, append-nil, arith, length-drop, take-suc, get_or-drop, lt-ltb, leb-true, leb-false}
+use Rattle.std.specs.Prelude.{◌≡◌, refl, Bool, true, false, cond, List, [], ◌∷◌, ◌++◌, ℕ, zero, suc, ◌+◌, ◌-◌, ◌≤◌, ◌<◌, length, take, drop, get_or, leb}
+use Rattle.std.proofs.Common.{sym, ap, ◌∙◌, append_assoc, append-nil, arith, length-drop, take-suc, get_or-drop, lt-ltb, leb-true, leb-false}
 use Rattle.scanning.specs.Steps.{here, past}
 use Rattle.grammar.specs.Parse.{Out, done, fault, cut, Parser, then_out, bind_p, ret_p, look_p, eat_p, span_p, strict_out, strict_p, look_two_p, judged_to, judge_out, judge_p, blame_out, blame_p}
 use Rattle.xml.specs.Code.{part, scan_out, scan_at, Inside, Stays, Reads, ReadsFrom, blamed_scan, Failed}
-use Rattle.xml.specs.declared.Scan.{Scan}
-use Rattle.xml.specs.declared.Scan.TheVariants.{At, Fault, Cut}
+use Rattle.xml.specs.Code.{Scan}
+use Rattle.std.specs.Prelude.{Ok, Err}
+use Rattle.xml.specs.declared.Stop.TheVariants.{Fault, Cut}
 
 -- ---- parts of a slice
 
@@ -28,22 +29,15 @@ part-first s a e h k =
 
 -- ---- one answer
 
--- the arm of a `match` for every answer but `At`, whose tag is 0
-pub not_at : (tag : Scan → ℕ) → ((e : ℕ) → tag (At e) ≡ 0) → (r : Scan) → (tag r ≡ 1) ⊎ (tag r ≡ 2) → Failed r
-not_at tag z (At e) (inl q) = omega (arith, z e)
-not_at tag z (At e) (inr q) = omega (arith, z e)
-not_at tag z (Fault k p) h = tt
-not_at tag z Cut h = tt
-
 module _ {A : Type 0} (p : Parser A) (value : ℕ → A) (s : List ℕ) (at : ℕ) where
   -- the bytes have ended
-  pub reads-ended : (n : ℕ) → p [] ≡ cut → length s ≤ at → Reads n p value s at Cut
+  pub reads-ended : (n : ℕ) → p [] ≡ cut → length s ≤ at → Reads n p value s at (Err Cut)
   reads-ended n q h = record { out = sym (ap p (past s at h) ∙ q); inside = tt }
 
   fewer : (n m : ℕ) → m ≤ n → (r : Scan) → Inside n s at r → Inside m s at r
-  fewer n m h (At e) i = (omega arith, i.1)
-  fewer n m h (Fault k q) i = i
-  fewer n m h Cut i = tt
+  fewer n m h (Ok e) i = (omega arith, i.1)
+  fewer n m h (Err (Fault k q)) i = i
+  fewer n m h (Err Cut) i = tt
 
   -- n bytes at least are m at least
   pub reads-fewer : (n m : ℕ) (r : Scan) → m ≤ n → Reads n p value s at r → Reads m p value s at r
@@ -55,9 +49,9 @@ module _ {A : Type 0} (p : Parser A) (value : ℕ → A) (s : List ℕ) (at : �
 
   -- a fault in it has its first byte for a place
   pub reads-blame : (n : ℕ) (r : Scan) → Reads n p value s at r → Reads n (blame_p p) value s at (blamed_scan r at)
-  reads-blame n (At e) v = record { out = ap (λ (o : Out A). blame_out o (drop at s)) v.out; inside = v.inside }
-  reads-blame n (Fault k q) v = record { out = ap (λ (o : Out A). blame_out o (drop at s)) v.out; inside = (omega arith, omega (arith, v.inside)) }
-  reads-blame n Cut v = record { out = ap (λ (o : Out A). blame_out o (drop at s)) v.out; inside = tt }
+  reads-blame n (Ok e) v = record { out = ap (λ (o : Out A). blame_out o (drop at s)) v.out; inside = v.inside }
+  reads-blame n (Err (Fault k q)) v = record { out = ap (λ (o : Out A). blame_out o (drop at s)) v.out; inside = (omega arith, omega (arith, v.inside)) }
+  reads-blame n (Err Cut) v = record { out = ap (λ (o : Out A). blame_out o (drop at s)) v.out; inside = tt }
 
 -- ---- a place within the bytes is determined by the bytes that are left there: there is one answer
 
@@ -71,14 +65,14 @@ place-beyond s at h = omega arith
 
 module _ {A : Type 0} (value : ℕ → A) (s : List ℕ) (at : ℕ) where
   placed-inside : (n : ℕ) (r : Scan) → Inside n s at r → r ≡ scan_at at (drop at s) (scan_out value s r)
-  placed-inside n (At e) i = ap At (place-left s at e (omega (arith, i.0)) i.1)
-  placed-inside n (Fault k q) i = ap (Fault k) (place-left s at q i.0 i.1)
-  placed-inside n Cut i = refl
+  placed-inside n (Ok e) i = ap Ok (place-left s at e (omega (arith, i.0)) i.1)
+  placed-inside n (Err (Fault k q)) i = ap (λ z. Err (Fault k z)) (place-left s at q i.0 i.1)
+  placed-inside n (Err Cut) i = refl
 
   placed-beyond : (r : Scan) → length s < at → Stays at r → r ≡ scan_at at (drop at s) (scan_out value s r)
-  placed-beyond (At e) h q = rw q (ap At (place-beyond s at h))
-  placed-beyond (Fault k e) h q = rw q (ap (Fault k) (place-beyond s at h))
-  placed-beyond Cut h q = refl
+  placed-beyond (Ok e) h q = rw q (ap Ok (place-beyond s at h))
+  placed-beyond (Err (Fault k e)) h q = rw q (ap (λ z. Err (Fault k z)) (place-beyond s at h))
+  placed-beyond (Err Cut) h q = refl
 
 module _ {A : Type 0} (p : Parser A) (value : ℕ → A) (s : List ℕ) (at n : ℕ) (r : Scan) where
   -- the answer of every function whose contract is `Reads`
@@ -104,7 +98,7 @@ module _ {A : Type 0} (f : ℕ → Parser A) (s : List ℕ) (at : ℕ) (h : at <
   reads-look p value n r q v = record { out = v.out ∙ sym (look_at ∙ ap (λ (g : Parser A). g (drop at s)) q); inside = v.inside }
 
 -- a byte, whatever it is
-pub reads-eat : (s : List ℕ) (at : ℕ) → at < length s → Reads 1 eat_p (λ e. get_or s at 0) s at (At (at + 1))
+pub reads-eat : (s : List ℕ) (at : ℕ) → at < length s → Reads 1 eat_p (λ e. get_or s at 0) s at (Ok (at + 1))
 reads-eat s at h = record { out = sym (ap eat_p (here s at h)); inside = (omega arith, omega arith) }
 
 -- by the next two bytes
@@ -118,28 +112,28 @@ look-two-at f s at h =
 -- ---- one after the other
 
 module _ {A B : Type 0} (p : Parser A) (value : ℕ → A) (f : A → Parser B) (value₂ : ℕ → B) (s : List ℕ) (at : ℕ) where
-  inside-then : (n m e : ℕ) → Inside n s at (At e) → (r : Scan) → Inside m s e r → Inside (n + m) s at r
-  inside-then n m e i (At e₂) j = (omega arith, j.1)
-  inside-then n m e i (Fault k q) j = (omega arith, j.1)
-  inside-then n m e i Cut j = tt
+  inside-then : (n m e : ℕ) → Inside n s at (Ok e) → (r : Scan) → Inside m s e r → Inside (n + m) s at r
+  inside-then n m e i (Ok e₂) j = (omega arith, j.1)
+  inside-then n m e i (Err (Fault k q)) j = (omega arith, j.1)
+  inside-then n m e i (Err Cut) j = tt
 
-  pub reads_then : (n m e : ℕ) (r : Scan) → Reads n p value s at (At e) → Reads m (f (value e)) value₂ s e r → Reads (n + m) (bind_p p f) value₂ s at r
+  pub reads_then : (n m e : ℕ) (r : Scan) → Reads n p value s at (Ok e) → Reads m (f (value e)) value₂ s e r → Reads (n + m) (bind_p p f) value₂ s at r
   reads_then n m e r v w = record {
     out = w.out ∙ ap (λ (o : Out A). then_out o f) v.out;
     inside = inside-then n m e v.inside r w.inside;
   }
 
   pub reads-failed : (n m : ℕ) (r : Scan) → Failed r → Reads n p value s at r → Reads m (bind_p p f) value₂ s at r
-  reads-failed n m (At e) h v = absurd h
-  reads-failed n m (Fault k q) h v = record { out = ap (λ (o : Out A). then_out o f) v.out; inside = v.inside }
-  reads-failed n m Cut h v = record { out = ap (λ (o : Out A). then_out o f) v.out; inside = tt }
+  reads-failed n m (Ok e) h v = absurd h
+  reads-failed n m (Err (Fault k q)) h v = record { out = ap (λ (o : Out A). then_out o f) v.out; inside = v.inside }
+  reads-failed n m (Err Cut) h v = record { out = ap (λ (o : Out A). then_out o f) v.out; inside = tt }
 
 module _ {A B : Type 0} (p : Parser A) (value : ℕ → A) (b : B) (s : List ℕ) (at : ℕ) where
   -- another value in place of the one that was read
   pub reads-ret : (n : ℕ) (r : Scan) → Reads n p value s at r → Reads n (bind_p p (λ a. ret_p b)) (λ e. b) s at r
-  reads-ret n (At e) v = record { out = ap (λ (o : Out A). then_out o (λ a. ret_p b)) v.out; inside = v.inside }
-  reads-ret n (Fault k q) v = record { out = ap (λ (o : Out A). then_out o (λ a. ret_p b)) v.out; inside = v.inside }
-  reads-ret n Cut v = record { out = ap (λ (o : Out A). then_out o (λ a. ret_p b)) v.out; inside = tt }
+  reads-ret n (Ok e) v = record { out = ap (λ (o : Out A). then_out o (λ a. ret_p b)) v.out; inside = v.inside }
+  reads-ret n (Err (Fault k q)) v = record { out = ap (λ (o : Out A). then_out o (λ a. ret_p b)) v.out; inside = v.inside }
+  reads-ret n (Err Cut) v = record { out = ap (λ (o : Out A). then_out o (λ a. ret_p b)) v.out; inside = tt }
 
 -- ---- a value that is judged, and a byte at least that is read
 
@@ -152,13 +146,13 @@ verdict-ill (suc k) a r s q = refl
 
 module _ {A : Type 0} (p : Parser A) (value : ℕ → A) (s : List ℕ) (at : ℕ) where
   module _ (j : A → ℕ) where
-    pub reads-well : (n e : ℕ) → j (value e) ≡ 0 → Reads n p value s at (At e) → Reads n (judge_p j p) value s at (At e)
+    pub reads-well : (n e : ℕ) → j (value e) ≡ 0 → Reads n p value s at (Ok e) → Reads n (judge_p j p) value s at (Ok e)
     reads-well n e q v = record {
       out = sym (ap (λ (o : Out A). judge_out j o (drop at s)) (sym v.out) ∙ verdict-well (j (value e)) (value e) (drop e s) (drop at s) q);
       inside = v.inside;
     }
 
-    pub reads-ill : (n m e k : ℕ) → j (value e) ≡ k → (k ≡ 0 → ⊥) → Reads n p value s at (At e) → Reads m (judge_p j p) value s at (Fault k at)
+    pub reads-ill : (n m e k : ℕ) → j (value e) ≡ k → (k ≡ 0 → ⊥) → Reads n p value s at (Ok e) → Reads m (judge_p j p) value s at (Err (Fault k at))
     reads-ill n m e k q z v = record {
       out = sym (ap (λ (o : Out A). judge_out j o (drop at s)) (sym v.out) ∙ ap (λ (i : ℕ). judged_to i (value e) (drop e s) (drop at s)) q
           ∙ verdict-ill k (value e) (drop e s) (drop at s) z);
@@ -166,20 +160,20 @@ module _ {A : Type 0} (p : Parser A) (value : ℕ → A) (s : List ℕ) (at : �
     }
 
     pub reads-unjudged : (n m : ℕ) (r : Scan) → Failed r → Reads n p value s at r → Reads m (judge_p j p) value s at r
-    reads-unjudged n m (At e) f v = absurd f
-    reads-unjudged n m (Fault k q) f v = record { out = ap (λ (o : Out A). judge_out j o (drop at s)) v.out; inside = v.inside }
-    reads-unjudged n m Cut f v = record { out = ap (λ (o : Out A). judge_out j o (drop at s)) v.out; inside = tt }
+    reads-unjudged n m (Ok e) f v = absurd f
+    reads-unjudged n m (Err (Fault k q)) f v = record { out = ap (λ (o : Out A). judge_out j o (drop at s)) v.out; inside = v.inside }
+    reads-unjudged n m (Err Cut) f v = record { out = ap (λ (o : Out A). judge_out j o (drop at s)) v.out; inside = tt }
 
   -- it has read a byte already
   pub reads-strict : (n : ℕ) (r : Scan) → 1 ≤ n → Reads n p value s at r → Reads n (strict_p p) value s at r
-  reads-strict n (At e) h v =
+  reads-strict n (Ok e) h v =
       let l : length (drop e s) < length (drop at s) = simp length-drop (omega (arith, v.inside)) in
       record {
         out = sym (ap (λ (o : Out A). strict_out o (drop at s)) (sym v.out) ∙ ap (λ (t : Bool). cond t (done (value e) (drop e s)) cut) (lt-ltb (length (drop e s)) (length (drop at s)) l));
         inside = v.inside;
       }
-  reads-strict n (Fault k q) h v = record { out = ap (λ (o : Out A). strict_out o (drop at s)) v.out; inside = v.inside }
-  reads-strict n Cut h v = record { out = ap (λ (o : Out A). strict_out o (drop at s)) v.out; inside = tt }
+  reads-strict n (Err (Fault k q)) h v = record { out = ap (λ (o : Out A). strict_out o (drop at s)) v.out; inside = v.inside }
+  reads-strict n (Err Cut) h v = record { out = ap (λ (o : Out A). strict_out o (drop at s)) v.out; inside = tt }
 
 -- ---- the bytes that pass a test
 
@@ -218,7 +212,7 @@ module _ (test : ℕ → Bool) where
   }
 
   -- the first that does not
-  pub span-stop : (s : List ℕ) (at i : ℕ) → SpanInv s at i → i < length s → test (get_or s i 0) ≡ false → Reads 0 (span_p test) (part s at) s at (At i)
+  pub span-stop : (s : List ℕ) (at i : ℕ) → SpanInv s at i → i < length s → test (get_or s i 0) ≡ false → Reads 0 (span_p test) (part s at) s at (Ok i)
   span-stop s at i v h q = record {
     out = sym (v.out ∙ ap (λ (o : Out (List ℕ)). then_out o (λ w. ret_p (part s at i ++ w)))
         (ap (span_p test) (here s i h) ∙ span-no (get_or s i 0) (drop (i + 1) s) q ∙ ap (λ (l : List ℕ). done [] l) (sym (here s i h)))
@@ -227,7 +221,7 @@ module _ (test : ℕ → Bool) where
   }
 
   -- none is left
-  pub span-end : (s : List ℕ) (at i : ℕ) → SpanInv s at i → length s ≤ i → Reads 0 (span_p test) (part s at) s at Cut
+  pub span-end : (s : List ℕ) (at i : ℕ) → SpanInv s at i → length s ≤ i → Reads 0 (span_p test) (part s at) s at (Err Cut)
   span-end s at i v h = record {
     out = sym (v.out ∙ ap (λ (l : List ℕ). then_out (span_p test l) (λ w. ret_p (part s at i ++ w))) (past s i h));
     inside = tt;
@@ -245,11 +239,11 @@ module _ (test : ℕ → Bool) where
       K o = then_out o (λ w. ret_p (get_or s at 0 ∷ w))
 
       go : (r : Scan) → Reads n (span_p test) (part s (at + 1)) s (at + 1) r → Reads (1 + n) (span_p test) (part s at) s at r
-      go (At e) v =
+      go (Ok e) v =
           let i : (at + 1 + n ≤ e) × (e ≤ length s) = v.inside in
           record {
             out = ap (λ (l : List ℕ). done l (drop e s)) (part-first s at e (omega arith) i.1) ∙ ap K v.out ∙ sym first;
             inside = (omega arith, i.1);
           }
-      go (Fault k e) v = record { out = ap K v.out ∙ sym first; inside = (omega (arith, v.inside), v.inside.1) }
-      go Cut v = record { out = ap K v.out ∙ sym first; inside = tt }
+      go (Err (Fault k e)) v = record { out = ap K v.out ∙ sym first; inside = (omega (arith, v.inside), v.inside.1) }
+      go (Err Cut) v = record { out = ap K v.out ∙ sym first; inside = tt }

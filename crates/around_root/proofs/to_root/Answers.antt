@@ -1,12 +1,11 @@
-use Rattle.around_root.proofs.Turns.{before-declared, before-other, before-ended}
-use borrow.Author.Rules.{rules}
+use Rattle.std.proofs.lemmas.Result.{err_from_is_err_and}
+use Rattle.around_root.proofs.Turns.{before-declared, before-other}
 use Rattle.around_root.proofs.to_root.Goals as goal
 
-pub returns-in-At : goal.returns-in-At
-returns-in-At c = before-declared _ _ _ _ (rw c.in-At.is at c.word-r.ensures) c.prologue.ensures
+pub returns-in_err-e : goal.returns-in_err-e
+returns-in_err-e c =
+    let p = err_from_is_err_and c.from_residual.result c.from_residual.ensures.1 in
+    rw (p.1, p.2) (before-other _ _ _ c.word-declaration.ensures _ c.in_err-e.ensures)
 
-pub returns-in-Fault : goal.returns-in-Fault
-returns-in-Fault c = before-other _ _ _ _ (rw c.in-Fault.is at c.word-r.ensures)
-
-pub returns-in-Cut : goal.returns-in-Cut
-returns-in-Cut c = before-ended _ _ (rw c.in-Cut.is at c.word-r.ensures)
+pub returns : goal.returns
+returns c = before-declared _ _ _ c.word-declaration.ensures _ _ c.in_ok-e.ensures c.prologue.ensures

@@ -1,6 +1,5 @@
 use mathlib.Core.Path.{refl}
 use Rattle.tags.specs.Rules.{rules_of}
-use borrow.Author.Rules.{rules}
 use Rattle.array_node.proofs.array_tag.Goals as goal
 
 pub returns-in-Matrix : goal.returns-in-Matrix

@@ -1,5 +1,4 @@
 use Rattle.clf.specs.Nodes.{matrix_shape}
-use borrow.Author.Rules.{rules}
 use Rattle.array_node.proofs.matrix_kind.Goals as goal
 
 pub returns-then-same : goal.returns-then-same
@@ -8,8 +7,8 @@ returns-then-same c = rw (← c.same.ensures, c.if-same.true)
 
 pub returns-then-same-2 : goal.returns-then-same-2
 unfolding matrix_shape
-returns-then-same-2 c = rw (← c.same.ensures, c.if-same.false, ← c.same-2.ensures, c.if-same-2.true)
+returns-then-same-2 c = rw (← c.same.ensures, c.if-same.false, ← c.same-else-same.ensures, c.if-same-2.true)
 
-pub returns : goal.returns
+pub returns-else-same-2 : goal.returns-else-same-2
 unfolding matrix_shape
-returns c = rw (← c.same.ensures, c.if-same.false, ← c.same-2.ensures, c.if-same-2.false)
+returns-else-same-2 c = rw (← c.same.ensures, c.if-same.false, ← c.same-else-same.ensures, c.if-same-2.false)

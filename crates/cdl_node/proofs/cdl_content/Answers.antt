@@ -1,49 +1,40 @@
-use Prim.Native.Nat.{◌-◌}
-use mathlib.Core.Path.{◌≡◌, refl}
+use mathlib.Core.Path.{refl}
 use native.Mathlib.Omega.{arith}
-use lib.ListN.{length}
-use Rattle.room.specs.Room.{lent}
-use Rattle.clf.specs.Nodes.{no_cdl, cdl_holder}
-use Rattle.node_parts.specs.Held.{HeldAt}
+use Rattle.std.proofs.lemmas.Result.{err_from_is_err_and}
 use Rattle.node_parts.proofs.Held.{held_start, held-child, held-moves, held-failed, held_none}
-use Rattle.markup.proofs.Answers.{failed}
-use Rattle.cdl_node.specs.Code.{CdlStands}
 use Rattle.cdl_node.proofs.Cdls.{cdl-start, content-end}
 use borrow.Author.Rules.{rules}
 use Rattle.cdl_node.proofs.cdl_content.Goals as goal
 
 pub loop-a-init : goal.loop-a-init
-loop-a-init c = (refl, refl, held_start _ _ _ _ _ (rw c.no_cdl-state.ensures (cdl-start _ _ c.requires)))
+loop-a-init c = (refl, refl, held_start _ _ _ _ _ (cdl-start _ c.requires))
 
-pub cdl_child-state-requires : goal.cdl_child-state-requires
-cdl_child-state-requires c = (rw c.in-Start.is at c.next_tag-l.ensures).reads.inside
+pub returns-in_err-a : goal.returns-in_err-a
+returns-in_err-a c =
+    let p = err_from_is_err_and c.from_residual.result c.from_residual.ensures.1 in
+    rw (p.1, p.2) (held_none _ _ _ _ _ _ c.loop-a.invariant.2 _ _ _ _ c.in_err-a.ensures tt)
 
-pub returns-in_default : goal.returns-in_default
-returns-in_default c =
-    held-failed _ _ _ _ _ _ c.loop-a.invariant.2 _ _ (rw c.in-Start.is at c.next_tag-l.ensures) _ _ _ c.cdl_child-state.ensures
-    _ (failed c.cdl_child-state.result.scan c.in_default.in_default-own.keys2)
+pub cdl_child-requires : goal.cdl_child-requires
+cdl_child-requires c = (rw c.in-Start.is at c.in_ok-a.ensures).reads.inside
+
+pub returns-in_err-child-in-Start : goal.returns-in_err-child-in-Start
+returns-in_err-child-in-Start c =
+    let p = err_from_is_err_and c.from_residual-in_err-child-in-Start.result c.from_residual-in_err-child-in-Start.ensures.1 in
+    rw (p.1, p.2) (held-failed _ _ _ _ _ _ c.loop-a.invariant.2 _ _ (rw c.in-Start.is at c.in_ok-a.ensures) _ _ _ c.in_err-child-in-Start.ensures _ tt)
 
 pub loop-a-smaller : goal.loop-a-smaller
 loop-a-smaller c =
     omega (
       arith,
-      held-moves _ _ _ _ _ _ c.loop-a.invariant.2 _ _ (rw c.in-Start.is at c.next_tag-l.ensures) _ _ _
-          c.cdl_child-state.ensures _ c.in-At.is,
+      held-moves _ _ _ _ _ _ c.loop-a.invariant.2 _ _ (rw c.in-Start.is at c.in_ok-a.ensures) _ _ _ c.in_ok-child-in-Start.ensures _ refl,
     )
 
 pub loop-a-preserved : goal.loop-a-preserved
 loop-a-preserved c = (
   search rules,
   search rules,
-  held-child _ _ _ _ _ _ c.loop-a.invariant.2 _ _ (rw c.in-Start.is at c.next_tag-l.ensures) _ _ _
-      c.cdl_child-state.ensures _ c.in-At.is,
+  held-child _ _ _ _ _ _ c.loop-a.invariant.2 _ _ (rw c.in-Start.is at c.in_ok-a.ensures) _ _ _ c.in_ok-child-in-Start.ensures _ refl,
 )
 
 pub returns-in-End : goal.returns-in-End
-returns-in-End c =
-    rw c.cdl_with.ensures (content-end _ _ _ _ _ c.loop-a.invariant.2 _ (rw c.in-End.is at c.next_tag-l.ensures) _
-    c.end_tag-r.ensures)
-
-pub returns-in-Failed : goal.returns-in-Failed
-returns-in-Failed c =
-    rw c.cdl_with-in-Failed.ensures (held_none _ _ _ _ _ _ c.loop-a.invariant.2 _ _ _ _ (rw c.in-Failed.is at c.next_tag-l.ensures) tt)
+returns-in-End c = content-end _ _ _ _ _ _ c.loop-a.invariant.2 _ (rw c.in-End.is at c.in_ok-a.ensures) _ c.end_tag.ensures

@@ -1,8 +1,7 @@
-use native.Mathlib.Omega.{arith}
-use Prim.Native.Nat.{ℕ, ◌+◌}
 use mathlib.Core.Path.{ap}
+use Prim.Native.Nat.{ℕ, ◌+◌}
+use native.Mathlib.Omega.{arith}
 use Rattle.cdl_node.proofs.Inner.{base-nine, inner-refused, inner-goes}
-use borrow.Author.Rules.{rules}
 use Rattle.cdl_node.proofs.inner_child.Goals as goal
 
 pub returns-then-k-ne0 : goal.returns-then-k-ne0

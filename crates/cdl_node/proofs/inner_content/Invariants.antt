@@ -1,15 +1,10 @@
 use Prim.Native.Nat.{◌-◌}
-use mathlib.Core.Path.{◌≡◌, refl}
+use mathlib.Core.Path.{◌≡◌}
 use mathlib.Core.List.{[]}
-use native.Mathlib.Omega.{arith}
 use lib.ListN.{length}
 use Rattle.room.specs.Room.{lent}
 use Rattle.node_parts.specs.Held.{HeldAt}
-use Rattle.node_parts.proofs.Held.{held_start, held-child, held-moves, held-failed, held_none}
-use Rattle.markup.proofs.Answers.{failed}
 use Rattle.cdl_node.specs.Code.{inner_holder, InnerStands}
-use Rattle.cdl_node.proofs.Inner.{width_three, inner_start, inner-few, inner_ended}
-use borrow.Author.Rules.{rules}
 use Rattle.cdl_node.proofs.inner_content.Given as goal
 
 abbrev pub invariant-loop-a : goal.invariant-loop-a

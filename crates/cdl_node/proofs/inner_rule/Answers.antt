@@ -1,19 +1,19 @@
-use borrow.Author.Tests.{eq-eqb, ne_eqb}
+use native.Mathlib.Omega.{arith}
+use borrow.Author.Tests.{ne_eqb}
 use Rattle.values.specs.Code.{rule_of}
-use borrow.Author.Rules.{rules}
 use Rattle.cdl_node.proofs.inner_rule.Goals as goal
 
-pub returns-then-count-eq0 : goal.returns-then-count-eq0
+pub returns-in-0 : goal.returns-in-0
 unfolding rule_of
-returns-then-count-eq0 c = rw (c.in-Sop.is, eq-eqb _ _ c.if-count-eq0.true)
+returns-in-0 c = rw (c.in-Sop.is, c.in-0.is)
 
-pub returns-then-count-eq3 : goal.returns-then-count-eq3
+pub returns-in-3 : goal.returns-in-3
 unfolding rule_of
-returns-then-count-eq3 c = rw (c.in-Sop.is, ne_eqb _ _ c.if-count-eq0.false, eq-eqb _ _ c.if-count-eq3.true)
+returns-in-3 c = rw (c.in-Sop.is, c.in-3.is)
 
-pub returns-else-count-eq3 : goal.returns-else-count-eq3
+pub returns-in_default : goal.returns-in_default
 unfolding rule_of
-returns-else-count-eq3 c = rw (c.in-Sop.is, ne_eqb _ _ c.if-count-eq0.false, ne_eqb _ _ c.if-count-eq3.false)
+returns-in_default c = rw (c.in-Sop.is, ne_eqb c.args.count 0 (λ e. omega arith), ne_eqb c.args.count 3 (λ e. omega arith))
 
 pub returns-in-Sat : goal.returns-in-Sat
 unfolding rule_of

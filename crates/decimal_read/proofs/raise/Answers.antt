@@ -1,12 +1,11 @@
-use Rattle.decimal_read.proofs.Parts.{raised-up, raised-down, raised-wrong}
+use Rattle.decimal_read.specs.Steps.{raised}
 use Rattle.decimal_read.proofs.raise.Goals as goal
 
 -- Assumes nothing.
 pub returns-in-Up : goal.returns-in-Up
-returns-in-Up c = search raised-up
+unfolding raised
+returns-in-Up c = rw c.in-Up.is c.settle.ensures
 
 pub returns-in-Down : goal.returns-in-Down
-returns-in-Down c = search raised-down
-
-pub returns-in-Wrong : goal.returns-in-Wrong
-returns-in-Wrong c = search raised-wrong
+unfolding raised
+returns-in-Down c = rw c.in-Down.is c.settle-in-Down.ensures

@@ -1,10 +1,9 @@
-use Rattle.decimal_read.proofs.Loops.{Going}
+use Rattle.decimal_read.proofs.Loops.{Left}
 use lib.ListN.{length}
-use Prim.Native.Nat.{◌-◌}
 use Rattle.decimal_read.proofs.run_at.Given as goal
 
-abbrev pub invariant-loop-i : goal.invariant-loop-i
-invariant-loop-i l = Going l.t l.at l.initial.h l.h l.i
+abbrev pub invariant-loop-b : goal.invariant-loop-b
+invariant-loop-b l = Left l.t l.at l.initial.held l.held l.rest
 
-abbrev pub decreases-loop-i : goal.decreases-loop-i
-decreases-loop-i l = length l.t - l.i
+abbrev pub decreases-loop-b : goal.decreases-loop-b
+decreases-loop-b l = length l.rest

@@ -1,12 +1,17 @@
-use Rattle.decimal_read.proofs.Parts.{settled-long, settled-zero, settled-other}
+use Rattle.std.proofs.Common.{arith}
+use Rattle.std.proofs.lemmas.Grind.{common_steps}
+use Rattle.decimal_read.specs.Steps.{settled}
 use Rattle.decimal_read.proofs.settle.Goals as goal
 
 -- Assumes nothing.
 pub returns-then-size-gt64 : goal.returns-then-size-gt64
-returns-then-size-gt64 c = search settled-long
+unfolding settled
+returns-then-size-gt64 c = grind (arith, common_steps)
 
-pub returns-then-h-eq0 : goal.returns-then-h-eq0
-returns-then-h-eq0 c = search settled-zero
+pub returns-then-held-eq0 : goal.returns-then-held-eq0
+unfolding settled
+returns-then-held-eq0 c = grind (arith, common_steps)
 
 pub returns : goal.returns
-returns c = search settled-other
+unfolding settled
+returns c = grind (arith, common_steps)

@@ -1,19 +1,14 @@
-use Rattle.describing.proofs.Laws.{first-open, first-end, first-none}
-use Rattle.describing.proofs.Texts.{none_found_lem}
-use native.Mathlib.Omega.{arith}
-use borrow.Author.Rules.{rules}
+use Rattle.markup.specs.Next.{NextReads}
+use Rattle.describing.proofs.Laws.{when-ok, when-none, first-open, first-end, first-none}
 use Rattle.describing.proofs.first_text.Goals as goal
 
-pub overflow_add-a : goal.overflow_add-a
-overflow_add-a c = omega (arith, (rw c.in-Start.is at c.next_tag-l.ensures).reads.inside)
+pub returns-in_err-a : goal.returns-in_err-a
+returns-in_err-a c =
+    rw c.from_residual.ensures (when-none (NextReads c.args.file.now c.args.at) _ (λ h b. first-none _ _ _ _ b) _ c.in_err-a.ensures.value c.next_tag.ensures)
 
 pub returns-in-Start : goal.returns-in-Start
-returns-in-Start c = rw (first-open _ _ _ _ (rw c.in-Start.is at c.next_tag-l.ensures)) c.child_text.ensures
+returns-in-Start c =
+    rw (first-open _ _ _ _ (rw (when-ok _ _ c.in_ok-a.ensures.value, c.in-Start.is) at c.next_tag.ensures)) c.child_text.ensures
 
 pub returns-in-End : goal.returns-in-End
-returns-in-End c = none_found_lem _ _ _ c.no_part.ensures (first-end _ _ _ (rw c.in-End.is at c.next_tag-l.ensures))
-
-pub returns-in-Failed : goal.returns-in-Failed
-returns-in-Failed c =
-    none_found_lem _ _ _ c.no_part-in-Failed.ensures (first-none c.args.file.now c.args.at c.in-Failed.a c.in-Failed.r
-    (rw c.in-Failed.is at c.next_tag-l.ensures))
+returns-in-End c = first-end _ _ _ (rw (when-ok _ _ c.in_ok-a.ensures.value, c.in-End.is) at c.next_tag.ensures)

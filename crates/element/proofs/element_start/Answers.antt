@@ -13,7 +13,7 @@ returns c =
     (more-names _ _ _ _ _ _
     (more-names _ _ _ _ _ _
     (more-names _ _ _ _ _ _
-    (more-names _ _ _ _ _ _ (no_names _ _ c.no_name-none.ensures) c.word_or-lut3d.ensures)
+    (more-names _ _ _ _ _ _ (no_names _) c.word_or-lut3d.ensures)
     c.word_or-exponent.ensures)
     c.word_or-log.ensures)
     c.word_or-cdl.ensures)

@@ -1,26 +1,24 @@
-use mathlib.Core.Path.{◌∙◌}
+use mathlib.Core.Path.{sym, ◌∙◌}
 use native.Mathlib.Omega.{arith}
+use Rattle.std.proofs.lemmas.Grind.{common_steps}
 use Rattle.scanning.specs.Steps.{scan, from-here}
 use Rattle.fields.specs.Laws.{number_from-laws, no_word, some_word, digit-more}
-use borrow.Author.Rules.{rules}
+use Rattle.fields.proofs.Places.{digit_none}
 use Rattle.fields.proofs.number.Goals as goal
 
-pub returns-then-word-eq0 : goal.returns-then-word-eq0
-returns-then-word-eq0 c = no_word _ (search rules)
+pub returns-then-is_empty : goal.returns-then-is_empty
+returns-then-is_empty c = no_word _ (grind (arith, common_steps))
 
-pub loop-i-init : goal.loop-i-init
-loop-i-init c = some_word _ (search rules)
+pub loop-b-init : goal.loop-b-init
+loop-b-init c = some_word _ (grind (arith, common_steps))
 
-pub returns-then-b-lt48 : goal.returns-then-b-lt48
-returns-then-b-lt48 c = search (scan, from-here, number_from-laws)
+pub returns-then-not-is_ascii_digit : goal.returns-then-not-is_ascii_digit
+returns-then-not-is_ascii_digit c = digit_none _ _ _ c.loop-b-test.true (sym c.if-not-is_ascii_digit.ensures.value) ∙ sym c.loop-b.invariant
 
-pub returns-then-b-gt57 : goal.returns-then-b-gt57
-returns-then-b-gt57 c = search (scan, from-here, number_from-laws)
-
-pub loop-i-preserved : goal.loop-i-preserved
-loop-i-preserved c =
-    c.loop-i.invariant
-    ∙ digit-more c.args.word.now c.loop-i.n c.with_digit-n.result c.loop-i.i (omega arith) (omega arith) (omega arith) c.with_digit-n.ensures
+pub loop-b-preserved : goal.loop-b-preserved
+loop-b-preserved c =
+    c.loop-b.invariant
+    ∙ digit-more c.args.word.now c.loop-b.n c.with_digit-n.result c.loop-b.b-index (omega arith) (grind (arith, common_steps)) (grind (arith, common_steps)) c.with_digit-n.ensures
 
 pub returns : goal.returns
 returns c = search (scan, from-here, number_from-laws)

@@ -1,29 +1,22 @@
-use mathlib.Core.Path.{refl, sym, ◌∙◌}
+use mathlib.Core.Path.{◌≡◌, ◌∙◌}
+use borrow.Author.Rules.{rules}
 use native.Mathlib.Omega.{arith}
-use Rattle.ids.proofs.Laws.{id-empty, id-long, id-bytes, bytes-fail, bytes-go-on, bytes-end}
+use Rattle.std.specs.List.{list_all}
+use Rattle.std.proofs.lemmas.Bool.Decides.{nat_tests}
+use Rattle.ids.specs.Ids.{is_id_byte, id_right}
+use Rattle.std.proofs.lemmas.Iterator.{YieldsList-from_slice}
+use Rattle.std.proofs.lemmas.Iterator.Search.{all_from_yields_List}
+use Rattle.ids.proofs.Laws.{all-bytes}
 use Rattle.ids.proofs.id_right.Goals as goal
 
--- The bytes from index i on are still to be tested. Assumes nothing.
-pub returns-then-text-eq0 : goal.returns-then-text-eq0
-returns-then-text-eq0 c = id-empty _ _ c.if-text-eq0.true
+pub returns-then-text-most : goal.returns-then-text-most
+unfolding id_right
+returns-then-text-most c =
+    let t = c.args.text.now in
+    let e : c.all.result ≡ list_all is_id_byte t = all_from_yields_List is_id_byte _ _ _ c.all.ensures.ran (YieldsList-from_slice t cc) (λ x b q k. search rules) in
+    let f = e ∙ all-bytes _ in
+    grind (arith, nat_tests, f)
 
-pub returns-then-most-text : goal.returns-then-most-text
-returns-then-most-text c = id-long _ _ (omega arith) c.if-most-text.true
-
-pub loop-i-init : goal.loop-i-init
-loop-i-init c = refl
-
-pub returns-then-not-is_id_byte : goal.returns-then-not-is_id_byte
-returns-then-not-is_id_byte c =
-    let s = c.args.text.now in
-    id-bytes _ s _ (omega arith) (omega arith) (c.loop-i.invariant ∙ bytes-fail s c.loop-i.i (omega arith) (sym c.is_id_byte.ensures ∙ c.if-not-is_id_byte.true))
-
-pub loop-i-preserved : goal.loop-i-preserved
-loop-i-preserved c =
-    let s = c.args.text.now in
-    c.loop-i.invariant ∙ bytes-go-on s c.loop-i.i (omega arith) (sym c.is_id_byte.ensures ∙ c.if-not-is_id_byte.false)
-
-pub returns : goal.returns
-returns c =
-    let s = c.args.text.now in
-    id-bytes _ s _ (omega arith) (omega arith) (c.loop-i.invariant ∙ bytes-end s c.loop-i.i (omega arith))
+pub returns-else-text-most : goal.returns-else-text-most
+unfolding id_right
+returns-else-text-most c = grind (arith, nat_tests)

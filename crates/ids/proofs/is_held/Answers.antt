@@ -1,23 +1,31 @@
-use mathlib.Core.Path.{◌≡◌, sym, ap, ◌∙◌}
+use mathlib.Core.Path.{◌≡◌, ◌∙◌, ap}
+use borrow.Author.Rules.{rules}
 use native.Mathlib.Omega.{arith}
-use lib.ListN.{length, drop}
-use Rattle.ids.proofs.Laws.{zeros, held-is, zeros-fail, zeros-go-on, zeros-end}
+use lib.Dec.{eqb}
+use lib.ListN.{length, drop, length-drop}
+use lib.Seq.{take_all}
+use Rattle.std.specs.List.{list_all}
+use borrow.Author.Tests.{tests}
+use Prim.Native.Nat.{ℕ}
+use Rattle.std.proofs.lemmas.Iterator.{YieldsList-from_slice}
+use Rattle.std.proofs.lemmas.Iterator.Search.{all_from_yields_List}
+use Rattle.ids.proofs.Laws.{text-short, held-is}
 use Rattle.ids.proofs.is_held.Goals as goal
 
--- What stands from index i on decides. Assumes nothing.
-pub loop-i-init : goal.loop-i-init
-loop-i-init c =
-    let n : length c.args.places ≡ 32 = c.well_formed.0.1.0.1 in
-    (n, held-is _ n ∙ ap (λ k. zeros (drop k c.args.places)) (sym c.length_of-i.ensures))
+pub slice_bounds-iter-count : goal.slice_bounds-iter-count
+slice_bounds-iter-count c =
+    let n : length c.args.places ≡ 32 = search arith in
+    omega (arith, text-short c.args.places)
 
-pub returns-then-places-i-ne0 : goal.returns-then-places-i-ne0
-returns-then-places-i-ne0 c =
-    sym (c.loop-i.invariant.1 ∙ zeros-fail _ c.loop-i.invariant.0 c.loop-i.i (omega arith) c.if-places-i-ne0.true)
-
-pub loop-i-preserved : goal.loop-i-preserved
-loop-i-preserved c =
-    (c.loop-i.invariant.0, c.loop-i.invariant.1 ∙ zeros-go-on _ c.loop-i.invariant.0 c.loop-i.i (omega arith) c.if-places-i-ne0.false)
+pub slice_bounds-iter-start : goal.slice_bounds-iter-start
+slice_bounds-iter-start c =
+    let n : length c.args.places ≡ 32 = search arith in
+    omega (arith, text-short c.args.places)
 
 pub returns : goal.returns
 returns c =
-    sym (c.loop-i.invariant.1 ∙ zeros-end _ c.loop-i.invariant.0 c.loop-i.i (omega arith))
+    let t = drop c.length_of.result c.args.places in
+    let n : length c.args.places ≡ 32 = search arith in
+    let m : c.iter.result.rest.now ≡ t = c.iter.ensures.rest ∙ take_all _ t (simp length-drop (omega arith)) in
+    let e : c.all.result ≡ list_all (λ (b : ℕ). eqb b 0) t = all_from_yields_List (λ (b : ℕ). eqb b 0) _ _ _ c.all.ensures.ran (YieldsList-from_slice t m) (λ x b q k. search (rules, tests)) in
+    e ∙ ap (λ k. list_all (λ (b : ℕ). eqb b 0) (drop k c.args.places)) c.length_of.ensures ∙ held-is _ n

@@ -1,19 +1,18 @@
-use native.Mathlib.Omega.{arith}
-use Rattle.ids.proofs.Laws.{text-ends, text-goes-on, text-behind}
+use mathlib.Core.Path.{◌≡◌, ◌∙◌, ap}
+use borrow.Author.Rules.{rules}
+use borrow.Author.Tests.{tests}
+use Prim.Native.Nat.{ℕ}
+use lib.Dec.{eqb}
+use lib.ListN.{length}
+use Rattle.std.specs.List.{position}
+use Rattle.std.specs.Option.{unwrap_or}
+use Rattle.std.proofs.lemmas.Iterator.{YieldsList-from_slice}
+use Rattle.std.proofs.lemmas.Iterator.Search.{position_from_yields_List}
+use Rattle.ids.proofs.Laws.{first_zero}
 use Rattle.ids.proofs.length_of.Goals as goal
-
--- The id goes on at least up to index i. Assumes nothing.
-pub loop-i-init : goal.loop-i-init
-loop-i-init c = omega arith
-
-pub returns-then-places-i-eq0 : goal.returns-then-places-i-eq0
-returns-then-places-i-eq0 c =
-    omega (arith, c.loop-i.invariant, text-ends c.args.places.now c.loop-i.i (omega arith) c.if-places-i-eq0.true)
-
-pub loop-i-preserved : goal.loop-i-preserved
-loop-i-preserved c =
-    omega (arith, c.loop-i.invariant, text-goes-on c.args.places.now c.loop-i.i (omega arith) c.if-places-i-eq0.false)
 
 pub returns : goal.returns
 returns c =
-    omega (arith, c.loop-i.invariant, text-behind c.args.places.now c.loop-i.i (omega arith))
+    let t = c.args.places.now in
+    let e : c.position.result ≡ position (λ (b : ℕ). eqb b 0) t = position_from_yields_List (λ (b : ℕ). eqb b 0) _ _ _ c.position.ensures.ran (YieldsList-from_slice t cc) (λ x b q k. search (rules, tests)) in
+    c.unwrap_or.ensures ∙ ap (λ r. unwrap_or r (length t)) e ∙ first_zero t

@@ -1,10 +1,11 @@
-use Rattle.xml.proofs.Answers.{failed}
+use Rattle.std.proofs.lemmas.Result.{err_from_is_err_and}
 use Rattle.info.proofs.Texts.{content-failed, content-closed}
-use borrow.Author.Rules.{rules}
 use Rattle.info.proofs.text_content.Goals as goal
 
-pub returns-in_default : goal.returns-in_default
-returns-in_default c = content-failed _ _ _ _ (failed c.text_to-r.result c.in_default.in_default-own.keys2) c.text_to-r.ensures
+pub returns-in_err-e : goal.returns-in_err-e
+returns-in_err-e c =
+    let p = err_from_is_err_and c.from_residual.result c.from_residual.ensures.1 in
+    rw (p.1, p.2) (content-failed _ _ _ _ tt c.in_err-e.ensures)
 
 pub returns : goal.returns
-returns c = content-closed _ _ _ _ _ (rw c.in-At.is at c.text_to-r.ensures) c.only_end.ensures
+returns c = content-closed _ _ _ _ _ c.in_ok-e.ensures c.only_end.ensures

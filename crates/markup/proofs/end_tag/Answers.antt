@@ -1,5 +1,4 @@
 use Rattle.markup.proofs.Tags.{end-tag}
-use borrow.Author.Rules.{rules}
 use Rattle.markup.proofs.end_tag.Goals as goal
 
 pub returns : goal.returns

@@ -1,7 +1,7 @@
 use mathlib.Core.Path.{sym, ◌∙◌}
 use native.Mathlib.Omega.{arith}
-use Rattle.markup.proofs.ItemLaws.{item-cut, item-space, markup-item, item-and, item-bare}
-use borrow.Author.Rules.{rules}
+use Rattle.markup.proofs.ItemLaws.{mapped, item-cut, item-space, markup-item, item-and, item-bare}
+use Rattle.markup.specs.declared.Item.TheVariants.{Misc}
 use Rattle.markup.proofs.item_at.Goals as goal
 
 pub returns-then-s-at : goal.returns-then-s-at
@@ -15,7 +15,7 @@ returns-then-b-eq60 c = markup-item _ _ (omega arith) (sym c.is_space.ensures �
 
 pub returns-then-b-eq38 : goal.returns-then-b-eq38
 returns-then-b-eq38 c =
-    rw (c.misc_of.ensures, c.settled.ensures)
+    rw (mapped Misc _ _ c.map.ensures.cases, c.settled.ensures)
     (item-and _ _ (omega arith) (sym c.is_space.ensures ∙ c.if-is_space.false) c.if-b-eq60.false c.entity.result c.if-b-eq38.true
     c.entity.ensures)
 

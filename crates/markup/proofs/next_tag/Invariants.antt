@@ -1,8 +1,6 @@
 use Prim.Native.Nat.{◌-◌}
-use native.Mathlib.Omega.{arith}
 use lib.ListN.{length}
-use Rattle.markup.specs.Next.{Passed, none, more}
-use borrow.Author.Rules.{rules}
+use Rattle.markup.specs.Next.{Passed}
 use Rattle.markup.proofs.next_tag.Given as goal
 
 abbrev pub invariant-loop-e : goal.invariant-loop-e

@@ -1,6 +1,5 @@
 use native.Mathlib.Omega.{arith}
 use Rattle.markup.proofs.Tags.{only-cut, only_one, only_end_lem, only-stranger}
-use borrow.Author.Rules.{rules}
 use Rattle.markup.proofs.only_end.Goals as goal
 
 pub returns-then-s-at : goal.returns-then-s-at

@@ -1,10 +1,9 @@
-use Rattle.markup.proofs.Answers.{failed}
+use Rattle.std.proofs.lemmas.Result.{err_from_is_err_and}
 use Rattle.markup.proofs.Tags.{spaces-failed, spaces-then}
-use borrow.Author.Rules.{rules}
 use Rattle.markup.proofs.spaces_byte.Goals as goal
 
-pub returns-in_default : goal.returns-in_default
-returns-in_default c = spaces-failed _ _ _ _ (failed c.spaces-r.result c.in_default.in_default-own.keys2) c.spaces-r.ensures
+pub returns-in_err-e : goal.returns-in_err-e
+returns-in_err-e c = let p = err_from_is_err_and c.from_residual.result c.from_residual.ensures.1 in rw (p.1, p.2) (spaces-failed _ _ _ _ tt c.in_err-e.ensures)
 
 pub returns : goal.returns
-returns c = spaces-then _ _ _ _ _ (rw c.in-At.is at c.spaces-r.ensures) c.byte.ensures
+returns c = spaces-then _ _ _ _ _ c.in_ok-e.ensures c.byte.ensures

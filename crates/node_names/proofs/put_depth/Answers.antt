@@ -1,7 +1,6 @@
 use mathlib.Core.List.{◌++◌}
 use Rattle.text_out.proofs.Laws.{puts-by}
 use Rattle.written_form.specs.Written.{depth_text}
-use borrow.Author.Rules.{rules}
 use Rattle.node_names.proofs.put_depth.Goals as goal
 
 -- The text of each depth. Assumes nothing.

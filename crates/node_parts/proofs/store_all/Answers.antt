@@ -1,16 +1,10 @@
-use Prim.Native.Nat.{◌-◌}
 use native.Mathlib.Omega.{arith}
-use Rattle.room.specs.Room.{lent}
 use Rattle.values.proofs.Stored.{laid_from}
-use Rattle.node_parts.proofs.Smalls.{StoreInv, store-start, store-more, store-end}
-use borrow.Author.Rules.{rules}
+use Rattle.node_parts.proofs.Smalls.{store-start, store-more, store-end}
 use Rattle.node_parts.proofs.store_all.Goals as goal
 
 pub loop-j-init : goal.loop-j-init
-loop-j-init c = store-start _ _ _ _ c.length-n.ensures
-
-pub loop-j-smaller : goal.loop-j-smaller
-loop-j-smaller c = omega arith
+loop-j-init c = store-start _ _ _ _ c.length-j-end.ensures
 
 pub loop-j-preserved : goal.loop-j-preserved
 loop-j-preserved c =

@@ -1,5 +1,8 @@
-use Rattle.std.proofs.Common.{◌≤◌}
+use Rattle.std.proofs.Common.{length, ◌+◌, ◌≤◌}
 use Rattle.number_vectors.proofs.run.Given as goal
 
-abbrev pub invariant-loop-i : goal.invariant-loop-i
-invariant-loop-i g l = (l.from ≤ l.i) × (l.tokens ≤ l.i) × (l.numbers ≤ l.i)
+abbrev pub invariant-loop-end : goal.invariant-loop-end
+invariant-loop-end g l = (l.counts.tokens + length l.rest ≤ length l.s) × (l.counts.numbers ≤ l.counts.tokens)
+
+abbrev pub decreases-loop-end : goal.decreases-loop-end
+decreases-loop-end g l = length l.rest

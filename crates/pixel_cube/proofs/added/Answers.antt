@@ -1,5 +1,4 @@
 use Rattle.pixel_cube.specs.Ways.{added}
-use borrow.Author.Rules.{rules}
 use Rattle.pixel_cube.proofs.added.Goals as goal
 
 pub returns-then-part : goal.returns-then-part

@@ -1,5 +1,4 @@
 use Rattle.pixel_cube.specs.Ways.{cell_of}
-use borrow.Author.Rules.{rules}
 use Rattle.pixel_cube.proofs.cell_of.Goals as goal
 
 pub returns : goal.returns

@@ -4,7 +4,6 @@ use native.Mathlib.Omega.{arith}
 use Rattle.pixel_cube.specs.Table.{entry_at, place_of}
 use Rattle.pixel_cube.specs.declared.Corner.{Corner}
 use Rattle.pixel_cube.specs.Corners.{Inside}
-use borrow.Author.Rules.{rules}
 use Rattle.pixel_cube.proofs.entry.Goals as goal
 
 -- a line of entries, and a plane of lines

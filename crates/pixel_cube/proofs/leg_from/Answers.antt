@@ -1,5 +1,4 @@
 use Rattle.pixel_cube.specs.Ways.{leg_from}
-use borrow.Author.Rules.{rules}
 use Rattle.pixel_cube.proofs.leg_from.Goals as goal
 
 pub returns-then-part : goal.returns-then-part

@@ -13,7 +13,6 @@ use Rattle.pixel_cube.specs.TableLaws.{held, lut3d-table, lut3d-no-table}
 use Rattle.pixel_cube.specs.Ways.{cell_of, way_by, each_of}
 use Rattle.pixel_cube.proofs.WaysLaws.{cell-inside, way-is}
 use Rattle.pixel_cube.proofs.Keeps.{kept}
-use borrow.Author.Rules.{rules}
 use Rattle.pixel_cube.proofs.lut3d_pixel.Goals as goal
 
 -- the code's way on each component is the method

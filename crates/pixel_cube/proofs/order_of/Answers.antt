@@ -6,7 +6,6 @@ use Rattle.pixel_cube.specs.declared.Axis.{Axis}
 use Rattle.pixel_cube.specs.declared.Axis.TheVariants.{Red, Green, Blue}
 use Rattle.pixel_cube.specs.Cube.{insert_axis, falling, all_axes}
 use Rattle.pixel_cube.specs.Ways.{part_on}
-use borrow.Author.Rules.{rules}
 use Rattle.pixel_cube.proofs.order_of.Goals as goal
 
 -- green and blue in their order, and then red

@@ -1,4 +1,3 @@
-use borrow.Author.Rules.{rules}
 use Rattle.pixel_cube.proofs.raised.Goals as goal
 
 pub returns-in-Red : goal.returns-in-Red

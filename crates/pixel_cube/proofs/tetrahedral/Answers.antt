@@ -1,5 +1,4 @@
 use Rattle.pixel_cube.specs.Ways.{walked, added_all}
-use borrow.Author.Rules.{rules}
 use Rattle.pixel_cube.proofs.tetrahedral.Goals as goal
 
 pub returns : goal.returns

@@ -10,7 +10,6 @@ use Rattle.pixel_cube.specs.Cube.{falling, all_axes}
 use Rattle.pixel_cube.specs.Corners.{Inside, Every}
 use Rattle.pixel_cube.specs.Ways.{part_on, low_of, CellInside, listed, leg_from, legs_from, legs_in, WalkInside, WalkIn}
 use Rattle.pixel_cube.proofs.WaysLaws.{low-inside, legs-inside}
-use borrow.Author.Rules.{rules}
 use Rattle.pixel_cube.proofs.walk_in.Goals as goal
 
 module _ (cell : Cell) (o : Order) (low : Corner) (a b c : Leg)

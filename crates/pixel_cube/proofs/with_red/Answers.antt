@@ -1,5 +1,4 @@
 use Rattle.pixel_cube.specs.Cube.{insert_axis}
-use borrow.Author.Rules.{rules}
 use Rattle.pixel_cube.proofs.with_red.Goals as goal
 
 pub returns-then-part_on-red : goal.returns-then-part_on-red

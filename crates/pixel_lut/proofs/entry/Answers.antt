@@ -1,5 +1,5 @@
 use Rattle.room.specs.Room.{room_length}
-use Rattle.std.proofs.Common.{ℕ, ◌+◌, ◌*◌, ◌<◌, mul-le-mul_right, suc-mul, arith, rules}
+use Rattle.std.proofs.Common.{ℕ, ◌+◌, ◌*◌, ◌<◌, mul-le-mul_right, suc-mul, arith}
 use Rattle.pixel_lut.specs.Table.{entry_at}
 use Rattle.pixel_lut.proofs.entry.Goals as goal
 

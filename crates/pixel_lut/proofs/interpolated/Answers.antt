@@ -1,5 +1,4 @@
 use Rattle.pixel_lut.specs.Lut1d.{interpolated}
-use Rattle.std.proofs.Common.{rules}
 use Rattle.pixel_lut.proofs.interpolated.Goals as goal
 
 pub returns-then-next-e : goal.returns-then-next-e

@@ -1,7 +1,6 @@
 use Rattle.room.specs.Room.{lent, room_length}
 use Rattle.pixel_lut.specs.Table.{looked_up_all}
 use Rattle.pixel_lut.specs.TableLaws.{held}
-use Rattle.std.proofs.Common.{rules}
 use Rattle.pixel_lut.proofs.looked_up_all.Goals as goal
 
 pub looked_up-requires : goal.looked_up-requires

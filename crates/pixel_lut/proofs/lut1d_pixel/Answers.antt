@@ -1,5 +1,4 @@
 use Rattle.pixel_lut.specs.Table.{lut1d_pixel}
-use Rattle.std.proofs.Common.{rules}
 use Rattle.pixel_lut.proofs.lut1d_pixel.Goals as goal
 
 pub looked_up_all-requires : goal.looked_up_all-requires

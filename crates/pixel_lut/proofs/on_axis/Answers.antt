@@ -1,4 +1,4 @@
-use Rattle.std.proofs.Common.{◌≡◌, ℕ, ◌-◌, ◌^◌, ◌<◌, ◌≤◌, refl, arith, le→leb, rules, le-leb}
+use Rattle.std.proofs.Common.{◌≡◌, ℕ, ◌-◌, ◌^◌, ◌<◌, ◌≤◌, refl, arith, le→leb, le-leb}
 use lib.Ieee.{in_float}
 use borrow.Author.Tests.{lt-leb}
 use Rattle.pixel.specs.declared.Fraction.{Fraction}
@@ -8,6 +8,7 @@ use Rattle.pixel_lut.specs.Lut1d.{on_axis, index, remainder}
 use Rattle.pixel_lut.specs.Lut1dLaws.{on-axis}
 use Rattle.pixel_lut.specs.Floor.{position_in, floor-le}
 use Rattle.pixel_lut.proofs.on_axis.Goals as goal
+use Rattle.pixel_lut.proofs.on_axis.Goals.{then-n-lt2-via-then-n-lt2, then-n-lt2-via-else-n-lt2+then-n-gt65536}
 
 -- too few entries, or too many
 abbrev none : AxisPlace
@@ -22,10 +23,10 @@ unfolding on_axis
 many n x h k = simp (le-leb 2 n h, lt-leb n 65536 k)
 
 pub returns-then-n-lt2 : goal.returns-then-n-lt2
-returns-then-n-lt2 c = let a = c.args in few a.n a.x (omega arith)
-
-pub returns-then-n-gt65536 : goal.returns-then-n-gt65536
-returns-then-n-gt65536 c = let a = c.args in many a.n a.x (omega arith) (omega arith)
+returns-then-n-lt2 c = let a = c.args in elim c.then-n-lt2.branch [
+  | then-n-lt2-via-then-n-lt2 w ↦ few a.n a.x w.if-n-lt2.true
+  | then-n-lt2-via-else-n-lt2+then-n-gt65536 w ↦ many a.n a.x w.if-n-lt2.false w.if-n-gt65536.true
+]
 
 pub floor_to-index-requires : goal.floor_to-index-requires
 floor_to-index-requires c =

@@ -1,5 +1,5 @@
 use Rattle.pixel_lut.specs.Lut1d.{position}
-use Rattle.std.proofs.Common.{◌-◌, ◌^◌, arith, le→leb, rules}
+use Rattle.std.proofs.Common.{◌-◌, ◌^◌, arith, le→leb}
 use lib.Ieee.{in_float}
 use Rattle.pixel_lut.proofs.position.Goals as goal
 

@@ -1,10 +1,11 @@
-use Rattle.std.proofs.Common.{◌≡◌, ℕ, ◌+◌, ◌*◌, ◌<◌, ◌≤◌, true, false, ◌||◌, eqb, leb, sym, refl, ap, ◌∙◌, mul-one, arith, rules, ne_eqb, le-leb}
+use Rattle.std.proofs.Common.{◌≡◌, ℕ, ◌+◌, ◌*◌, ◌<◌, ◌≤◌, true, false, ◌||◌, eqb, leb, refl, ◌∙◌, arith, ne_eqb, le-leb}
 use borrow.Author.Tests.{lt-leb}
 use Rattle.pixel_lut.specs.Table.{table_in}
 use Rattle.pixel_lut.proofs.table_in.Goals as goal
+use Rattle.pixel_lut.proofs.table_in.Goals.{then-n-lt2-via-then-n-lt2, then-n-lt2-via-else-n-lt2+then-n-gt65536, then-columns-eq1-via-then-columns-eq1, then-columns-eq1-via-else-columns-eq1+then-columns-eq3}
 
 -- a table of the carried shape is in the room if its last number is
-counted : (room at n columns k : ℕ) → 2 ≤ n → n ≤ 65536 → columns ≡ k → (eqb k 1 || eqb k 3) ≡ true → leb (at + n * k) room ≡ table_in room at n columns
+counted : (room at n columns k : ℕ) → 2 ≤ n → n ≤ 65536 → columns ≡ k → (eqb k 1 || eqb k 3) ≡ true → leb (at + n * columns) room ≡ table_in room at n columns
 unfolding table_in
 counted room at n columns k a b e t = rw e (simp (le-leb 2 n a, le-leb n 65536 b, t))
 
@@ -21,25 +22,18 @@ unfolding table_in
 other room at n columns h k p q = simp (le-leb 2 n h, le-leb n 65536 k, ne_eqb columns 1 p, ne_eqb columns 3 q)
 
 pub returns-then-n-lt2 : goal.returns-then-n-lt2
-returns-then-n-lt2 c = let a = c.args in few a.room a.at a.n a.columns (omega arith)
-
-pub returns-then-n-gt65536 : goal.returns-then-n-gt65536
-returns-then-n-gt65536 c = let a = c.args in many a.room a.at a.n a.columns (omega arith) (omega arith)
+returns-then-n-lt2 c = let a = c.args in elim c.then-n-lt2.branch [
+  | then-n-lt2-via-then-n-lt2 w ↦ few a.room a.at a.n a.columns w.if-n-lt2.true
+  | then-n-lt2-via-else-n-lt2+then-n-gt65536 w ↦ many a.room a.at a.n a.columns w.if-n-lt2.false w.if-n-gt65536.true
+]
 
 pub returns-then-columns-eq1 : goal.returns-then-columns-eq1
 returns-then-columns-eq1 c =
     let a = c.args in
-    c.fits.ensures
-    ∙ ap (λ (m : ℕ). leb (a.at + m) a.room) (sym (mul-one a.n))
-    ∙ counted a.room a.at a.n a.columns 1 (omega arith) (omega arith) c.if-columns-eq1.true refl
-
-pub overflow_mul-n : goal.overflow_mul-n
-overflow_mul-n c = omega arith
-
-pub returns-then-columns-eq3 : goal.returns-then-columns-eq3
-returns-then-columns-eq3 c =
-    let a = c.args in
-    c.fits-then-columns-eq3.ensures ∙ counted a.room a.at a.n a.columns 3 (omega arith) (omega arith) c.if-columns-eq3.true refl
+    c.fits.ensures ∙ elim c.then-columns-eq1.branch [
+      | then-columns-eq1-via-then-columns-eq1 w ↦ counted a.room a.at a.n a.columns 1 (omega arith) (omega arith) w.if-columns-eq1.true refl
+      | then-columns-eq1-via-else-columns-eq1+then-columns-eq3 w ↦ counted a.room a.at a.n a.columns 3 (omega arith) (omega arith) w.if-columns-eq3.true refl
+    ]
 
 pub returns : goal.returns
 returns c = let a = c.args in other a.room a.at a.n a.columns (omega arith) (omega arith) c.if-columns-eq1.false c.if-columns-eq3.false

@@ -1,24 +1,15 @@
-use mathlib.Core.Path.{sym}
-use Prim.Native.Nat.{◌+◌}
-use native.Mathlib.Omega.{arith}
-use Rattle.room.specs.Room.{lent}
+use Rattle.std.proofs.Common.{◌+◌, ◌≤◌, sym, arith}
+use Rattle.room.specs.Room.{lent, room_length}
 use Rattle.pixel_room.specs.RoomLaws.{number_past}
 use Rattle.pixel_room.proofs.number_from.Goals as goal
+use Rattle.pixel_room.proofs.number_from.Goals.{then-at-count-via-then-at-count, then-at-count-via-else-at-count+then-k-count}
 
 pub returns-then-at-count : goal.returns-then-at-count
-returns-then-at-count c = let a = c.args in sym (number_past (lent a.coefficients.now a.powers.now) (a.at + a.k) (omega (arith, c.length-count.ensures)))
-
-pub overflow_sub-count : goal.overflow_sub-count
-overflow_sub-count c = omega arith
-
-pub returns-then-k-count : goal.returns-then-k-count
-returns-then-k-count c = let a = c.args in sym (number_past (lent a.coefficients.now a.powers.now) (a.at + a.k) (omega (arith, c.length-count.ensures)))
-
-pub overflow_add-at : goal.overflow_add-at
-overflow_add-at c = omega (arith, c.length-count.ensures)
-
-pub number_inside-requires : goal.number_inside-requires
-number_inside-requires c = omega (arith, c.length-count.ensures)
-
-pub returns : goal.returns
-returns c = c.number_inside.ensures
+returns-then-at-count c =
+    let a = c.args in
+    let m = lent a.coefficients.now a.powers.now in
+    let past : room_length m ≤ a.at + a.k = elim c.then-at-count.branch [
+      | then-at-count-via-then-at-count w ↦ omega (arith, c.length-count.ensures, w.if-at-count.true)
+      | then-at-count-via-else-at-count+then-k-count w ↦ omega (arith, c.length-count.ensures, w.if-at-count.false, w.if-k-count.true)
+    ] in
+    sym (number_past m (a.at + a.k) past)

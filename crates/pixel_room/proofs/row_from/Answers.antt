@@ -26,5 +26,5 @@ counted m at k wide =
 pub returns-then-wide : goal.returns-then-wide
 returns-then-wide c = simp (counted, c.if-wide.true) (cc)
 
-pub returns : goal.returns
-returns c = simp (counted, c.if-wide.false) (cc)
+pub returns-else-wide : goal.returns-else-wide
+returns-else-wide c = simp (counted, c.if-wide.false) (cc)

@@ -1,5 +1,4 @@
 use Rattle.pixel_run.specs.Prepare.{cdl_from}
-use borrow.Author.Rules.{rules}
 use Rattle.pixel_run.proofs.prepare_cdl.Goals as goal
 
 pub returns : goal.returns

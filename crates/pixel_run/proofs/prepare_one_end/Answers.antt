@@ -1,5 +1,4 @@
 use Rattle.pixel_run.specs.Prepare.{one_end_from}
-use borrow.Author.Rules.{rules}
 use Rattle.pixel_run.proofs.prepare_one_end.Goals as goal
 
 pub returns : goal.returns

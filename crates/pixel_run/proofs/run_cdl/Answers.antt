@@ -1,20 +1,13 @@
-use Prim.Native.Nat.{◌-◌}
-use native.Mathlib.Omega.{arith}
-use lib.ListN.{length}
+use Rattle.std.proofs.Common.{rules, true}
+use Rattle.pixel.specs.F64.{one}
 use Rattle.pixel.specs.Cdl.{cdl_pixel}
-use Rattle.pixel_run.specs.EachLaws.{Passed, passed_start, passed-more, passed-end}
-use borrow.Author.Rules.{rules}
+use Rattle.pixel_run.proofs.UnitScales.{unit-run}
 use Rattle.pixel_run.proofs.run_cdl.Goals as goal
 
-pub loop-pixels-init : goal.loop-pixels-init
-loop-pixels-init c = passed_start _ _
-
-pub loop-pixels-preserved : goal.loop-pixels-preserved
-loop-pixels-preserved c =
-    passed-more c.loop-pixels.invariant (omega arith) c.load-x.ensures c.cdl_pixel-y.ensures c.store.ensures
-
-pub shape_of-pixels : goal.shape_of-pixels
-shape_of-pixels c = c.loop-pixels.invariant.whole
-
-pub returns : goal.returns
-returns c = passed-end (omega arith) c.loop-pixels.invariant
+pub returns-then-out_scale : goal.returns-then-out_scale
+returns-then-out_scale c =
+    let a = c.args in
+    let n = a.numbers in
+    let f = cdl_pixel n.slope_r n.slope_g n.slope_b n.offset_r n.offset_g n.offset_b n.saturation true one one in
+    unit-run n.slope_r n.slope_g n.slope_b n.offset_r n.offset_g n.offset_b n.saturation a.clamp a.in_scale a.out_scale c.if-in_scale.true c.if-out_scale.true a.pixels.now c.if-clamp.true
+    (c.each_pixel.ensures f (λ x y e. search rules))

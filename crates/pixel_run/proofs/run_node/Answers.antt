@@ -1,7 +1,6 @@
 use Rattle.room.specs.Room.{lent}
 use Rattle.pixel_run.specs.Step.{step_pixel}
 use Rattle.pixel_run.proofs.ClampRuns.{node-ran}
-use borrow.Author.Rules.{rules}
 use Rattle.pixel_run.proofs.run_node.Goals as goal
 
 pub returns-in-Range : goal.returns-in-Range
@@ -15,7 +14,7 @@ pub returns-in-Cdl : goal.returns-in-Cdl
 unfolding step_pixel
 returns-in-Cdl c =
     let a = c.args in
-    let k = node-ran a.rows a.in_scale a.out_scale (lent a.coefficients.now a.powers.now) a.pixels.now _ a.p (simp c.in-Cdl.is c.run_cdls.ensures) in
+    let k = node-ran a.rows a.in_scale a.out_scale (lent a.coefficients.now a.powers.now) a.pixels.now _ a.p (simp c.in-Cdl.is c.run_cdl.ensures) in
     record { pixels_after = k.0; clamp_holds = k.1 }
 
 pub returns-in-Matrix : goal.returns-in-Matrix

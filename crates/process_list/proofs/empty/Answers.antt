@@ -3,4 +3,4 @@ use Rattle.process_list.proofs.empty.Goals as goal
 
 pub returns : goal.returns
 unfolding list_of
-returns c = simp c.blank-b.ensures
+returns c = simp c.blank.ensures

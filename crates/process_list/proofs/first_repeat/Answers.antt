@@ -7,17 +7,14 @@ use Rattle.process_list.proofs.first_repeat.Goals as goal
 pub loop-k-init : goal.loop-k-init
 loop-k-init c = seen_start _
 
-pub is_seen-requires : goal.is_seen-requires
-is_seen-requires c = omega arith
-
-pub returns-then-is_seen : goal.returns-then-is_seen
-returns-then-is_seen c =
+pub returns-then-is_seen-clause-number : goal.returns-then-is_seen-clause-number
+returns-then-is_seen-clause-number c =
     sym (c.loop-k.invariant ∙ seen_here _ c.loop-k.k (omega arith) (sym c.is_seen.ensures ∙ c.if-is_seen.true))
 
 pub loop-k-preserved : goal.loop-k-preserved
 loop-k-preserved c =
     c.loop-k.invariant ∙ seen-turn _ c.loop-k.k (omega arith) (sym c.is_seen.ensures ∙ c.if-is_seen.false)
 
-pub returns : goal.returns
-returns c =
-    sym (c.loop-k.invariant ∙ seen_none c.args.list c.loop-k.k (omega arith))
+pub returns-clause-number : goal.returns-clause-number
+returns-clause-number c =
+    sym (c.loop-k.invariant ∙ seen_none _ c.loop-k.k (omega arith))

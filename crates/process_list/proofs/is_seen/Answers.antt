@@ -1,42 +1,25 @@
-use mathlib.Core.Path.{◌≡◌, refl, sym, ap, ◌∙◌}
-use mathlib.Core.Bool.{Bool}
-use mathlib.Core.List.{List}
-use Prim.Native.Nat.{ℕ}
-use native.Mathlib.Omega.{arith}
-use Rattle.xml.specs.Bytes.{same}
+use mathlib.Core.Path.{sym, ap, ◌∙◌}
+use borrow.Author.Rules.{rules}
+use lib.ListN.{get_or, take}
 use Rattle.ids.specs.Ids.{is_given}
-use Rattle.process_list.proofs.Seen.{among-here, among-turn, among_none, given-seen, not-given}
+use Rattle.xml.specs.Bytes.{same}
+use Rattle.std.proofs.lemmas.Iterator.{YieldsList-from_slice}
+use Rattle.std.proofs.lemmas.Iterator.Search.{any_from_yields_List}
+use Rattle.process_list.specs.declared.Node.{Node}
+use Rattle.process_list.specs.List.{blank_node}
+use Rattle.process_list.proofs.Maps.{getD-within}
+use Rattle.process_list.proofs.Seen.{given-seen, not-given}
 use Rattle.process_list.proofs.is_seen.Goals as goal
 
--- The ids from index j on are still to be compared. Assumes nothing.
--- the test of the code is that of the definition
-seen_test : (a b x y : List ℕ) {t : Bool} → a ≡ x → b ≡ y → same a b ≡ t → same x y ≡ t
-seen_test a b x y e f g = rw (← e, ← f) g
+pub returns-then-is_given : goal.returns-then-is_given
+returns-then-is_given c =
+    let ns = c.args.nodes.now in
+    let e = getD-within ns c.args.k _ blank_node c.requires in
+    given-seen ns c.args.k _ (ap (λ (n : Node). is_given n.id) (sym e) ∙ sym c.is_given.ensures ∙ c.if-is_given.true)
+    (any_from_yields_List (λ (n : Node). same (get_or ns c.args.k blank_node).id n.id) _ _ _ c.any.ensures.ran (YieldsList-from_slice (take c.args.k ns) cc) (λ x b q k. (search rules, search rules)))
 
-pub returns-then-not-is_given : goal.returns-then-not-is_given
-returns-then-not-is_given c =
-    let g = c.get-node in
-    not-given _ _ (ap (λ n. is_given n.id) (sym g.ensures) ∙ sym c.is_given.ensures ∙ c.if-not-is_given.true)
-
-pub loop-j-init : goal.loop-j-init
-loop-j-init c =
-    let g = c.get-node in
-    (omega arith, ap (λ n. n.id) g.ensures, ap (λ n. is_given n.id) (sym g.ensures) ∙ sym c.is_given.ensures ∙ c.if-not-is_given.false, refl)
-
-pub returns-then-is_same : goal.returns-then-is_same
-returns-then-is_same c =
-    let v = c.loop-j.invariant in
-    let e = seen_test _ _ _ _ v.1 (ap (λ n. n.id) c.get-other.ensures) (sym c.is_same.ensures ∙ c.if-is_same.true) in
-    given-seen _ _ _ v.2 (v.3 ∙ among-here _ _ c.loop-j.j (omega arith) v.0 e)
-
-pub loop-j-preserved : goal.loop-j-preserved
-loop-j-preserved c =
-    let v = c.loop-j.invariant in
-    let e = seen_test _ _ _ _ v.1 (ap (λ n. n.id) c.get-other.ensures) (sym c.is_same.ensures ∙ c.if-is_same.false) in
-    (v.0, v.1, v.2, v.3 ∙ among-turn _ _ c.loop-j.j (omega arith) v.0 e)
-
-pub returns : goal.returns
-returns c =
-    let v = c.loop-j.invariant in
-    let s = c.args in
-    given-seen _ _ _ v.2 (v.3 ∙ among_none s.list s.k c.loop-j.j v.0 (omega arith))
+pub returns-else-is_given : goal.returns-else-is_given
+returns-else-is_given c =
+    let ns = c.args.nodes.now in
+    let e = getD-within ns c.args.k _ blank_node c.requires in
+    c.if-is_given.false ∙ not-given ns c.args.k (ap (λ (n : Node). is_given n.id) (sym e) ∙ sym c.is_given.ensures ∙ c.if-is_given.false)

@@ -1,6 +1,7 @@
+use borrow.Author.Rules.{rules}
 use Rattle.process_list.specs.List.{same_depth}
 use Rattle.process_list.proofs.same_depth.Goals as goal
 
 pub returns : goal.returns
 unfolding same_depth
-returns c = cc
+returns c = search rules

@@ -1,5 +1,4 @@
 use Rattle.range_node.specs.Code.{ordered_in}
-use borrow.Author.Rules.{rules}
 use Rattle.range_node.proofs.in_order.Goals as goal
 
 pub returns-then-less : goal.returns-then-less
@@ -14,6 +13,6 @@ returns-then-less c =
       c.if-less.true,
     ) c.at_most.ensures
 
-pub returns : goal.returns
+pub returns-else-less : goal.returns-else-less
 unfolding ordered_in
-returns c = rw (← c.number_at-a.ensures, ← c.number_at-b.ensures, ← c.less.ensures, c.if-less.false)
+returns-else-less c = rw (← c.number_at-a.ensures, ← c.number_at-b.ensures, ← c.less.ensures, c.if-less.false)

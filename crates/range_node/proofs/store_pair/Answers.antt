@@ -1,5 +1,4 @@
 use Rattle.range_node.proofs.Values.{two-laid}
-use borrow.Author.Rules.{rules}
 use Rattle.range_node.proofs.store_pair.Goals as goal
 
 pub returns : goal.returns

@@ -1,15 +1,18 @@
+use Rattle.std.proofs.lemmas.Result.{err_from_is_err_and}
 use Rattle.reading.specs.Code.{judged_step}
 use borrow.Author.Rules.{rules}
 use Rattle.reading.proofs.judge_text.Goals as goal
 
-pub returns-in-Fault : goal.returns-in-Fault
+pub returns-in-Err : goal.returns-in-Err
 unfolding judged_step
-returns-in-Fault c = rw c.in-Fault.is
+returns-in-Err c = rw (c.in-Err.is, c.refused_by.ensures)
 
-pub returns-in-Cut : goal.returns-in-Cut
+pub returns-in_err-judge : goal.returns-in_err-judge
 unfolding judged_step
-returns-in-Cut c = rw c.in-Cut.is
+returns-in_err-judge c =
+    let p = err_from_is_err_and c.from_residual.result c.from_residual.ensures.1 in
+    rw (p.1, p.2, c.in_default.is, ← c.in_err-judge.ensures)
 
-pub returns-in-At : goal.returns-in-At
+pub returns : goal.returns
 unfolding judged_step
-returns-in-At c = rw (c.in-At.is, c.by_verdict.ensures, c.judge.ensures)
+returns c = rw (c.in_default.is, ← c.in_ok-judge.ensures)

@@ -1,6 +1,5 @@
-use borrow.Author.Rules.{rules}
 use Rattle.replace_run.proofs.Laws.{part-is}
 use Rattle.replace_run.proofs.part.Goals as goal
 
 pub returns : goal.returns
-returns c = part-is c.args.s.now _ _ _ _ c.smaller-end.ensures c.smaller-start.ensures
+returns c = part-is c.args.s.now _ _ _ _ c.min-end.ensures c.min-start.ensures

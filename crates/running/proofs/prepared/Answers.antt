@@ -1,5 +1,4 @@
 use Rattle.running.specs.Running.{prepared_as}
-use borrow.Author.Rules.{rules}
 use Rattle.running.proofs.prepared.Goals as goal
 
 pub returns-in-Matrix : goal.returns-in-Matrix

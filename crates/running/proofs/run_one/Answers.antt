@@ -8,7 +8,6 @@ use Rattle.room.specs.Room.{Room, lent}
 use Rattle.pixel_run.specs.Step.{step_pixel}
 use Rattle.pixel_run.specs.Each.{each_pixel}
 use Rattle.running.specs.Running.{prepared_as, prepared_of, rows_as, rows_of, run_node}
-use borrow.Author.Rules.{rules}
 use Rattle.running.proofs.run_one.Goals as goal
 
 as-node : (m : Room) (n : Node) (xs : List Float) {ys : List Float} {p : Prepared} {rows : List (List Float)} {i o : Float}
@@ -24,4 +23,4 @@ as-node m n xs ep er ei eo h = cc
 pub returns : goal.returns
 returns c =
     let a = c.args in
-    as-node (lent a.coefficients.now a.powers.now) a.node a.pixels.now c.prepared-step.ensures c.rows-handed.ensures c.scale-in_scale.ensures c.scale-out_scale.ensures c.run_node.ensures.pixels_after
+    as-node (lent a.coefficients.now a.powers.now) a.node a.pixels.now c.prepared-step.ensures c.rows.ensures c.scale.ensures c.scale-2.ensures c.run_node.ensures.pixels_after

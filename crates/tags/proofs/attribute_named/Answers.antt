@@ -1,8 +1,8 @@
 use native.Mathlib.Omega.{arith}
 use mathlib.Core.Path.{sym}
+use Rattle.std.proofs.lemmas.Result.{err_from_is_err_and}
 use Rattle.tags.specs.Rules.{rules_of}
-use Rattle.tags.proofs.AttributeLaws.{named-bad, named-quote, named-fault, named-cut}
-use borrow.Author.Rules.{rules}
+use Rattle.tags.proofs.AttributeLaws.{named-bad, named-quote, named-failed}
 use Rattle.tags.proofs.attribute_named.Goals as goal
 
 pub returns-then-k-ne0 : goal.returns-then-k-ne0
@@ -10,24 +10,13 @@ returns-then-k-ne0 c =
     named-bad (rules_of c.args.kind) _ _ _ _ c.requires _ (rw c.part.ensures at c.name_fault-k.ensures) c.if-k-ne0.true
 
 pub attribute_text-requires : goal.attribute_text-requires
-attribute_text-requires c = (
-  c.requires.0,
-  omega (arith, (rw c.in-At.is at c.to_quote-r.ensures).inside),
-  (rw c.in-At.is at c.to_quote-r.ensures).inside.1,
-  sym (rw c.in-At.is at c.to_quote-r.ensures).out,
-)
+attribute_text-requires c = (c.requires.0, omega (arith, c.in_ok-q.ensures.inside), c.in_ok-q.ensures.inside.1, sym c.in_ok-q.ensures.out)
 
-pub returns-in-At : goal.returns-in-At
-returns-in-At c =
-    named-quote (rules_of c.args.kind) _ _ _ _ c.requires _ (rw c.part.ensures at c.name_fault-k.ensures) c.if-k-ne0.false _ _
-    (rw c.in-At.is at c.to_quote-r.ensures) c.attribute_text.ensures
+pub returns : goal.returns
+returns c =
+    named-quote (rules_of c.args.kind) _ _ _ _ c.requires _ (rw c.part.ensures at c.name_fault-k.ensures) c.if-k-ne0.false _ _ c.in_ok-q.ensures c.attribute_text.ensures
 
-pub returns-in-Fault : goal.returns-in-Fault
-returns-in-Fault c =
-    named-fault (rules_of c.args.kind) _ _ _ _ c.requires _ (rw c.part.ensures at c.name_fault-k.ensures) c.if-k-ne0.false _ _
-    (rw c.in-Fault.is at c.to_quote-r.ensures)
-
-pub returns-in-Cut : goal.returns-in-Cut
-returns-in-Cut c =
-    named-cut (rules_of c.args.kind) _ _ _ _ c.requires _
-    (rw c.part.ensures at c.name_fault-k.ensures) c.if-k-ne0.false (rw c.in-Cut.is at c.to_quote-r.ensures)
+pub returns-in_err-q : goal.returns-in_err-q
+returns-in_err-q c =
+    let p = err_from_is_err_and c.from_residual.result c.from_residual.ensures.1 in
+    rw (p.1, p.2) (named-failed (rules_of c.args.kind) _ _ _ _ c.requires _ (rw c.part.ensures at c.name_fault-k.ensures) c.if-k-ne0.false _ c.in_err-q.ensures)

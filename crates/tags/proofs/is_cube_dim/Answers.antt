@@ -1,7 +1,4 @@
-use mathlib.Core.Path.{◌∙◌, sym, ap}
 use native.Mathlib.Omega.{arith}
-use borrow.Author.Rules.{rules}
-use Rattle.xml.specs.Bytes.{same}
 use Rattle.tags.proofs.Cubes.{dim-short, dim-long}
 use Rattle.tags.proofs.is_cube_dim.Goals as goal
 

@@ -1,4 +1,3 @@
-use borrow.Author.Rules.{rules}
 use Rattle.tags.proofs.Cubes.{points-few, points-many, points-is, points_none}
 use Rattle.tags.proofs.points_of.Goals as goal
 

@@ -1,5 +1,4 @@
 use Rattle.tags.proofs.Dims.{shape-zero, shape-few, shape-many, shape-none, shape_is}
-use borrow.Author.Rules.{rules}
 use Rattle.tags.proofs.shape_of.Goals as goal
 
 pub returns-then-begins_with_zero : goal.returns-then-begins_with_zero

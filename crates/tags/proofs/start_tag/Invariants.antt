@@ -1,11 +1,7 @@
-use native.Mathlib.Omega.{arith}
-use mathlib.Core.Path.{sym, ◌∙◌}
 use Prim.Native.Nat.{◌-◌}
 use lib.ListN.{length}
 use Rattle.tags.specs.Rules.{rules_of}
-use Rattle.tags.proofs.Lists.{stored, full}
-use Rattle.tags.proofs.Ends.{TagInv, tag-start, tag-end, tag-space, tag_open, tag-empty, tag-other, tag-fault, tag-cut, tag-attribute, closes}
-use borrow.Author.Rules.{rules}
+use Rattle.tags.proofs.Ends.{TagInv}
 use Rattle.tags.proofs.start_tag.Given as goal
 
 abbrev pub invariant-loop-i : goal.invariant-loop-i

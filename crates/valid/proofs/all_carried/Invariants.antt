@@ -1,11 +1,8 @@
-use Prim.Native.Nat.{◌≤◌, ◌-◌}
+use Prim.Native.Nat.{◌-◌}
 use Rattle.room.specs.Room.{lent}
 use Rattle.valid.specs.Valid.{carried, numbers_at}
 use Rattle.valid.proofs.Laws.{Tested}
 use Rattle.valid.proofs.all_carried.Given as goal
 
 abbrev pub invariant-loop-k : goal.invariant-loop-k
-invariant-loop-k l = (l.at ≤ l.k) × (l.k ≤ l.end) × Tested carried (numbers_at (lent l.coefficients l.powers) l.at l.count) 0 (l.k - l.at)
-
-abbrev pub decreases-loop-k : goal.decreases-loop-k
-decreases-loop-k l = l.end - l.k
+invariant-loop-k l = Tested carried (numbers_at (lent l.coefficients l.powers) l.at l.count) 0 (l.k - l.at)

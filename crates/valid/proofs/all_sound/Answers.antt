@@ -1,30 +1,19 @@
-use mathlib.Core.Bool.{not}
-use mathlib.Core.Path.{refl, ap}
-use native.Mathlib.Omega.{arith}
-use Rattle.process_list.specs.List.{blank_node}
+use mathlib.Core.Path.{◌∙◌, sym}
+use mathlib.Core.List.{map}
+use Rattle.std.proofs.lemmas.Iterator.{YieldsList-from_slice}
+use Rattle.std.proofs.lemmas.Iterator.Search.{all_from_yields_List}
+use borrow.Author.Rules.{rules}
+use Rattle.std.proofs.lemmas.List.Folds.{list_all-map}
+use Rattle.process_list.specs.declared.Node.{Node}
 use Rattle.room.specs.Room.{lent}
-use Rattle.valid.proofs.Laws.{tested-fails, tested-goes-on, tested-ends, element-test, elements-length}
-use Rattle.valid.specs.Valid.{element_of}
+use Rattle.valid.specs.Valid.{element_of, sound}
+use Rattle.valid.proofs.Laws.{every-all}
 use Rattle.valid.proofs.all_sound.Goals as goal
-
-pub loop-k-init : goal.loop-k-init
-loop-k-init c = record { left = refl }
-
-pub returns-then-not-sound : goal.returns-then-not-sound
-returns-then-not-sound c =
-    let a = c.args in
-    let m = lent a.coefficients.now a.powers.now in
-    tested-fails c.loop-k.invariant (element_of m blank_node) (omega (arith, elements-length a.list m))
-    (element-test a.list m _ c.get-node.ensures c.sound.ensures) (ap not c.if-not-sound.true)
-
-pub loop-k-preserved : goal.loop-k-preserved
-loop-k-preserved c =
-    let a = c.args in
-    let m = lent a.coefficients.now a.powers.now in
-    tested-goes-on c.loop-k.invariant (element_of m blank_node) (omega (arith, elements-length a.list m))
-    (element-test a.list m _ c.get-node.ensures c.sound.ensures) (ap not c.if-not-sound.false)
 
 pub returns : goal.returns
 returns c =
-    let a = c.args in
-    tested-ends c.loop-k.invariant (omega (arith, elements-length a.list (lent a.coefficients.now a.powers.now)))
+    let ns = c.args.nodes.now in
+    let m = lent c.args.coefficients.now c.args.powers.now in
+    all_from_yields_List (λ (n : Node). sound (element_of m n)) c.all.new.self _ _ c.all.ensures.ran (YieldsList-from_slice {s = c.iter.result} ns cc) (λ x b q k. search rules)
+    ∙ sym (list_all-map sound (element_of m) ns)
+    ∙ every-all sound (map (element_of m) ns)

@@ -1,22 +1,17 @@
-use mathlib.Core.Bool.{not}
-use mathlib.Core.Path.{◌≡◌, sym, ap}
-use Prim.Native.Nat.{ℕ}
+use mathlib.Core.Path.{◌≡◌, ◌∙◌}
 use native.Mathlib.Omega.{arith}
-use lib.ListN.{drop}
-use Rattle.valid.proofs.Laws.{tested-fails, tested-goes-on, tested-ends}
-use Rattle.valid.specs.Valid.{every, is_blank}
+use lib.ListN.{length, drop, length-drop}
+use lib.Seq.{take_all}
+use Rattle.std.proofs.lemmas.Iterator.{YieldsList-from_slice}
+use Rattle.std.proofs.lemmas.Iterator.Search.{all_from_yields_List}
+use borrow.Author.Rules.{rules}
+use Rattle.valid.specs.Valid.{is_blank}
+use Rattle.valid.proofs.Laws.{every-all}
 use Rattle.valid.proofs.blank_behind.Goals as goal
 
-pub loop-k-init : goal.loop-k-init
-loop-k-init c =
-    let h : c.args.list.count ≡ c.held-k.result = sym (c.held-k.ensures.whole c.requires) in
-    record { left = ap (λ (n : ℕ). every is_blank (drop n c.args.list.nodes)) h }
-
-pub returns-then-not-is_blank : goal.returns-then-not-is_blank
-returns-then-not-is_blank c = tested-fails c.loop-k.invariant _ (omega arith) c.is_blank.ensures (ap not c.if-not-is_blank.true)
-
-pub loop-k-preserved : goal.loop-k-preserved
-loop-k-preserved c = tested-goes-on c.loop-k.invariant _ (omega arith) c.is_blank.ensures (ap not c.if-not-is_blank.false)
-
 pub returns : goal.returns
-returns c = tested-ends c.loop-k.invariant (omega arith)
+returns c =
+    let xs = drop c.args.list.count c.args.list.nodes in
+    let n : length c.args.list.nodes ≡ 32 = search arith in
+    let m : c.iter.result.rest.now ≡ xs = c.iter.ensures.rest ∙ take_all _ xs (simp length-drop (omega arith)) in
+    all_from_yields_List is_blank c.all.new.self _ _ c.all.ensures.ran (YieldsList-from_slice {s = c.iter.result} xs m) (λ x b q k. search rules) ∙ every-all is_blank xs

@@ -1,55 +1,26 @@
+use mathlib.Core.Path.{◌≡◌, refl}
+use mathlib.Core.Bool.{true}
 use borrow.Author.Rules.{rules}
+use Rattle.process_list.specs.declared.Depth.{Depth}
+use Rattle.process_list.specs.declared.Kind.{Kind}
+use Rattle.process_list.specs.declared.Kind.TheVariants.{Matrix, Lut1d, Range, Cdl, Lut3d, OneEnd}
+use Rattle.process_list.specs.List.{same_depth}
 use Rattle.valid.specs.Valid.{depths_right}
 use Rattle.valid.proofs.depths_right.Goals as goal
 
-pub returns-in-Matrix : goal.returns-in-Matrix
+-- a kind without a rule on its depths
+others : (k : Kind) (i o : Depth) → ((e : _) → k ≡ OneEnd e → ⊥) → true ≡ depths_right k i o
 unfolding depths_right
-returns-in-Matrix c = search rules
-
-pub returns-in-Lut1d : goal.returns-in-Lut1d
-unfolding depths_right
-returns-in-Lut1d c = search rules
-
-pub returns-in-Range : goal.returns-in-Range
-unfolding depths_right
-returns-in-Range c = search rules
-
-pub returns-in-Cdl : goal.returns-in-Cdl
-unfolding depths_right
-returns-in-Cdl c = search rules
-
-pub returns-in-Lut3d : goal.returns-in-Lut3d
-unfolding depths_right
-returns-in-Lut3d c = search rules
+others (Matrix wide) i o f = refl
+others (Lut1d e n) i o f = refl
+others (Range style) i o f = refl
+others (Cdl style) i o f = refl
+others (Lut3d n m) i o f = refl
+others (OneEnd end) i o f = absurd (f end refl)
 
 pub returns-in-OneEnd : goal.returns-in-OneEnd
-unfolding depths_right
-returns-in-OneEnd c = simp c.in-OneEnd.is c.same_depth.ensures
+unfolding depths_right same_depth
+returns-in-OneEnd c = simp c.in-OneEnd.is (search rules)
 
-pub enum_told-1 : goal.enum_told-1
-unfolding depths_right
-enum_told-1 c = search rules
-
-pub enum_told-in-Lut1d : goal.enum_told-in-Lut1d
-unfolding depths_right
-enum_told-in-Lut1d c = search rules
-
-pub enum_told-in-Range : goal.enum_told-in-Range
-unfolding depths_right
-enum_told-in-Range c = search rules
-
-pub enum_told-in-Cdl : goal.enum_told-in-Cdl
-unfolding depths_right
-enum_told-in-Cdl c = search rules
-
-pub enum_told-in-Lut3d : goal.enum_told-in-Lut3d
-unfolding depths_right
-enum_told-in-Lut3d c = search rules
-
-pub enum_told-in-OneEnd : goal.enum_told-in-OneEnd
-unfolding depths_right
-enum_told-in-OneEnd c = search rules
-
-pub same_depth-requires : goal.same_depth-requires
-unfolding depths_right
-same_depth-requires c = search rules
+pub returns-in_default : goal.returns-in_default
+returns-in_default c = others _ _ _ c.in_default.not-OneEnd

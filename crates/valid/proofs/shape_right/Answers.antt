@@ -1,59 +1,28 @@
-use borrow.Author.Rules.{rules}
+use mathlib.Core.Path.{◌≡◌, refl}
+use mathlib.Core.Bool.{true}
+use Prim.Native.Nat.{ℕ}
+use Rattle.process_list.specs.declared.Kind.{Kind}
+use Rattle.process_list.specs.declared.Kind.TheVariants.{Matrix, Lut1d, Range, Cdl, Lut3d, OneEnd}
 use Rattle.valid.specs.Valid.{shape_right}
 use Rattle.valid.proofs.shape_right.Goals as goal
 
-pub returns-in-Matrix : goal.returns-in-Matrix
+-- a kind without a shape that is not carried
+others : (k : Kind) → ((e n : ℕ) → k ≡ Lut1d e n → ⊥) → ((n : ℕ) (i : _) → k ≡ Lut3d n i → ⊥) → true ≡ shape_right k
 unfolding shape_right
-returns-in-Matrix c = search rules
+others (Matrix wide) f g = refl
+others (Lut1d e n) f g = absurd (f e n refl)
+others (Range style) f g = refl
+others (Cdl style) f g = refl
+others (Lut3d n i) f g = absurd (g n i refl)
+others (OneEnd end) f g = refl
 
 pub returns-in-Lut1d : goal.returns-in-Lut1d
 unfolding shape_right
 returns-in-Lut1d c = simp c.in-Lut1d.is c.table_right.ensures
 
-pub returns-in-Range : goal.returns-in-Range
-unfolding shape_right
-returns-in-Range c = search rules
-
-pub returns-in-Cdl : goal.returns-in-Cdl
-unfolding shape_right
-returns-in-Cdl c = search rules
-
 pub returns-in-Lut3d : goal.returns-in-Lut3d
 unfolding shape_right
 returns-in-Lut3d c = simp c.in-Lut3d.is c.cube_right.ensures
 
-pub returns-in-OneEnd : goal.returns-in-OneEnd
-unfolding shape_right
-returns-in-OneEnd c = search rules
-
-pub enum_told-1 : goal.enum_told-1
-unfolding shape_right
-enum_told-1 c = search rules
-
-pub enum_known-kind : goal.enum_known-kind
-unfolding shape_right
-enum_known-kind c = search rules
-
-pub table_right-requires : goal.table_right-requires
-unfolding shape_right
-table_right-requires c = search rules
-
-pub enum_told-in-Range : goal.enum_told-in-Range
-unfolding shape_right
-enum_told-in-Range c = search rules
-
-pub enum_told-in-Cdl : goal.enum_told-in-Cdl
-unfolding shape_right
-enum_told-in-Cdl c = search rules
-
-pub enum_known-kind-in-Lut3d-1 : goal.enum_known-kind-in-Lut3d-1
-unfolding shape_right
-enum_known-kind-in-Lut3d-1 c = search rules
-
-pub cube_right-requires : goal.cube_right-requires
-unfolding shape_right
-cube_right-requires c = search rules
-
-pub enum_told-in-OneEnd : goal.enum_told-in-OneEnd
-unfolding shape_right
-enum_told-in-OneEnd c = search rules
+pub returns-in_default : goal.returns-in_default
+returns-in_default c = others _ c.in_default.not-Lut1d c.in_default.not-Lut3d

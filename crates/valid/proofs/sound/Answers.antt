@@ -51,13 +51,24 @@ returns-then-not-rules_hold c =
     rw exact at (sym c.all_carried.ensures ∙ c.if-not-all_carried.false) in
     sym (sound-whole _ _ shaped (omega arith) ∙ simp (forms, sym c.rules_hold.ensures ∙ c.if-not-rules_hold.true))
 
-pub returns : goal.returns
-returns c =
+pub returns-then-depths_right : goal.returns-then-depths_right
+returns-then-depths_right c =
     let shaped : shape_right c.args.node.kind ≡ true = sym c.shape_right.ensures ∙ c.if-not-shape_right.false in
     let few = shape-few c.args.node.kind shaped in
     let exact : c.numbers_of-count.result ≡ numbers_of c.args.node.kind = c.numbers_of-count.ensures ∙ capped-exact (numbers_of c.args.node.kind) (omega arith) in
     let forms : every carried (numbers_at (lent c.args.coefficients.now c.args.powers.now) c.args.node.at (numbers_of c.args.node.kind)) ≡ true =
     rw exact at (sym c.all_carried.ensures ∙ c.if-not-all_carried.false) in
-    c.both.ensures
+    c.allowed.ensures
     ∙ sym (sound-whole _ _ shaped (omega arith)
-    ∙ simp (forms, sym c.rules_hold.ensures ∙ c.if-not-rules_hold.false, c.depths_right.ensures, c.allowed.ensures))
+    ∙ simp (forms, sym c.rules_hold.ensures ∙ c.if-not-rules_hold.false, sym c.depths_right.ensures ∙ c.if-depths_right.true))
+
+pub returns-else-depths_right : goal.returns-else-depths_right
+returns-else-depths_right c =
+    let shaped : shape_right c.args.node.kind ≡ true = sym c.shape_right.ensures ∙ c.if-not-shape_right.false in
+    let few = shape-few c.args.node.kind shaped in
+    let exact : c.numbers_of-count.result ≡ numbers_of c.args.node.kind = c.numbers_of-count.ensures ∙ capped-exact (numbers_of c.args.node.kind) (omega arith) in
+    let forms : every carried (numbers_at (lent c.args.coefficients.now c.args.powers.now) c.args.node.at (numbers_of c.args.node.kind)) ≡ true =
+    rw exact at (sym c.all_carried.ensures ∙ c.if-not-all_carried.false) in
+    c.if-depths_right.false
+    ∙ sym (sound-whole _ _ shaped (omega arith)
+    ∙ simp (forms, sym c.rules_hold.ensures ∙ c.if-not-rules_hold.false, sym c.depths_right.ensures ∙ c.if-depths_right.false))

@@ -1,30 +1,22 @@
 use mathlib.Core.Path.{sym, ◌∙◌}
-use borrow.Author.Rules.{rules}
 use Rattle.room.specs.Room.{room_length}
 use Rattle.valid.specs.Valid.{zero_from}
+use Rattle.valid.proofs.Laws.{rest-zeros}
 use Rattle.valid.proofs.zero_from.Goals as goal
 
-pub returns-then-not-coefficients_zero : goal.returns-then-not-coefficients_zero
-unfolding zero_from
-returns-then-not-coefficients_zero c =
-    let e = rw c.length-room.ensures at c.coefficients_zero.ensures in
-    simp (sym e ∙ c.if-not-coefficients_zero.true)
+pub returns-then-all_are : goal.returns-then-all_are
+unfolding zero_from room_length
+returns-then-all_are c =
+    let a = c.args in
+    let n = c.length-room.result in
+    let e = c.all_are.ensures ∙ rest-zeros a.coefficients.now a.at n _ c.min-start.ensures in
+    let f = c.all_are-then-all_are.ensures ∙ rest-zeros a.powers.now a.at n _ c.min-start.ensures in
+    rw (← c.length-room.ensures) (simp (sym e, c.if-all_are.true) f)
 
-pub returns : goal.returns
-unfolding zero_from
-returns c =
-    let e = rw c.length-room.ensures at c.coefficients_zero.ensures in
-    let f = rw c.length-room.ensures at c.powers_zero.ensures in
-    simp (sym e ∙ c.if-not-coefficients_zero.false) f
-
-pub length-room-requires : goal.length-room-requires
-unfolding room_length
-length-room-requires c = search rules
-
-pub coefficients_zero-requires : goal.coefficients_zero-requires
-unfolding room_length
-coefficients_zero-requires c = search rules
-
-pub powers_zero-requires : goal.powers_zero-requires
-unfolding room_length
-powers_zero-requires c = search rules
+pub returns-else-all_are : goal.returns-else-all_are
+unfolding zero_from room_length
+returns-else-all_are c =
+    let a = c.args in
+    let n = c.length-room.result in
+    let e = c.all_are.ensures ∙ rest-zeros a.coefficients.now a.at n _ c.min-start.ensures in
+    rw (← c.length-room.ensures) (simp (sym e, c.if-all_are.false))

@@ -1,11 +1,8 @@
-use mathlib.Core.Path.{sym, ◌∙◌}
 use Prim.Native.Nat.{◌-◌}
-use native.Mathlib.Omega.{arith}
 use lib.ListN.{length}
 use Rattle.room.specs.Room.{lent}
 use Rattle.values.specs.Code.{rule_of}
-use Rattle.values.proofs.Loop.{NumbersInv, numbers-start, numbers-from, numbers-ended, numbers-space, numbers-end, token-forward, numbers-token, numbers-token-fault, numbers-token-cut}
-use borrow.Author.Rules.{rules}
+use Rattle.values.proofs.Loop.{NumbersInv}
 use Rattle.values.proofs.stored_numbers.Given as goal
 
 abbrev pub invariant-loop-i : goal.invariant-loop-i

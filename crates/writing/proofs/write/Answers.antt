@@ -1,8 +1,6 @@
 use mathlib.Core.Path.{sym, ◌∙◌}
-use borrow.Author.Tests.{not-true, not-false}
 use Rattle.room.specs.Room.{lent}
 use Rattle.writing.proofs.Answers.{ends-16, ends-18, ends-17, ends-written}
-use borrow.Author.Rules.{rules}
 use Rattle.writing.proofs.write.Goals as goal
 
 -- 16, 18, 17, else the text. Assumes nothing.

@@ -1,6 +1,6 @@
 use native.Mathlib.Omega.{arith}
 use borrow.Author.Tests.{eq-eqb, ne_eqb}
-use Rattle.xml.proofs.Answers.{failed}
+use Rattle.std.proofs.lemmas.Result.{err_from_is_err_and}
 use Rattle.xml.proofs.Texts.{text-start, text-end, text-stop, text-less, text-more, text-and, text-failed}
 use Rattle.xml.proofs.text_to.Goals as goal
 
@@ -13,18 +13,17 @@ returns-then-b-stop c = text-stop _ _ _ _ c.loop-i.invariant (omega arith) (eq-e
 pub returns-then-b-eq60 : goal.returns-then-b-eq60
 returns-then-b-eq60 c = text-less _ _ _ _ c.loop-i.invariant (omega arith) (ne_eqb _ _ c.if-b-stop.false) c.if-b-eq60.true
 
-pub returns-in_default : goal.returns-in_default
-returns-in_default c =
-    text-failed _ _ _ _ c.loop-i.invariant (omega arith) (ne_eqb _ _ c.if-b-stop.false) c.if-b-eq60.false c.if-b-eq38.true _
-    (failed c.entity-r.result c.in_default.in_default-own.keys2) c.entity-r.ensures
+pub returns-in_err-i : goal.returns-in_err-i
+returns-in_err-i c =
+    let p = err_from_is_err_and c.from_residual.result c.from_residual.ensures.1 in
+    rw (p.1, p.2) (text-failed _ _ _ _ c.loop-i.invariant (omega arith) (ne_eqb _ _ c.if-b-stop.false) c.if-b-eq60.false c.if-b-eq38.true _ tt c.in_err-i.ensures)
 
 pub loop-i-smaller-then-b-eq38 : goal.loop-i-smaller-then-b-eq38
-loop-i-smaller-then-b-eq38 c = omega (arith, (rw c.in-At.is at c.entity-r.ensures).inside)
+loop-i-smaller-then-b-eq38 c = omega (arith, c.in_ok-i.ensures.inside)
 
 pub loop-i-preserved-then-b-eq38 : goal.loop-i-preserved-then-b-eq38
 loop-i-preserved-then-b-eq38 c =
-    text-and _ _ _ _ c.loop-i.invariant (omega arith) (ne_eqb _ _ c.if-b-stop.false) c.if-b-eq60.false c.if-b-eq38.true _
-    (rw c.in-At.is at c.entity-r.ensures)
+    text-and _ _ _ _ c.loop-i.invariant (omega arith) (ne_eqb _ _ c.if-b-stop.false) c.if-b-eq60.false c.if-b-eq38.true _ c.in_ok-i.ensures
 
 pub loop-i-smaller : goal.loop-i-smaller
 loop-i-smaller c = omega arith

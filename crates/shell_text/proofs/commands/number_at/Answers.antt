@@ -1,9 +1,12 @@
-use Rattle.shell_text.proofs.CommandLaws.{number-given, number-none}
-use borrow.Author.Rules.{rules}
+use Rattle.std.proofs.Common.{arith}
+use Rattle.std.proofs.lemmas.Grind.{common_steps}
+use Rattle.shell_text.specs.Commands.{number_at}
 use Rattle.shell_text.proofs.commands.number_at.Goals as goal
 
-pub returns-in-Number : goal.returns-in-Number
-returns-in-Number c = search number-given
+pub returns-in_err-number : goal.returns-in_err-number
+unfolding number_at
+returns-in_err-number c = grind (arith, common_steps)
 
-pub returns-in-Malformed : goal.returns-in-Malformed
-returns-in-Malformed c = search number-none
+pub returns : goal.returns
+unfolding number_at
+returns c = grind (arith, common_steps)

@@ -1,28 +1,20 @@
+use Rattle.std.proofs.Common.{arith}
+use Rattle.std.proofs.lemmas.Grind.{common_steps}
 use Rattle.shell_text.specs.Commands.{line_numbers}
-use Rattle.scanning.specs.Steps.{tests}
-use borrow.Author.Rules.{rules}
 use Rattle.shell_text.proofs.commands.numbers.Goals as goal
 
-pub returns-then-asked-eq1 : goal.returns-then-asked-eq1
+pub returns-in-Bytes : goal.returns-in-Bytes
 unfolding line_numbers
-returns-then-asked-eq1 c = search tests
+returns-in-Bytes c = grind (arith, common_steps)
 
-pub number_at-requires : goal.number_at-requires
+pub returns-in-Numbered : goal.returns-in-Numbered
 unfolding line_numbers
-number_at-requires c = search rules
+returns-in-Numbered c = grind (arith, common_steps)
 
-pub returns-then-asked-eq2 : goal.returns-then-asked-eq2
+pub returns-in-Fed : goal.returns-in-Fed
 unfolding line_numbers
-returns-then-asked-eq2 c = search tests
+returns-in-Fed c = grind (arith, common_steps)
 
-pub two_numbers-requires : goal.two_numbers-requires
+pub returns-in-Named : goal.returns-in-Named
 unfolding line_numbers
-two_numbers-requires c = search rules
-
-pub returns-then-asked-eq3 : goal.returns-then-asked-eq3
-unfolding line_numbers
-returns-then-asked-eq3 c = search tests
-
-pub returns : goal.returns
-unfolding line_numbers
-returns c = search tests
+returns-in-Named c = grind (arith, common_steps)

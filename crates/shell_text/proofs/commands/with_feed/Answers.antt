@@ -1,12 +1,12 @@
-use Rattle.shell_text.proofs.CommandLaws.{feed-fits, feed-large, feed-none}
-use borrow.Author.Rules.{rules}
+use Rattle.std.proofs.Common.{arith}
+use Rattle.std.proofs.lemmas.Grind.{common_steps}
+use Rattle.shell_text.specs.Commands.{with_feed}
 use Rattle.shell_text.proofs.commands.with_feed.Goals as goal
 
-pub returns-then-n-lt-NUMBER_LIMIT : goal.returns-then-n-lt-NUMBER_LIMIT
-returns-then-n-lt-NUMBER_LIMIT c = search feed-fits
+pub returns-then-second-lt-NUMBER_LIMIT : goal.returns-then-second-lt-NUMBER_LIMIT
+unfolding with_feed
+returns-then-second-lt-NUMBER_LIMIT c = grind (arith, common_steps)
 
-pub returns-else-n-lt-NUMBER_LIMIT : goal.returns-else-n-lt-NUMBER_LIMIT
-returns-else-n-lt-NUMBER_LIMIT c = search feed-large
-
-pub returns-in-None : goal.returns-in-None
-returns-in-None c = search feed-none
+pub returns : goal.returns
+unfolding with_feed
+returns c = grind (arith, common_steps)

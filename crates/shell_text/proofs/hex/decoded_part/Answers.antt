@@ -3,7 +3,6 @@ use Rattle.shell_text.specs.Hex.{word_at}
 use Rattle.scanning.specs.Steps.{part_length}
 use native.Mathlib.Omega.{arith}
 use mathlib.Core.Path.{refl, sym, ◌∙◌}
-use borrow.Author.Rules.{rules}
 use Rattle.shell_text.proofs.hex.decoded_part.Goals as goal
 
 pub returns-then-line-end : goal.returns-then-line-end
@@ -22,10 +21,10 @@ overflow_mul-n c =
 
 pub returns-then-n-end : goal.returns-then-n-end
 returns-then-n-end c =
-    part_bytes _ _ _ c.if-line-end.false c.if-end-start.false (sym c.is_none.ensures ∙ c.if-is_none.false) _ _ c.decode-n.result c.decode-n.ensures refl
-    c.if-n-end.true
+    part-malformed _ _ _ c.if-line-end.false c.if-end-start.false (sym c.is_none.ensures ∙ c.if-is_none.false) _ _ c.decode-n.result
+    c.decode-n.ensures refl c.if-n-end.true
 
 pub returns : goal.returns
 returns c =
-    part-malformed _ _ _ c.if-line-end.false c.if-end-start.false (sym c.is_none.ensures ∙ c.if-is_none.false) _ _ c.decode-n.result
-    c.decode-n.ensures refl c.if-n-end.false
+    part_bytes _ _ _ c.if-line-end.false c.if-end-start.false (sym c.is_none.ensures ∙ c.if-is_none.false) _ _ c.decode-n.result c.decode-n.ensures refl
+    c.if-n-end.false

@@ -1,40 +1,24 @@
-use native.Mathlib.Omega.{arith}
+use Rattle.std.proofs.Common.{arith}
+use Rattle.std.proofs.lemmas.Grind.{common_steps}
 use Rattle.shell_text.specs.Hex.{digit_of}
-use borrow.Author.Tests.{lt-ltb, le-ltb, le-leb, lt-leb}
-use borrow.Author.Rules.{rules}
 use Rattle.shell_text.proofs.hex.digit.Goals as goal
 
-pub returns-then-b-lt48 : goal.returns-then-b-lt48
+pub returns-in-48-to-57 : goal.returns-in-48-to-57
 unfolding digit_of
-returns-then-b-lt48 c = rw (lt-ltb c.args.b 48 c.if-b-lt48.true)
+returns-in-48-to-57 c = grind (arith, common_steps)
 
-pub returns-then-b-le57 : goal.returns-then-b-le57
+pub returns-in-97-to-102 : goal.returns-in-97-to-102
 unfolding digit_of
-returns-then-b-le57 c = rw (le-ltb c.args.b 48 c.if-b-lt48.false, le-leb c.args.b 57 c.if-b-le57.true)
+returns-in-97-to-102 c = grind (arith, common_steps)
 
-pub returns-then-b-lt97 : goal.returns-then-b-lt97
+pub returns-in_default : goal.returns-in_default
 unfolding digit_of
-returns-then-b-lt97 c =
-    rw (le-ltb c.args.b 48 c.if-b-lt48.false, lt-leb c.args.b 57 c.if-b-le57.false, lt-ltb c.args.b 97 c.if-b-lt97.true)
+returns-in_default c = grind (arith, common_steps)
 
-pub returns-then-b-le102 : goal.returns-then-b-le102
+pub returns-in_default-2 : goal.returns-in_default-2
 unfolding digit_of
-returns-then-b-le102 c =
-    rw (
-      le-ltb c.args.b 48 c.if-b-lt48.false,
-      lt-leb c.args.b 57 c.if-b-le57.false,
-      le-ltb c.args.b 97 c.if-b-lt97.false,
-      le-leb
-          c.args.b 102 c.if-b-le102.true,
-    ) (omega arith)
+returns-in_default-2 c = grind (arith, common_steps)
 
-pub returns : goal.returns
+pub returns-in_default-3 : goal.returns-in_default-3
 unfolding digit_of
-returns c =
-    rw (
-      le-ltb c.args.b 48 c.if-b-lt48.false,
-      lt-leb c.args.b 57 c.if-b-le57.false,
-      le-ltb c.args.b 97 c.if-b-lt97.false,
-      lt-leb
-          c.args.b 102 c.if-b-le102.false,
-    )
+returns-in_default-3 c = grind (arith, common_steps)

@@ -1,17 +1,16 @@
-use native.Mathlib.Omega.{arith}
+use Rattle.std.proofs.Common.{arith}
+use Rattle.std.proofs.lemmas.Grind.{common_steps}
 use Rattle.shell_text.specs.Hex.{glyph_of}
-use borrow.Author.Tests.{lt-ltb, le-ltb}
-use borrow.Author.Rules.{rules}
 use Rattle.shell_text.proofs.hex.glyph.Goals as goal
 
-pub returns-then-d-lt10 : goal.returns-then-d-lt10
+pub returns-in-0-to-9 : goal.returns-in-0-to-9
 unfolding glyph_of
-returns-then-d-lt10 c = rw (lt-ltb c.args.d 10 c.if-d-lt10.true)
+returns-in-0-to-9 c = grind (arith, common_steps)
 
-pub returns-then-d-lt16 : goal.returns-then-d-lt16
+pub returns-in-10-to-15 : goal.returns-in-10-to-15
 unfolding glyph_of
-returns-then-d-lt16 c = rw (le-ltb c.args.d 10 c.if-d-lt10.false, lt-ltb c.args.d 16 c.if-d-lt16.true) (omega arith)
+returns-in-10-to-15 c = grind (arith, common_steps)
 
-pub returns : goal.returns
+pub returns-in_default : goal.returns-in_default
 unfolding glyph_of
-returns c = rw (le-ltb c.args.d 10 c.if-d-lt10.false, le-ltb c.args.d 16 c.if-d-lt16.false)
+returns-in_default c = grind (arith, common_steps)

@@ -1,5 +1,4 @@
 use Rattle.shell_text.specs.Hex.{pair_text}
-use borrow.Author.Rules.{rules}
 use Rattle.shell_text.proofs.hex.hex_pair.Goals as goal
 
 pub returns : goal.returns

@@ -1,5 +1,4 @@
 use Rattle.shell_text.proofs.Laws.{no-last-field, last-field}
-use borrow.Author.Rules.{rules}
 use Rattle.shell_text.proofs.hex.last_field.Goals as goal
 
 pub returns-then-more : goal.returns-then-more

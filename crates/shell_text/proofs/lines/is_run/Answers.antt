@@ -1,15 +1,28 @@
-use Rattle.shell_text.proofs.Laws.{run_none, run-other, run_alone, run-words}
-use borrow.Author.Rules.{rules}
+use Rattle.std.proofs.Common.{arith}
+use Rattle.std.proofs.lemmas.Grind.{common_steps}
+use Rattle.shell_text.specs.Lines.{is_run}
 use Rattle.shell_text.proofs.lines.is_run.Goals as goal
 
-pub returns-then-line-eq0 : goal.returns-then-line-eq0
-returns-then-line-eq0 c = run_none _ c.if-line-eq0.true
+pub returns-in-88 : goal.returns-in-88
+unfolding is_run
+returns-in-88 c = grind (arith, common_steps)
 
-pub returns-then-line-ne88 : goal.returns-then-line-ne88
-returns-then-line-ne88 c = run-other _ c.if-line-eq0.false c.if-line-ne88.true
+pub returns-in-88-2 : goal.returns-in-88-2
+unfolding is_run
+returns-in-88-2 c = grind (arith, common_steps)
 
-pub returns-then-line-eq1 : goal.returns-then-line-eq1
-returns-then-line-eq1 c = run_alone _ c.if-line-ne88.false c.if-line-eq1.true
+pub returns-in_default : goal.returns-in_default
+unfolding is_run
+returns-in_default c = grind (arith, common_steps)
 
-pub returns : goal.returns
-returns c = run-words _ c.if-line-eq0.false c.if-line-ne88.false c.if-line-eq1.false
+pub returns-in_default-2 : goal.returns-in_default-2
+unfolding is_run
+returns-in_default-2 c = grind (arith, common_steps)
+
+pub returns-in_default-3 : goal.returns-in_default-3
+unfolding is_run
+returns-in_default-3 c = grind (arith, common_steps)
+
+pub returns-in_default-4 : goal.returns-in_default-4
+unfolding is_run
+returns-in_default-4 c = grind (arith, common_steps)

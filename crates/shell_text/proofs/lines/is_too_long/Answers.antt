@@ -1,11 +1,12 @@
+use Rattle.std.proofs.Common.{arith}
+use Rattle.std.proofs.lemmas.Grind.{common_steps}
 use Rattle.shell_text.specs.Lines.{is_too_long}
-use borrow.Author.Tests.{eq-eqb, ne_eqb}
 use Rattle.shell_text.proofs.lines.is_too_long.Goals as goal
 
-pub returns-then-number-eq17 : goal.returns-then-number-eq17
+pub returns-then-number-eq-SHORT_OUTPUT : goal.returns-then-number-eq-SHORT_OUTPUT
 unfolding is_too_long
-returns-then-number-eq17 c = rw (eq-eqb c.args.number 17 c.if-number-eq17.true)
+returns-then-number-eq-SHORT_OUTPUT c = grind (arith, common_steps)
 
-pub returns : goal.returns
+pub returns-else-number-eq-SHORT_OUTPUT : goal.returns-else-number-eq-SHORT_OUTPUT
 unfolding is_too_long
-returns c = rw (ne_eqb c.args.number 17 c.if-number-eq17.false)
+returns-else-number-eq-SHORT_OUTPUT c = grind (arith, common_steps)

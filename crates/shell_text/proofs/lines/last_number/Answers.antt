@@ -1,5 +1,4 @@
 use Rattle.shell_text.proofs.Laws.{no-last-number, last-number}
-use borrow.Author.Rules.{rules}
 use Rattle.shell_text.proofs.lines.last_number.Goals as goal
 
 pub returns-then-more : goal.returns-then-more

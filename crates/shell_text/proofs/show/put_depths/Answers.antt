@@ -1,6 +1,5 @@
 use Rattle.shell_text.specs.Show.{shown_depths}
 use Rattle.text_out.proofs.Laws.{puts_then}
-use borrow.Author.Rules.{rules}
 use Rattle.shell_text.proofs.show.put_depths.Goals as goal
 
 pub returns : goal.returns

@@ -1,7 +1,6 @@
 use Rattle.text_out.proofs.Laws.{puts-by}
 use Rattle.shell_text.specs.Show.{one_of_two}
 use mathlib.Core.List.{◌++◌}
-use borrow.Author.Rules.{rules}
 use Rattle.shell_text.proofs.show.put_either.Goals as goal
 
 pub returns-then-first : goal.returns-then-first

@@ -1,6 +1,5 @@
 use Rattle.text_out.proofs.Laws.{puts-by, puts_then}
 use Rattle.shell_text.specs.Show.{form_text}
-use borrow.Author.Rules.{rules}
 use Rattle.shell_text.proofs.show.put_form.Goals as goal
 
 pub returns-in-Matrix : goal.returns-in-Matrix

@@ -2,7 +2,6 @@ use native.Mathlib.Omega.{arith}
 use Rattle.ids.proofs.Laws.{text-short, text-part}
 use Rattle.text_out.proofs.Laws.{puts-as}
 use Rattle.shell_text.proofs.Laws.{shown-none, shown-some}
-use borrow.Author.Rules.{rules}
 use Rattle.shell_text.proofs.show.put_id.Goals as goal
 
 -- `-`, or the digits of the id's bytes, which are the first ones of the places. Assumes nothing.

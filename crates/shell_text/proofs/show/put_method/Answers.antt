@@ -1,7 +1,6 @@
 use mathlib.Core.List.{◌++◌}
 use Rattle.text_out.proofs.Laws.{puts-by}
 use Rattle.shell_text.specs.Show.{method_text}
-use borrow.Author.Rules.{rules}
 use Rattle.shell_text.proofs.show.put_method.Goals as goal
 
 pub returns-in-Trilinear : goal.returns-in-Trilinear

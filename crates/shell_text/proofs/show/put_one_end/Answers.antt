@@ -1,7 +1,6 @@
 use mathlib.Core.List.{◌++◌}
 use Rattle.text_out.proofs.Laws.{puts-by}
 use Rattle.shell_text.specs.Show.{one_end_text}
-use borrow.Author.Rules.{rules}
 use Rattle.shell_text.proofs.show.put_one_end.Goals as goal
 
 pub returns-in-Minimum : goal.returns-in-Minimum

@@ -1,6 +1,5 @@
 use Rattle.shell_text.specs.Show.{table_text}
 use Rattle.text_out.proofs.Laws.{puts_then}
-use borrow.Author.Rules.{rules}
 use Rattle.shell_text.proofs.show.put_table.Goals as goal
 
 pub returns : goal.returns

@@ -1,7 +1,6 @@
 use Rattle.shell_text.proofs.Laws.{zero_by_zero}
 use mathlib.Core.Path.{sym, ◌∙◌}
 use Rattle.shell_text.proofs.Laws.{by_field, by_digits, nan-of}
-use borrow.Author.Rules.{rules}
 use Rattle.shell_text.proofs.words.number.Goals as goal
 
 pub float_from_bits-result : goal.float_from_bits-result

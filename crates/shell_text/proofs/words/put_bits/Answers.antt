@@ -1,19 +1,14 @@
-use borrow.Author.Rules.{rules}
-use Rattle.shell_text.proofs.Laws.{top-none}
-use Rattle.shell_text.proofs.Laws.{digits-first, top-more}
-use Rattle.shell_text.specs.Words.{bits_text, top_digits}
+use Rattle.shell_text.proofs.Laws.{digits-first, top-more, top-none}
 use Rattle.text_out.proofs.Laws.{goes_then, goes_end}
-use Rattle.text_out.specs.Output.{Goes}
-use mathlib.Core.List.{◌++◌}
 use Rattle.shell_text.proofs.words.put_bits.Goals as goal
 
-pub loop-i-init : goal.loop-i-init
-loop-i-init c = digits-first _ _ _
+-- Assumes nothing.
+pub loop-init : goal.loop-init
+loop-init c = digits-first _ _ _
 
-pub loop-i-preserved : goal.loop-i-preserved
-loop-i-preserved c =
-    goes_then c.loop-i.invariant (top-more c.loop-i.i c.loop-i.rest c.glyph.result c.loop-i-test.true c.glyph.ensures)
-    c.put-held.ensures
+pub loop-preserved : goal.loop-preserved
+loop-preserved c =
+    goes_then c.loop.invariant (top-more c.loop.counter c.loop.rest c.glyph.result c.loop-test.true c.glyph.ensures) c.put-held.ensures
 
 pub returns : goal.returns
-returns c = goes_end c.loop-i.invariant (top-none c.loop-i.i c.loop-i.rest c.loop-i-test.false)
+returns c = goes_end c.loop.invariant (top-none c.loop.counter c.loop.rest c.loop-test.false)

@@ -3,7 +3,6 @@ use Rattle.shell_text.specs.Words.{bits_text, word_text}
 use Rattle.text_out.proofs.Laws.{puts-by, puts_then}
 use mathlib.Core.List.{◌++◌}
 use mathlib.Core.Path.{sym}
-use borrow.Author.Rules.{rules}
 use Rattle.shell_text.proofs.words.put_word.Goals as goal
 
 pub returns-then-x : goal.returns-then-x

@@ -1,6 +1,5 @@
 use Rattle.text_out.proofs.Laws.{puts-as, puts_then}
 use Rattle.writing.proofs.NodeLaws.{wide-asks, wide-text, narrow-asks, narrow-text, table-asks, table-text, range-asks, range-text, cdl-asks, cdl-text, cube-asks, cube-text, one-end-asks, one-end-text}
-use borrow.Author.Rules.{rules}
 use Rattle.writing.proofs.elements.put_content.Goals as goal
 
 -- By the kind of the node. Assumes nothing.

@@ -1,13 +1,9 @@
 use Rattle.text_out.proofs.Laws.{puts_then}
 use Rattle.valid.specs.Valid.{element_of}
 use Rattle.written_form.proofs.Tail.{node_text}
-use borrow.Author.Rules.{rules}
 use Rattle.writing.proofs.elements.put_node.Goals as goal
 
 -- Start tag, content, end tag. Assumes nothing.
-pub put_content-b-requires : goal.put_content-b-requires
-put_content-b-requires c = c.requires
-
 pub returns : goal.returns
 unfolding node_text element_of
 returns c =

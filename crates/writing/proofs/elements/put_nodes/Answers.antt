@@ -1,33 +1,32 @@
-use Prim.Native.Nat.{◌-◌}
 use native.Mathlib.Omega.{arith}
-use lib.ListN.{drop}
 use Rattle.room.specs.Room.{lent}
-use Rattle.valid.specs.Valid.{elements_of}
-use Rattle.text_out.specs.Output.{Goes}
 use Rattle.text_out.proofs.Laws.{goes-start, goes_then, goes_end}
-use Rattle.written_form.proofs.Tail.{nodes_text}
-use Rattle.writing.proofs.NodeLaws.{node-asks, nodes-next, nodes-last}
-use borrow.Author.Rules.{rules}
+use Rattle.writing.proofs.NodeLaws.{item-is, items-length, node-asks, nodes-next, nodes-last}
 use Rattle.writing.proofs.elements.put_nodes.Goals as goal
 
--- What is left are the nodes from index k on. Assumes nothing.
-pub loop-k-init : goal.loop-k-init
-loop-k-init c = goes-start _ _ _
+-- Assumes nothing.
+pub loop-node-init : goal.loop-node-init
+loop-node-init c = goes-start _ _ _
 
 pub put_node-held-requires : goal.put_node-held-requires
 put_node-held-requires c =
-    let e = c.held-count.ensures.nodes in
-    node-asks (lent c.args.coefficients.now c.args.powers.now) c.args.list c.requires c.loop-k.k (omega arith) _ c.get-node.ensures
+    let l = c.args.list in
+    let h = c.held-count.ensures in
+    let e = items-length l _ h in
+    node-asks (lent c.args.coefficients.now c.args.powers.now) l c.requires c.loop-node.node-index (omega (arith, c.loop-node-test.true)) _
+    (item-is l _ c.loop-node.node-index _ h c.loop-node-test.true)
 
-pub loop-k-preserved : goal.loop-k-preserved
-loop-k-preserved c =
+pub loop-node-preserved : goal.loop-node-preserved
+loop-node-preserved c =
     let a = c.args in
-    let e = c.held-count.ensures.nodes in
-    let n = nodes-next (lent a.coefficients.now a.powers.now) a.list c.loop-k.k (omega arith) _ c.get-node.ensures in
-    goes_then c.loop-k.invariant n c.put_node-held.ensures
+    let h = c.held-count.ensures in
+    let e = items-length a.list _ h in
+    let n = nodes-next (lent a.coefficients.now a.powers.now) a.list c.loop-node.node-index (omega (arith, c.loop-node-test.true)) _
+    (item-is a.list _ c.loop-node.node-index _ h c.loop-node-test.true) in
+    goes_then c.loop-node.invariant n c.put_node-held.ensures
 
 pub returns : goal.returns
 returns c =
     let a = c.args in
-    let e = c.held-count.ensures.nodes in
-    goes_end c.loop-k.invariant (nodes-last (lent a.coefficients.now a.powers.now) a.list c.loop-k.k (omega arith))
+    let e = items-length a.list _ c.held-count.ensures in
+    goes_end c.loop-node.invariant (nodes-last (lent a.coefficients.now a.powers.now) a.list c.loop-node.node-index (omega (arith, c.loop-node-test.false)))

@@ -2,7 +2,6 @@ use Rattle.room.specs.Room.{lent}
 use Rattle.valid.specs.Valid.{numbers_at}
 use Rattle.text_out.proofs.Laws.{puts-by}
 use Rattle.written_form.proofs.Tail.{one_end_text}
-use borrow.Author.Rules.{rules}
 use Rattle.writing.proofs.elements.put_one_end.Goals as goal
 
 -- By the end of the Range. Assumes nothing.

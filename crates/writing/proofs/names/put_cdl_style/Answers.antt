@@ -1,7 +1,6 @@
 use mathlib.Core.List.{◌++◌}
 use Rattle.text_out.proofs.Laws.{puts-by}
 use Rattle.written_form.specs.Written.{cdl_style_text}
-use borrow.Author.Rules.{rules}
 use Rattle.writing.proofs.names.put_cdl_style.Goals as goal
 
 -- The style of an ASC_CDL. Assumes nothing.

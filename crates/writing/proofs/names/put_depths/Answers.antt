@@ -1,5 +1,4 @@
 use Rattle.text_out.proofs.Laws.{puts_then}
-use borrow.Author.Rules.{rules}
 use Rattle.writing.proofs.names.put_depths.Goals as goal
 
 -- Both attributes, one after the other. Assumes nothing.

@@ -1,6 +1,5 @@
 use Rattle.text_out.proofs.Laws.{puts_then}
 use Rattle.written_form.proofs.Tail.{end_text}
-use borrow.Author.Rules.{rules}
 use Rattle.writing.proofs.names.put_end.Goals as goal
 
 -- An end tag. Assumes nothing.

@@ -2,7 +2,6 @@ use native.Mathlib.Omega.{arith}
 use Rattle.ids.proofs.Laws.{text-short, text-part}
 use Rattle.text_out.proofs.Laws.{puts_none, puts-as, puts_then}
 use Rattle.writing.proofs.NodeLaws.{id-none, id-some}
-use borrow.Author.Rules.{rules}
 use Rattle.writing.proofs.names.put_id.Goals as goal
 
 -- Nothing without an id; else its bytes, which are the first ones of the places, between the attribute's name and a quote. Assumes nothing.

@@ -1,7 +1,6 @@
 use mathlib.Core.List.{◌++◌}
 use Rattle.text_out.proofs.Laws.{puts-by}
 use Rattle.written_form.specs.Written.{interpolation_text}
-use borrow.Author.Rules.{rules}
 use Rattle.writing.proofs.names.put_interpolation.Goals as goal
 
 -- The method of a LUT3D. Assumes nothing.

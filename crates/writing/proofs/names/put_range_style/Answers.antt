@@ -1,7 +1,6 @@
 use mathlib.Core.List.{◌++◌}
 use Rattle.text_out.proofs.Laws.{puts-by}
 use Rattle.written_form.specs.Written.{range_style_text}
-use borrow.Author.Rules.{rules}
 use Rattle.writing.proofs.names.put_range_style.Goals as goal
 
 -- The style of a Range. Assumes nothing.

@@ -1,6 +1,5 @@
 use Rattle.text_out.proofs.Laws.{puts_then}
 use Rattle.written_form.proofs.Tail.{start_text}
-use borrow.Author.Rules.{rules}
 use Rattle.writing.proofs.names.put_start.Goals as goal
 
 -- Name, depths, id, style. Assumes nothing.

@@ -1,15 +1,15 @@
 use mathlib.Core.List.{◌++◌}
+use mathlib.Core.Logic.{inl, inr}
 use Rattle.text_out.proofs.Laws.{puts-by, goes-start}
 use Rattle.written_form.specs.Written.{style_text}
-use borrow.Author.Rules.{rules}
 use Rattle.writing.proofs.names.put_style.Goals as goal
 
 -- The style of each kind that has one (a Range with one end always clamps), and the method of a LUT3D. Assumes nothing.
 pub returns-in-Matrix : goal.returns-in-Matrix
-returns-in-Matrix c = puts-by (λ k t. style_text k ++ t) c.in-Matrix.is (goes-start _ _ _)
-
-pub returns-in-Lut1d : goal.returns-in-Lut1d
-returns-in-Lut1d c = puts-by (λ k t. style_text k ++ t) c.in-Lut1d.is (goes-start _ _ _)
+returns-in-Matrix c = elim c.in-Matrix.is [
+  | inl w ↦ puts-by (λ k t. style_text k ++ t) w.1 (goes-start _ _ _)
+  | inr w ↦ puts-by (λ k t. style_text k ++ t) w.2 (goes-start _ _ _)
+]
 
 pub returns-in-Range : goal.returns-in-Range
 returns-in-Range c = puts-by (λ k t. style_text k ++ t) c.in-Range.is c.put_range_style.ensures

@@ -6,15 +6,15 @@ use borrow.Author.Rules.{rules}
 use Rattle.writing.proofs.numbers.put_cube.Goals as goal
 
 -- An Array with the dims of a cube. Its entries fit, since its numbers stand in the room. Assumes nothing.
-pub overflow_mul-square : goal.overflow_mul-square
-unfolding room_length
-overflow_mul-square c =
-    let w = cube-within c.args.from c.args.points _ c.requires in
-    search rules
-
 pub overflow_mul-entries : goal.overflow_mul-entries
 unfolding room_length
 overflow_mul-entries c =
+    let w = cube-within c.args.from c.args.points _ c.requires in
+    search rules
+
+pub overflow_mul-entries-2 : goal.overflow_mul-entries-2
+unfolding room_length
+overflow_mul-entries-2 c =
     let w = cube-within c.args.from c.args.points _ c.requires in
     search rules
 

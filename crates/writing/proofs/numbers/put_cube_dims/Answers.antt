@@ -1,6 +1,5 @@
 use Rattle.text_out.proofs.Laws.{puts_then}
 use Rattle.written_form.proofs.Tail.{dims_text}
-use borrow.Author.Rules.{rules}
 use Rattle.writing.proofs.numbers.put_cube_dims.Goals as goal
 
 -- Two axes with a space behind each; the third axis and the columns stand as those of a table. Assumes nothing.

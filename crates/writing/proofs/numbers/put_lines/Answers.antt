@@ -1,6 +1,5 @@
 use Rattle.text_out.proofs.Laws.{puts_then}
 use Rattle.written_form.proofs.Tail.{lines_text}
-use borrow.Author.Rules.{rules}
 use Rattle.writing.proofs.numbers.put_lines.Goals as goal
 
 -- The end of the tag, the rows, the end tag. Assumes nothing.

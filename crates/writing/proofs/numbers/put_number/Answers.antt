@@ -1,4 +1,5 @@
-use borrow.Author.Rules.{sfits_of, rules}
+use borrow.Author.Rules.{rules}
+use mir.Val.{SFits}
 use lib.ListN.{get_or}
 use lib.IntN.{pos}
 use mir.ValLaws.{to_z-of_z}
@@ -24,6 +25,8 @@ pub returns : goal.returns
 unfolding decimal_at
 returns c =
     let s = c.args in
-    let e1 = to_z-of_z w64 (get_or s.coefficients.now s.k (pos 0)) (sfits_of c.coefficient-1.given) in
-    let e2 = to_z-of_z w8 (get_or s.powers.now s.k (pos 0)) (sfits_of c.power-1.given) in
+    let f1 : SFits w64 (get_or s.coefficients.now s.k (pos 0)) = search rules in
+    let f2 : SFits w8 (get_or s.powers.now s.k (pos 0)) = search rules in
+    let e1 = to_z-of_z w64 (get_or s.coefficients.now s.k (pos 0)) f1 in
+    let e2 = to_z-of_z w8 (get_or s.powers.now s.k (pos 0)) f2 in
     simp (e1, e2) at c.put_number.ensures

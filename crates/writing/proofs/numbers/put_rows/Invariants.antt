@@ -1,13 +1,9 @@
 use mathlib.Core.Path.{◌≡◌}
 use Prim.Native.Nat.{◌+◌, ◌-◌, ◌*◌, ◌≤◌}
-use native.Mathlib.Omega.{arith}
-use Rattle.room.specs.Room.{lent, room_length}
+use Rattle.room.specs.Room.{lent}
 use Rattle.valid.specs.Valid.{numbers_at}
 use Rattle.text_out.specs.Output.{Goes}
-use Rattle.text_out.proofs.Laws.{goes_then, goes_end, puts_then}
 use Rattle.written_form.proofs.Tail.{rows_text}
-use Rattle.writing.proofs.Laws.{rows_all, rows_start, rows_next, rows_last, rows_left}
-use borrow.Author.Rules.{rules}
 use Rattle.writing.proofs.numbers.put_rows.Given as goal
 
 abbrev pub invariant-loop-i : goal.invariant-loop-i

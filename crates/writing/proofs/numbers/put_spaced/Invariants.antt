@@ -1,12 +1,8 @@
 use Prim.Native.Nat.{◌+◌, ◌-◌, ◌≤◌}
-use native.Mathlib.Omega.{arith}
-use Rattle.room.specs.Room.{lent, room_length}
+use Rattle.room.specs.Room.{lent}
 use Rattle.valid.specs.Valid.{numbers_at}
 use Rattle.text_out.specs.Output.{Goes}
-use Rattle.text_out.proofs.Laws.{goes_then, goes_end, puts_then}
 use Rattle.written_form.proofs.Tail.{spaced_text}
-use Rattle.writing.proofs.Laws.{spaced-start, spaced-next, spaced-last}
-use borrow.Author.Rules.{rules}
 use Rattle.writing.proofs.numbers.put_spaced.Given as goal
 
 abbrev pub invariant-loop-i : goal.invariant-loop-i

@@ -1,6 +1,5 @@
 use Rattle.text_out.proofs.Laws.{puts_then}
 use Rattle.written_form.proofs.Tail.{array_text}
-use borrow.Author.Rules.{rules}
 use Rattle.writing.proofs.numbers.put_table.Goals as goal
 
 -- An Array with the dims of a table. Assumes nothing.

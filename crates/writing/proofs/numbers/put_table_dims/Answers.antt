@@ -1,6 +1,5 @@
 use Rattle.text_out.proofs.Laws.{puts_then}
 use Rattle.written_form.proofs.Tail.{dims_text}
-use borrow.Author.Rules.{rules}
 use Rattle.writing.proofs.numbers.put_table_dims.Goals as goal
 
 -- Rows, a space, columns. Assumes nothing.

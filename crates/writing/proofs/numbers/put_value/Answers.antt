@@ -1,6 +1,5 @@
 use Rattle.text_out.proofs.Laws.{puts_then}
 use Rattle.written_form.proofs.Tail.{value_text}
-use borrow.Author.Rules.{rules}
 use Rattle.writing.proofs.numbers.put_value.Goals as goal
 
 -- A value element. Assumes nothing.

@@ -1,8 +1,0 @@
-use borrow.Author.Rules.{rules}
-use Rattle.markup.proofs.refused.Goals as goal
-
-pub returns-in-At : goal.returns-in-At
-returns-in-At c = simp c.in-At.is
-
-pub returns-in-Fault : goal.returns-in-Fault
-returns-in-Fault c = simp c.in-Fault.is

@@ -1,8 +1,0 @@
-use borrow.Author.Rules.{rules}
-use Rattle.reading.proofs.to_checked.Goals as goal
-
-pub returns-in-Accepted : goal.returns-in-Accepted
-returns-in-Accepted c = rw c.in-Accepted.is
-
-pub returns-in-Refused : goal.returns-in-Refused
-returns-in-Refused c = rw c.in-Refused.is

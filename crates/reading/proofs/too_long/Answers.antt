@@ -1,5 +1,0 @@
-use mathlib.Core.Path.{refl}
-use Rattle.reading.proofs.too_long.Goals as goal
-
-pub returns : goal.returns
-returns c = refl

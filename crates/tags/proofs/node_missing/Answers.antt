@@ -1,6 +1,0 @@
-use mathlib.Core.Path.{refl}
-use borrow.Author.Rules.{rules}
-use Rattle.tags.proofs.node_missing.Goals as goal
-
-pub returns : goal.returns
-returns c = c.both_or.ensures _ refl refl refl
