@@ -5,7 +5,8 @@ use Rattle.clf.specs.Reading.{Reading, read, reading_number, reading_place}
 use Rattle.xml.specs.Bytes.{bytes}
 use Rattle.decimal_write.specs.Written.{digits}
 use Rattle.reading.specs.Counts.{node_count, number_count}
-use Rattle.reading.specs.declared.Answer.{Answer}
+use Rattle.std.specs.Prelude.{Ok, Err}
+use Rattle.reading.specs.Code.{Answer}
 use Rattle.check_line.specs.declared.Line.{Line}
 
 -- a line of the bytes l: these, then zeros, and how many they are
@@ -30,9 +31,10 @@ line_text number place nodes numbers = cond (eqb number 0) (accepted_text nodes 
 unfoldable pub reading_text : Reading → List ℕ
 reading_text r = line_text (reading_number r) (reading_place r) (node_count r) (number_count r)
 
--- the same for reading's record
+-- the same for what the code's reading answers
 unfoldable pub answer_text : Answer → List ℕ
-answer_text a = line_text a.number a.place a.list.count (capped (total (nodes_of a.list)))
+answer_text (Ok list) = accepted_text list.count (capped (total (nodes_of list)))
+answer_text (Err why) = refusal_text why.number why.place
 
 -- 'The check program has room for 4,096 numbers and reads at most 65,536 bytes of standard input'
 unfoldable pub check_text : List ℕ → List ℕ

@@ -31,27 +31,27 @@ fn put_two(out: &mut [u8], first: &[u8], m: usize, middle: &[u8], n: usize, last
 fn put_answer(out: &mut [u8], answer: Answer) -> usize
     ensures { Puts (λ t. answer_text answer ++ t) 0 out.old out.new result }
 {
-    let number = answer.number;
-    if number == 0 {
-        let list = answer.list;
-        let numbers = process_list::used(list);
-        return put_two(
+    match answer {
+        Ok(list) => {
+            let numbers = process_list::used(list);
+            put_two(
+                out,
+                b"accepted ",
+                list.count,
+                b" nodes ",
+                numbers,
+                b" numbers\n",
+            )
+        }
+        Err(why) => put_two(
             out,
-            b"accepted ",
-            list.count,
-            b" nodes ",
-            numbers,
-            b" numbers\n",
-        );
+            b"refusal ",
+            why.number as usize,
+            b" at ",
+            why.place,
+            b"\n",
+        ),
     }
-    put_two(
-        out,
-        b"refusal ",
-        number as usize,
-        b" at ",
-        answer.place,
-        b"\n",
-    )
 }
 
 fn too_long() -> Line

@@ -11,17 +11,18 @@ use Rattle.process_list.specs.List.{Element, list_of, placed}
 use Rattle.room.specs.Room.{Room, room_length}
 use Rattle.valid.specs.Valid.{is_valid}
 use Rattle.grammar.specs.Laws.{nope}
-use Rattle.clf.specs.Reading.{Reading, accepted, reading_number, reading_place, nodes_in}
+use Rattle.clf.specs.Reading.{Reading, accepted, faulty, unfit, reading_number, reading_place, nodes_in}
 use Rattle.claims.proofs.Refusals.{number-accepted}
 use Rattle.claims.proofs.Rules.{accepted-valid}
-use Rattle.reading.specs.declared.Answer.{Answer}
+use Rattle.std.proofs.Common.{Ok, Err}
+use Rattle.process_list.specs.declared.ProcessList.{ProcessList}
+use Rattle.reading.specs.declared.Refused.{Refused}
 use Rattle.reading.specs.Code.{reading_answer, ReadsInto}
 use Rattle.pixel_run.specs.Finite.{first_not_finite}
-use Rattle.running.specs.declared.Ran.{Ran}
-use Rattle.running.specs.Running.{not_threes, not_finite, ran, ran_of, pixels_of}
+use Rattle.running.specs.Running.{not_threes, not_finite, Ran, ran_number, ran_place, ran_of, pixels_of}
 use Rattle.running.specs.RunningLaws.{ran-accepted, pixels-accepted}
-use Rattle.clf_c.specs.declared.FileCheck.{FileCheck}
 use Rattle.clf_c.specs.Answers.{file_check_of}
+use Rattle.clf_c.proofs.Laws.{ok-says, err-says}
 use Rattle.clf_c.specs.Applying.{slice_refused, reading_for, room_read, run_through, check_saying, apply_of, room_applied, applied_to, Applies}
 
 -- ---- the slice
@@ -64,56 +65,52 @@ module _ (file : List ℕ) (m₀ : Room) (xs : List Float) where
     unfolding room_applied
     room-is = simp passed
 
-    module _ (a : Answer) (m₁ : Room) (e : ReadsInto r₀ a m₀ m₁) where
-      number_is : a.number ≡ reading_number r₀
-      unfolding reading_answer
-      number_is = ap (λ (x : Answer). x.number) e.answer
+    said : (number place : ℕ) (m₁ : Room) (ys : List Float) → number ≡ reading_number r₀ → place ≡ reading_place r₀ → m₁ ≡ room_read file m₀ → ys ≡ applied_to file m₀ xs
+        → Applies file m₀ xs (check_saying number place) m₁ ys
+    said number place m₁ ys n p e z = record {
+      answers = cc (n, p, reading-says);
+      room = e ∙ room-is;
+      pixels = z;
+    }
 
-      place_is : a.place ≡ reading_place r₀
-      unfolding reading_answer
-      place_is = ap (λ (x : Answer). x.place) e.answer
+    numbered : (why : Refused) (x : Reading) → Err why ≡ reading_answer x → (reading_number x ≡ 0 → (l : List Element) × (x ≡ accepted l)) → reading_number x ≡ 0 → ⊥
+    unfolding reading_answer
+    numbered why (accepted l) e f z = cc
+    numbered why (faulty k p) e f z = let q = (f z).1 in cc
+    numbered why (unfit k p) e f z = let q = (f z).1 in cc
 
-      list-is : a.list ≡ list_of (placed (nodes_in r₀))
-      unfolding reading_answer
-      list-is = ap (λ (x : Answer). x.list) e.answer
+    -- a refused reading
+    pub refused : (why : Refused) (m₁ : Room) → ReadsInto r₀ (Err why) m₀ m₁ → Applies file m₀ xs (check_saying why.number why.place) m₁ xs
+    unfolding applied_to
+    refused why m₁ e =
+        let w = err-says why r₀ e.answer in
+        said why.number why.place m₁ xs w.0 w.1 e.room (simp (reading-says, ne_eqb (reading_number r₀) 0 (numbered why r₀ e.answer (number-accepted (room_length m₀) file))))
 
-      said : (ys : List Float) → ys ≡ applied_to file m₀ xs → Applies file m₀ xs (check_saying a.number a.place) m₁ ys
-      said ys z = record {
-        answers = cc (number_is, place_is, reading-says);
-        room = e.room ∙ room-is;
-        pixels = z;
-      }
+    -- an accepted one: its list is valid in its room, so that running accepts
+    module _ (list : ProcessList) (m₁ : Room) (e : ReadsInto r₀ (Ok list) m₀ m₁) where
+      found : (l : List Element) × ((r₀ ≡ accepted l) × (list ≡ list_of (placed l)))
+      found = ok-says list r₀ e.answer
 
-      -- a refused reading
-      pub refused : (a.number ≡ 0 → ⊥) → Applies file m₀ xs (check_saying a.number a.place) m₁ xs
-      unfolding applied_to
-      refused h = said xs (simp (reading-says, ne_eqb (reading_number r₀) 0 (λ z. h (number_is ∙ z))))
+      list-is : list ≡ list_of (placed (nodes_in r₀))
+      list-is = found.1.1 ∙ ap (λ (r : Reading). list_of (placed (nodes_in r))) (sym found.1.0)
 
-      -- an accepted one: its list is valid in its room, so that running accepts
-      module _ (t : Ran) (ys : List Float) (et : t ≡ ran_of a.list m₁ xs) (ey : ys ≡ pixels_of a.list m₁ xs) (h : a.number ≡ 0) where
-        list-valid : is_valid a.list m₁ ≡ true
-        list-valid =
-            let w : (l : List Element) × (r₀ ≡ accepted l) = number-accepted (room_length m₀) file (sym number_is ∙ h) in
-            let n : nodes_in r₀ ≡ w.0 = ap nodes_in w.1 in
-            let v = accepted-valid m₀ file w.0 w.1 in
-            rw (list-is, e.room, n) v
+      list-valid : is_valid list m₁ ≡ true
+      list-valid =
+          let n : nodes_in r₀ ≡ found.0 = ap nodes_in found.1.0 in
+          rw (list-is, e.room, n) (accepted-valid m₀ file found.0 found.1.0)
 
-        place_none : a.place ≡ 0
-        place_none =
-            let w : (l : List Element) × (r₀ ≡ accepted l) = number-accepted (room_length m₀) file (sym number_is ∙ h) in
-            place_is ∙ ap reading_place w.1
+      ran-is : ran_of list m₁ xs ≡ Ok tt
+      unfolding slice_refused
+      ran-is = let b = passed-both xs (not_threes xs) (not_finite xs) passed in ran-accepted list m₁ list-valid xs b.0 b.1
 
-        ran-is : ran_of a.list m₁ xs ≡ ran 0 0
-        unfolding slice_refused
-        ran-is = let b = passed-both xs (not_threes xs) (not_finite xs) passed in ran-accepted a.list m₁ list-valid xs b.0 b.1
+      pixels-are : (ys : List Float) → ys ≡ pixels_of list m₁ xs → ys ≡ applied_to file m₀ xs
+      unfolding applied_to run_through
+      pixels-are ys ey =
+          let q = eq-eqb (reading_number r₀) 0 (ap reading_number found.1.0) in
+          simp (reading-says, q) (ey ∙ pixels-accepted list m₁ xs ran-is ∙ rw (list-is, e.room))
 
-        pixels-are : ys ≡ applied_to file m₀ xs
-        unfolding applied_to run_through
-        pixels-are =
-            let q = eq-eqb (reading_number r₀) 0 (sym number_is ∙ h) in
-            simp (reading-says, q) (ey ∙ pixels-accepted a.list m₁ xs ran-is ∙ rw (list-is, e.room))
-
-        pub ran-through : Applies file m₀ xs (check_saying t.number t.place) m₁ ys
-        ran-through =
-            let z : t ≡ ran 0 0 = et ∙ ran-is in
-            subst (λ (f : FileCheck). Applies file m₀ xs f m₁ ys) (cc (z, h, place_none)) (said ys pixels-are)
+      pub ran-through : (t : Ran) (ys : List Float) → t ≡ ran_of list m₁ xs → ys ≡ pixels_of list m₁ xs → Applies file m₀ xs (check_saying (ran_number t) (ran_place t)) m₁ ys
+      ran-through t ys et ey =
+          let z : t ≡ Ok tt = et ∙ ran-is in
+          subst (λ (x : Ran). Applies file m₀ xs (check_saying (ran_number x) (ran_place x)) m₁ ys) (sym z)
+          (said 0 0 m₁ ys (sym (ap reading_number found.1.0)) (sym (ap reading_place found.1.0)) e.room (pixels-are ys ey))

@@ -5,8 +5,12 @@
 ghost use Rattle.std.specs.Prelude.{◌≡◌, false};
 ghost use Rattle.room.specs.Room.{lent};
 ghost use Rattle.clf.specs.Reading as Reading;
+ghost use Rattle.running.specs.Running.{fault_number, fault_place};
 ghost use Rattle.clf_c.specs.Answers.{file_check_of, FileReads};
 ghost use Rattle.clf_c.specs.Applying.{slice_refused, Applies};
+
+use reading::Refused;
+use running::RunFault;
 
 // What the file check answers: the refusal number, 0 for accepted, and its place.
 #[repr(C)]
@@ -14,6 +18,34 @@ ghost use Rattle.clf_c.specs.Applying.{slice_refused, Applies};
 pub struct FileCheck {
     pub number: u64,
     pub place: u64,
+}
+
+// The answer where nothing is refused.
+const ACCEPTED: FileCheck = FileCheck {
+    number: 0,
+    place: 0,
+};
+
+impl From<Refused> for FileCheck {
+    ghost from_gives = { λ why r. r ≡ record { number = why.number; place = why.place } };
+
+    fn from(why: Refused) -> FileCheck {
+        FileCheck {
+            number: why.number as u64,
+            place: why.place as u64,
+        }
+    }
+}
+
+impl From<RunFault> for FileCheck {
+    ghost from_gives = { λ why r. r ≡ record { number = fault_number why; place = fault_place why } };
+
+    fn from(why: RunFault) -> FileCheck {
+        FileCheck {
+            number: why.number() as u64,
+            place: why.place() as u64,
+        }
+    }
 }
 
 // What reading answers: the refusal number and its place, and how many nodes and numbers the list has.
@@ -30,10 +62,9 @@ pub struct FileRead {
 pub fn clf_check_file(file: &[u8]) -> FileCheck
     ensures { result ≡ file_check_of (Reading.read_alone file.now) }
 {
-    let c = reading::check(file);
-    FileCheck {
-        number: c.number as u64,
-        place: c.place as u64,
+    match reading::check(file) {
+        Ok(()) => ACCEPTED,
+        Err(why) => FileCheck::from(why),
     }
 }
 
@@ -41,13 +72,19 @@ pub fn clf_check_file(file: &[u8]) -> FileCheck
 pub fn clf_read_file(file: &[u8], coefficients: &mut [i64], powers: &mut [i8]) -> FileRead
     ensures { FileReads file.now result (lent coefficients.old powers.old) (lent coefficients.new powers.new) }
 {
-    let answer = reading::read(file, coefficients, powers);
-    let list = answer.list;
-    FileRead {
-        number: answer.number as u64,
-        place: answer.place as u64,
-        nodes: list.count as u64,
-        numbers: process_list::used(list) as u64,
+    match reading::read(file, coefficients, powers) {
+        Ok(list) => FileRead {
+            number: 0,
+            place: 0,
+            nodes: list.count as u64,
+            numbers: process_list::used(list) as u64,
+        },
+        Err(why) => FileRead {
+            number: why.number as u64,
+            place: why.place as u64,
+            nodes: 0,
+            numbers: 0,
+        },
     }
 }
 
@@ -63,17 +100,11 @@ pub fn clf_apply(
         pixels.new }
 {
     if pixels.len() % 3 != 0 {
-        return FileCheck {
-            number: 14,
-            place: 0,
-        };
+        return FileCheck::from(RunFault::NotThrees);
     }
     let first = pixel_run::first_not_finite(pixels);
     if first < pixels.len() {
-        return FileCheck {
-            number: 15,
-            place: first as u64,
-        };
+        return FileCheck::from(RunFault::NotFinite(first));
     }
     read_and_run(file, coefficients, powers, pixels)
 }
@@ -89,17 +120,12 @@ fn read_and_run(
     ensures { Applies file.now (lent coefficients.old powers.old) pixels.old result (lent coefficients.new powers.new)
         pixels.new }
 {
-    let answer = reading::read(file, coefficients, powers);
-    if answer.number != 0 {
-        return FileCheck {
-            number: answer.number as u64,
-            place: answer.place as u64,
-        };
-    }
-    let list = answer.list;
-    let ran = running::run(list, coefficients, powers, pixels);
-    FileCheck {
-        number: ran.number as u64,
-        place: ran.place as u64,
+    let list = match reading::read(file, coefficients, powers) {
+        Ok(list) => list,
+        Err(why) => return FileCheck::from(why),
+    };
+    match running::run(list, coefficients, powers, pixels) {
+        Ok(()) => ACCEPTED,
+        Err(why) => FileCheck::from(why),
     }
 }

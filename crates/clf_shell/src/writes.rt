@@ -28,11 +28,15 @@ fn write_in(
     powers: &[i8],
 ) -> io::Result<()> {
     let room = length.min(output.len());
-    let w = writing::write(list, coefficients, powers, id, &mut output[..room]);
-    if is_too_long(w.number, room, length) {
-        return rt.write_all(b"too long\n");
+    match writing::write(list, coefficients, powers, id, &mut output[..room]) {
+        Ok(n) => print_text(rt, 0, part(output, 0, n)),
+        Err(fault) => {
+            if is_too_long(fault.number(), room, length) {
+                return rt.write_all(b"too long\n");
+            }
+            print_text(rt, fault.number(), &[])
+        }
     }
-    print_text(rt, w.number, part(output, 0, w.length))
 }
 
 // `W IDHEX OUTLEN`: writes the list under the id into an output of so many bytes.

@@ -1,15 +1,17 @@
 -- DEMAND 3 of a reading and a run of calls, from the run of the definitions and the theorem on them. Assumes nothing.
 use mathlib.Core.Path.{◌≡◌, refl, sym, ap, subst, ◌∙◌}
-use mathlib.Core.List.{List, ◌++◌, map}
+use mathlib.Core.List.{List, [], ◌++◌, map}
 use Prim.Native.Nat.{ℕ}
+use Rattle.std.specs.Prelude.{Ok, Err}
+use Rattle.std.specs.Result.{result_and, result_unwrap_or}
 use lib.ListN.{length, take, drop, length-map}
 use lib.Seq.{take_at}
 use Rattle.process_list.specs.declared.ProcessList.{ProcessList}
-use Rattle.process_list.specs.List.{all_numbers}
+use Rattle.process_list.specs.List.{all_numbers, list_of, placed}
+use Rattle.process_list.specs.List as Lists
 use Rattle.room.specs.Room.{Room, room_length, filled_with}
-use Rattle.clf.specs.Reading.{Reading, nodes_in, read}
-use Rattle.reading.specs.declared.Answer.{Answer}
-use Rattle.reading.specs.Code.{reading_answer, ReadsInto}
+use Rattle.clf.specs.Reading.{Reading, accepted, faulty, unfit, reading_number, nodes_in, read}
+use Rattle.reading.specs.Code.{Answer, Checked, number_of, checked_of, reading_answer, ReadsInto}
 use Rattle.look.specs.Look.{Look, room_length_of, as_read, holding}
 use Rattle.look.specs.Replacing.{Call}
 use Rattle.look.specs.Replacing as Replacing
@@ -22,20 +24,56 @@ use Rattle.replace_run.specs.Runs.{numbers_said, places_said, CallsRun}
 use Rattle.replace_run.proofs.Laws.{length-answers}
 use Rattle.demand3.specs.Demand.{Demand3, ReadAndReplaced}
 
+-- the list that a reading leaves: the empty one where it is refused
+abbrev pub list_read : Answer → ProcessList
+list_read (Ok list) = list
+list_read (Err why) = list_of []
+
+-- whether the file was accepted
+abbrev pub said_of : Answer → Checked
+said_of (Ok list) = Ok tt
+said_of (Err why) = Err why
+
 -- ---- what a reading leaves is the definition's look
 
 room-is : (x : Look) (r : Reading) → filled_with (all_numbers (nodes_in r)) x.room ≡ (holding x (nodes_in r)).room
 unfolding holding
 room-is x r = refl
 
-list-is : (x : Look) (r : Reading) → (reading_answer r).list ≡ (holding x (nodes_in r)).list
-unfolding reading_answer holding
+list-is : (x : Look) (r : Reading) → list_of (placed (nodes_in r)) ≡ (holding x (nodes_in r)).list
+unfolding holding
 list-is x r = refl
 
-pub read-look : (x : Look) (s : List ℕ) (r : Answer) (m : Room) → ReadsInto (read (room_length_of x) s) r x.room m → look_of r.list m ≡ read_into x s
+left-is : (r : Reading) → list_read (reading_answer r) ≡ list_of (placed (nodes_in r))
+unfolding reading_answer placed Lists.place_from
+left-is (accepted l) = refl
+left-is (faulty k p) = refl
+left-is (unfit k p) = refl
+
+pub read-list : (r : Answer) (n e : ProcessList) → n ≡ result_unwrap_or r e → e ≡ list_of [] → n ≡ list_read r
+read-list (Ok list) n e p q = p
+read-list (Err why) n e p q = p ∙ q
+
+pub said-and : (r : Answer) (k : Checked) → k ≡ result_and r (Ok tt) → k ≡ said_of r
+said-and (Ok list) k p = p
+said-and (Err why) k p = p
+
+pub read-look : (x : Look) (s : List ℕ) (r : Answer) (m : Room) → ReadsInto (read (room_length_of x) s) r x.room m → look_of (list_read r) m ≡ read_into x s
 read-look x s r m h =
     let d : Reading = read (room_length_of x) s in
-    ap (λ (z : Answer). look_of z.list m) h.answer ∙ ap (λ (z : ProcessList). look_of z m) (list-is x d) ∙ ap (look_of (read_into x s).list) (h.room ∙ room-is x d)
+    ap (λ (z : Answer). look_of (list_read z) m) h.answer ∙ ap (λ (z : ProcessList). look_of z m) (left-is d ∙ list-is x d) ∙ ap (look_of (read_into x s).list) (h.room ∙ room-is x d)
+
+-- what is said of it beside its list
+checked-is : (r : Reading) → said_of (reading_answer r) ≡ checked_of r
+unfolding reading_answer
+checked-is (accepted l) = refl
+checked-is (faulty k p) = refl
+checked-is (unfit k p) = refl
+
+number-is : (r : Reading) → number_of (checked_of r) ≡ reading_number r
+number-is (accepted l) = refl
+number-is (faulty k p) = refl
+number-is (unfit k p) = refl
 
 -- ---- the look after the run is a fresh reading's
 
@@ -61,18 +99,17 @@ module _ (s : List ℕ) (calls : List Call) (m₀ : Room) where
 
 -- THE PROMISE: r is what reading answered, l the list that the run left
 pub promise : (s : List ℕ) (calls : List Call) (r : Answer) (l : ProcessList) (m₀ m m₁ : Room) (ns₀ ns₁ ps₀ ps₁ : List ℕ) → ReadsInto (read (room_length m₀) s) r m₀ m
-    → CallsRun (look_of r.list m) calls ns₀ ps₀ (look_of l m₁) ns₁ ps₁
-    → ReadAndReplaced s calls (record { number = r.number; place = r.place; list = l }) m₀ m₁ ns₀ ns₁ ps₀ ps₁
-unfolding reading_answer
-promise s calls r l m₀ m m₁ ns₀ ns₁ ps₀ ps₁ h t =
+    → (n : ProcessList) → n ≡ list_read r → CallsRun (look_of n m) calls ns₀ ps₀ (look_of l m₁) ns₁ ps₁ → (k : Checked) → k ≡ said_of r
+    → ReadAndReplaced s calls (record { read = k; list = l }) m₀ m₁ ns₀ ns₁ ps₀ ps₁
+promise s calls r l m₀ m m₁ ns₀ ns₁ ps₀ ps₁ h n nq t k kq =
     let x : Look = look_of l m₀ in
-    let q : look_of r.list m ≡ read_into x s = read-look x s r m h in
+    let q : look_of n m ≡ read_into x s = ap (λ (z : ProcessList). look_of z m) nq ∙ read-look x s r m h in
     let u : CallsRun (read_into x s) calls ns₀ ps₀ (look_of l m₁) ns₁ ps₁ = subst (λ (z : Look). CallsRun z calls ns₀ ps₀ (look_of l m₁) ns₁ ps₁) q t in
+    let c : k ≡ checked_of (read (room_length m₀) s) = kq ∙ ap said_of h.answer ∙ checked-is (read (room_length m₀) s) in
     record {
-      number = ap (λ (z : Answer). z.number) h.answer;
-      place = ap (λ (z : Answer). z.place) h.answer;
+      answer = c;
       run = u;
-      demand3 = λ z k.
-          let w = number-accepted (room_length m₀) s (sym (ap (λ (y : Answer). y.number) h.answer) ∙ z) in
-          by-look s calls m₀ x refl (demand3-look x s w.0 calls w.1 k) (look_of l m₁) ns₀ ps₀ ns₁ ps₁ u;
+      demand3 = λ z b.
+          let w = number-accepted (room_length m₀) s (sym (ap number_of c ∙ number-is (read (room_length m₀) s)) ∙ z) in
+          by-look s calls m₀ x refl (demand3-look x s w.0 calls w.1 b) (look_of l m₁) ns₀ ps₀ ns₁ ps₁ u;
     }

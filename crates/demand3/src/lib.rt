@@ -7,12 +7,12 @@ ghost use Rattle.replace_run.specs.Runs.{calls_from};
 ghost use Rattle.demand3.specs.Demand as Demand;
 
 use process_list::ProcessList;
+use reading::Checked;
 
-// What reading answered, and the list as the last call left it.
-#[derive(Clone, Copy)]
+// Whether the file was accepted, and the list as the last call left it; where the file is refused, too, the calls are made, on the empty list.
+#[derive(Clone, Copy, Debug, PartialEq, Eq)]
 pub struct RunRead {
-    pub number: u8,
-    pub place: usize,
+    pub read: Checked,
     pub list: ProcessList,
 }
 
@@ -35,7 +35,7 @@ pub fn read_and_replace(
         places.new }
 {
     let answer = reading::read(file, coefficients, powers);
-    let list = answer.list;
+    let list = answer.unwrap_or(process_list::empty());
     let left = replace_run::replace_all(
         list,
         ks,
@@ -48,8 +48,7 @@ pub fn read_and_replace(
         powers,
     );
     RunRead {
-        number: answer.number,
-        place: answer.place,
+        read: answer.and(Ok(())),
         list: left,
     }
 }

@@ -16,7 +16,7 @@ use Rattle.process_list.specs.declared.Kind.TheVariants.{Matrix, Lut1d, Range, C
 use Rattle.process_list.specs.List.{Element, placed, all_numbers, list_of}
 use Rattle.room.specs.Room.{Room, lent, coefficient_parts, power_parts}
 use Rattle.clf.specs.Numbers.{fault_of, any_number}
-use Rattle.running.specs.Running.{ran_of, pixels_of}
+use Rattle.running.specs.Running.{ran_number, ran_of, pixels_of}
 use Rattle.xml.specs.Bytes.{bytes}
 
 -- what is asked: what a token says; what a grey pixel of this value becomes, run through a list of these nodes
@@ -50,7 +50,7 @@ room_holding es = lent (coefficient_parts (all_numbers es)) (power_parts (all_nu
 abbrev pub of_run : List Element → List Float → Outcome
 of_run es xs =
     slice
-    (ran_of (list_of (placed es)) (room_holding es) xs).number
+    (ran_number (ran_of (list_of (placed es)) (room_holding es) xs))
     (pixels_of (list_of (placed es)) (room_holding es) xs)
 
 abbrev pub outcome : Question → Outcome

@@ -19,8 +19,7 @@ use Rattle.grammar.specs.Laws.{nope}
 use Rattle.clf.specs.Reading.{is_numbered}
 use Rattle.look.specs.Look.{Look, room_length_of, as_read, kept_of, holding, call_in, look_after}
 use Rattle.look.specs.Replacing.{Replacing, replaced, refused, Numbering, unnumbered, numbered, Call, plain_call, numbered_call, kept_at, is_late, replace, call, kept_by}
-use Rattle.reading.specs.declared.Answer.{Answer}
-use Rattle.replacing.specs.Code.{CallAnswers, There, look_of, replacing_number, replacing_place}
+use Rattle.replacing.specs.Code.{Outcome, CallAnswers, There, look_of, replacing_number, replacing_place}
 use Rattle.replace_run.proofs.Laws.{look_is, number_is}
 use Rattle.claims.proofs.Sound.{and-true}
 use Rattle.claims.proofs.Calls.{is_replace_fault, is_call_fault, replace-number, call-number}
@@ -136,15 +135,15 @@ module _ (x : Look) (array : length x.list.nodes ≡ most_nodes) (c : Call) wher
 
 -- ---- as the code answers
 
-module _ (x : Look) (array : length x.list.nodes ≡ most_nodes) (r : Answer) (m₁ : Room) where
+module _ (x : Look) (array : length x.list.nodes ≡ most_nodes) (r : Outcome) (l₁ : ProcessList) (m₁ : Room) where
   abbrev y : Look
-  y = look_of r.list m₁
+  y = look_of l₁ m₁
 
-  pub numbered-call : (k n : ℕ) (e : List ℕ) → CallAnswers x (numbered_call k n e) r m₁ → NumberedCall x k n e r y
+  pub numbered-call : (k n : ℕ) (e : List ℕ) → CallAnswers x (numbered_call k n e) r l₁ m₁ → NumberedCall x k n e r y
   numbered-call k n e h =
       let c : Call = numbered_call k n e in
-      let l : look_after x c (call_in x c) ≡ y = look_is x c r m₁ h in
-      let a = number_is x c r m₁ h in
+      let l : look_after x c (call_in x c) ≡ y = look_is x c r l₁ m₁ h in
+      let a = number_is x c r l₁ m₁ h in
       record {
         answers = h;
         late = (λ z. answer-late x k n e (a.0 ∙ z), λ t. sym a.0 ∙ ap replacing_number (late-answer x k n e t.0 t.1 t.2));
@@ -160,11 +159,11 @@ module _ (x : Look) (array : length x.list.nodes ≡ most_nodes) (r : Answer) (m
         refused = λ z. sym l ∙ left-refused x array c (λ w. z (sym a.0 ∙ w));
       }
 
-  pub unnumbered-call : (k : ℕ) (e : List ℕ) → CallAnswers x (plain_call k e) r m₁ → UnnumberedCall x k e r y
+  pub unnumbered-call : (k : ℕ) (e : List ℕ) → CallAnswers x (plain_call k e) r l₁ m₁ → UnnumberedCall x k e r y
   unnumbered-call k e h =
       let c : Call = plain_call k e in
-      let l : look_after x c (call_in x c) ≡ y = look_is x c r m₁ h in
-      let a = number_is x c r m₁ h in
+      let l : look_after x c (call_in x c) ≡ y = look_is x c r l₁ m₁ h in
+      let a = number_is x c r l₁ m₁ h in
       record {
         answers = h;
         never = λ z. never (a.0 ∙ z);

@@ -1,7 +1,7 @@
 -- What is judged over a list looks at each node's depths, its count of numbers and its id alone. Assumes nothing.
 use mathlib.Core.Path.{◌≡◌, refl, sym, ap, ◌∙◌}
 use mathlib.Core.List.{List, [], ◌∷◌, map}
-use Prim.Native.Nat.{ℕ, ◌+◌, ◌-◌}
+use Prim.Native.Nat.{ℕ, ◌+◌}
 use lib.ListN.{length, set, get_or, length-map, get_or-map}
 use lib.Seq.{map-set_same}
 use Rattle.process_list.specs.declared.Depth.{Depth}

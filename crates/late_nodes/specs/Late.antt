@@ -8,8 +8,8 @@ use Rattle.grammar.specs.Parse.{done}
 use Rattle.clf.specs.Reading.{most_bytes}
 use Rattle.look.specs.Look.{Look, as_read, kept_of, call_in, look_after}
 use Rattle.look.specs.Replacing.{element, Numbering, unnumbered, numbered, Call, plain_call, numbered_call}
-use Rattle.reading.specs.declared.Answer.{Answer}
-use Rattle.replacing.specs.Code.{CallAnswers, There, replacing_number, replacing_place}
+use Rattle.reading.specs.Code.{number_of, place_of}
+use Rattle.replacing.specs.Code.{Outcome, CallAnswers, There, replacing_number, replacing_place}
 use Rattle.claims.specs.LookRuns.{look_run}
 use Rattle.replace_run.specs.Runs.{CallsRun}
 
@@ -25,30 +25,30 @@ newest_at x k = (node_at x.list (k - 1)).newest
 -- ---- one call, on list and room x: r is its answer, and y are list and room after it
 
 -- it answers as the unnumbered call does, and leaves the same, but for the kept numbers
-pub record AsUnnumbered (x : Look) (k : ℕ) (e : List ℕ) (r : Answer) (y : Look) : Type 0 where
-  pub number : r.number ≡ replacing_number (call_in x (plain_call k e))
-  pub place : r.place ≡ replacing_place (call_in x (plain_call k e))
+pub record AsUnnumbered (x : Look) (k : ℕ) (e : List ℕ) (r : Outcome) (y : Look) : Type 0 where
+  pub number : number_of r ≡ replacing_number (call_in x (plain_call k e))
+  pub place : place_of r ≡ replacing_place (call_in x (plain_call k e))
   pub left : as_read y ≡ as_read (look_after x (plain_call k e) (call_in x (plain_call k e)))
 
 -- 'A numbered replacement ..': its number is n
-pub record NumberedCall (x : Look) (k n : ℕ) (e : List ℕ) (r : Answer) (y : Look) : Type 0 where
-  pub answers : CallAnswers x (numbered_call k n e) r y.room
+pub record NumberedCall (x : Look) (k n : ℕ) (e : List ℕ) (r : Outcome) (y : Look) : Type 0 where
+  pub answers : CallAnswers x (numbered_call k n e) r y.list y.room
   -- 'is late exactly if that [n] is not larger', '28, late, its place 0, between 19 and 4': so 16 and 19 are not given, and nothing is asked of the element
-  pub late : (r.number ≡ 28) ↔ ((is_valid x.list x.room ≡ true) × There x.list k × (n ≤ newest_at x k))
-  pub place : r.number ≡ 28 → r.place ≡ 0
+  pub late : (number_of r ≡ 28) ↔ ((is_valid x.list x.room ≡ true) × There x.list k × (n ≤ newest_at x k))
+  pub place : number_of r ≡ 28 → place_of r ≡ 0
   -- 'any other answers as an unnumbered one does'
-  pub other : (r.number ≡ 28 → ⊥) → AsUnnumbered x k e r y
+  pub other : (number_of r ≡ 28 → ⊥) → AsUnnumbered x k e r y
   -- accepted, its number is kept with node k; refused, for whatever reason, nothing changes
-  pub kept : r.number ≡ 0 → kept_of y ≡ set (kept_of x) (k - 1) n
-  pub refused : (r.number ≡ 0 → ⊥) → y ≡ x
+  pub kept : number_of r ≡ 0 → kept_of y ≡ set (kept_of x) (k - 1) n
+  pub refused : (number_of r ≡ 0 → ⊥) → y ≡ x
 
 -- an unnumbered one is never late, and its answer does not depend on any kept number; 'Unnumbered replacing leaves the kept number'
-pub record UnnumberedCall (x : Look) (k : ℕ) (e : List ℕ) (r : Answer) (y : Look) : Type 0 where
-  pub answers : CallAnswers x (plain_call k e) r y.room
-  pub never : r.number ≡ 28 → ⊥
+pub record UnnumberedCall (x : Look) (k : ℕ) (e : List ℕ) (r : Outcome) (y : Look) : Type 0 where
+  pub answers : CallAnswers x (plain_call k e) r y.list y.room
+  pub never : number_of r ≡ 28 → ⊥
   pub unseen : call_in x (plain_call k e) ≡ call_in (as_read x) (plain_call k e)
   pub kept : kept_of y ≡ kept_of x
-  pub refused : (r.number ≡ 0 → ⊥) → y ≡ x
+  pub refused : (number_of r ≡ 0 → ⊥) → y ≡ x
 
 -- ---- a run: the newest wins
 

@@ -7,34 +7,38 @@ ghost use Rattle.replace_run.specs.Runs.{calls_from};
 ghost use Rattle.late_nodes.specs.Late as Late;
 
 use process_list::ProcessList;
-use reading::Answer;
+use reading::Refused;
 
 // `replacing::replace_numbered`: which numbers are late, and what is kept.
 pub fn replace_numbered(
-    list: ProcessList,
+    list: &mut ProcessList,
     coefficients: &mut [i64],
     powers: &mut [i8],
     k: usize,
     number: u32,
     element: &[u8],
-) -> Answer
-    ensures { Late.NumberedCall (look_of list (lent coefficients.old powers.old)) k number element.now result
-        (look_of result.list (lent coefficients.new powers.new)) }
+) -> Result<(), Refused>
+    ensures { Late.NumberedCall (look_of list.old (lent coefficients.old powers.old)) k number element.now result
+        (look_of list.new (lent coefficients.new powers.new)) }
 {
+    // This call tells that the list that was given has 32 places, which the promise of the kept numbers needs.
+    let _ = process_list::held(*list);
     replacing::replace_numbered(list, coefficients, powers, k, number, element)
 }
 
 // `replacing::replace`: it leaves the kept numbers.
 pub fn replace_unnumbered(
-    list: ProcessList,
+    list: &mut ProcessList,
     coefficients: &mut [i64],
     powers: &mut [i8],
     k: usize,
     element: &[u8],
-) -> Answer
-    ensures { Late.UnnumberedCall (look_of list (lent coefficients.old powers.old)) k element.now result
-        (look_of result.list (lent coefficients.new powers.new)) }
+) -> Result<(), Refused>
+    ensures { Late.UnnumberedCall (look_of list.old (lent coefficients.old powers.old)) k element.now result
+        (look_of list.new (lent coefficients.new powers.new)) }
 {
+    // This call tells that the list that was given has 32 places, which the promise of the kept numbers needs.
+    let _ = process_list::held(*list);
     replacing::replace(list, coefficients, powers, k, element)
 }
 

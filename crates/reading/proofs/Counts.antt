@@ -8,14 +8,13 @@ use lib.Dec.{ltb}
 use lib.ListN.{length}
 use Rattle.std.proofs.Common.{Ok, Err}
 use Rattle.process_list.specs.declared.Node.{Node}
-use Rattle.process_list.specs.List.{Verdict, Element, node_of, nodes_of, list_of, placed, place_from, total, capped, verdict, most_nodes}
+use Rattle.process_list.specs.List.{Verdict, Element, node_of, nodes_of, list_of, placed, total, capped, verdict, most_nodes}
 use Rattle.process_list.proofs.Laws.{capped-exact}
 use Rattle.process_list.proofs.Lists.{list-nodes, list_count, total-place, placed-length, heads-length, Fine, accepted-fine}
 use Rattle.grammar.specs.Parse.{Out, done, fault, cut}
 use Rattle.clf.specs.List.{Document, document, tail}
 use Rattle.clf.specs.Reading.{Reading, accepted, faulty, unfit, reading_by, list_reading, tail_reading, text_reading, read_text, read, most_bytes}
-use Rattle.reading.specs.declared.Answer.{Answer}
-use Rattle.reading.specs.Code.{reading_answer}
+use Rattle.reading.specs.Code.{Answer, reading_answer}
 use Rattle.reading.specs.Counts.{node_count, number_count}
 
 -- ---- an accepted reading's list was judged, and found right
@@ -70,21 +69,31 @@ module _ (room : ℕ) (es : List Element) (e : verdict room es ≡ Ok tt) where
   numbers-are = ap (λ (ns : List Node). capped (total ns)) (list-nodes (placed es) few) ∙ ap capped placed_total ∙ capped-exact _ (omega (arith, fine.holds))
 
 -- ---- the list of a reading
-counts : (room : ℕ) (r : Reading) → Judged room r → (reading_answer r).list.count ≡ node_count r
-unfolding reading_answer list_of placed place_from
+
+-- how many nodes and numbers an answer's list has, none where there is no list
+abbrev pub count_of : Answer → ℕ
+count_of (Ok l) = l.count
+count_of (Err why) = 0
+
+abbrev pub numbers_in : Answer → ℕ
+numbers_in (Ok l) = capped (total (nodes_of l))
+numbers_in (Err why) = 0
+
+counts : (room : ℕ) (r : Reading) → Judged room r → count_of (reading_answer r) ≡ node_count r
+unfolding reading_answer
 counts room (accepted l) j = count-is room l j
 counts room (faulty k p) j = refl
 counts room (unfit k p) j = refl
 
-numbers : (room : ℕ) (r : Reading) → Judged room r → capped (total (nodes_of (reading_answer r).list)) ≡ number_count r
-unfolding reading_answer list_of total capped placed nodes_of place_from
+numbers : (room : ℕ) (r : Reading) → Judged room r → numbers_in (reading_answer r) ≡ number_count r
+unfolding reading_answer total
 numbers room (accepted l) j = numbers-are room l j
 numbers room (faulty k p) j = refl
 numbers room (unfit k p) j = refl
 
 module _ (room : ℕ) (s : List ℕ) (a : Answer) (e : a ≡ reading_answer (read room s)) where
-  pub answer-count : a.list.count ≡ node_count (read room s)
-  answer-count = ap (λ (x : Answer). x.list.count) e ∙ counts room (read room s) (read-judged room s)
+  pub answer-count : count_of a ≡ node_count (read room s)
+  answer-count = ap count_of e ∙ counts room (read room s) (read-judged room s)
 
-  pub answer-numbers : capped (total (nodes_of a.list)) ≡ number_count (read room s)
-  answer-numbers = ap (λ (x : Answer). capped (total (nodes_of x.list))) e ∙ numbers room (read room s) (read-judged room s)
+  pub answer-numbers : numbers_in a ≡ number_count (read room s)
+  answer-numbers = ap numbers_in e ∙ numbers room (read room s) (read-judged room s)

@@ -14,15 +14,16 @@ use denote.Ref.{Bor}
 use Rattle.decimal.specs.declared.Decimal.{Decimal}
 use Rattle.grammar.specs.Parse.{Out, done, fault, cut, then_out}
 use Rattle.grammar.specs.Laws.{nope}
+use Rattle.process_list.specs.declared.ProcessList.{ProcessList}
 use Rattle.process_list.specs.declared.Unfit.{Unfit}
 use Rattle.process_list.specs.declared.Unfit.TheVariants as Unfits
 use Rattle.process_list.specs.List as Lists
-use Rattle.process_list.proofs.Lists.{list-placed, verdict-list, accepted-fine, accepted-number, Fine, list_count}
+use Rattle.process_list.proofs.Lists.{list-placed, verdict-list, accepted-fine, Fine, list_count}
 use Rattle.room.specs.Room.{Room, room_length, filled, cleared_in, filled_with, coefficient_parts, power_parts}
 use Rattle.room.proofs.Contents.{SliceFrom, filled-length, filled-behind}
-use Rattle.room.proofs.Rooms.{RoomFrom, from-refl, length-at-most, cleared-nothing, filled-room, filled-again}
+use Rattle.room.proofs.Rooms.{RoomFrom, from-refl, length-at-most, cleared-nothing}
 use Rattle.xml.specs.Code.{Scan}
-use Rattle.std.specs.Prelude.{Result, Ok, Err}
+use Rattle.std.specs.Prelude.{Ok, Err}
 use Rattle.xml.specs.declared.Stop.TheVariants as Stops
 use Rattle.xml.specs.Code.{scan_out, Inside}
 use Rattle.clf.specs.List.{Document, document, tail}
@@ -41,7 +42,7 @@ use Rattle.file_text.specs.Code.{bare, state_with, state_from, state_of, fitting
 use Rattle.file_text.proofs.Nodes.{bare-length}
 use Rattle.reading.specs.declared.Refused.{Refused}
 use Rattle.reading.specs.Code as Code
-use Rattle.reading.specs.Code.{checked_of, reading_answer, ReadsInto, Judged, refused_at, judged_length, judged_by, judged_scan, judged_step, refused_answer, accepted_answer, judged_of, ListIn, NodeAt, checked_by, asked_by, TextAlone}
+use Rattle.reading.specs.Code.{Answer, Checked, checked_of, reading_answer, ReadsInto, refused_at, judged_length, judged_by, judged_scan, judged_step, ListIn, NodeAt, asked_by, TextAlone}
 
 -- ---- reading by the nodes of the text
 
@@ -69,7 +70,7 @@ place-back s p h = omega (arith, length-drop p s)
 
 -- ---- the verdict over the list
 
-list-judged : (l : List Element) (v : Verdict) → judged_of (reading_by l v) ≡ Code.judged_by v
+list-judged : (l : List Element) (v : Verdict) → checked_of (reading_by l v) ≡ Code.judged_by v
 list-judged l (Ok u) = refl
 list-judged l (Err why) = refl
 
@@ -99,21 +100,21 @@ module _ (wanted : ℕ) (s : List ℕ) (st : ListState) (e : st ≡ state_of wan
 
 module _ (wanted : ℕ) (s : List ℕ) (r : ListStep) (m₀ m₁ : Room) (h : ListReads wanted s r m₀ m₁) (room : ℕ) where
   judged-go : (x : Scan) → scan_out (λ e. whole_nodes s) s x ≡ text_nodes s → Inside 0 s 0 x
-      → judged_scan (length s) x (Code.judged_by (cond r.state.over (Err Unfits.TooManyNodes) (Lists.judged room (Lists.nodes_of r.state.list)))) ≡ judged_of (read_text room s)
+      → judged_scan (length s) x (Code.judged_by (cond r.state.over (Err Unfits.TooManyNodes) (Lists.judged room (Lists.nodes_of r.state.list)))) ≡ checked_of (read_text room s)
   unfolding list_reading
   judged-go (Ok e) q b =
       ap Code.judged_by (seen wanted s r.state h.state room)
-      ∙ sym (ap judged_of (text-by room s ∙ ap (by_nodes room s) (sym q)) ∙ list-judged (whole_nodes s) (Lists.verdict room (whole_nodes s)))
-  judged-go (Err (Stops.Fault k p)) q b = sym (ap judged_of (text-by room s ∙ ap (by_nodes room s) (sym q)) ∙ ap (refused_at k) (place-back s p b.1))
-  judged-go (Err Stops.Cut) q b = sym (ap judged_of (text-by room s ∙ ap (by_nodes room s) (sym q)))
+      ∙ sym (ap checked_of (text-by room s ∙ ap (by_nodes room s) (sym q)) ∙ list-judged (whole_nodes s) (Lists.verdict room (whole_nodes s)))
+  judged-go (Err (Stops.Fault k p)) q b = sym (ap checked_of (text-by room s ∙ ap (by_nodes room s) (sym q)) ∙ ap (refused_at k) (place-back s p b.1))
+  judged-go (Err Stops.Cut) q b = sym (ap checked_of (text-by room s ∙ ap (by_nodes room s) (sym q)))
 
-  pub judged-is : judged_step (length s) r room ≡ judged_of (read_text room s)
+  pub judged-is : judged_step (length s) r room ≡ checked_of (read_text room s)
   unfolding judged_step
   judged-is = judged-go r.scan h.out h.inside
 
 -- ---- an accepted text
 
-verdict-accepted : (l : List Element) (v : Verdict) → judged_of (reading_by l v) ≡ Ok tt → (reading_by l v ≡ accepted l) × (v ≡ Ok tt)
+verdict-accepted : (l : List Element) (v : Verdict) → checked_of (reading_by l v) ≡ Ok tt → (reading_by l v ≡ accepted l) × (v ≡ Ok tt)
 verdict-accepted l (Ok u) q = (refl, refl)
 verdict-accepted l (Err why) q = nope cc
 
@@ -128,22 +129,22 @@ record Sound (s : List ℕ) (room : ℕ) : Type 0 where
 
 module _ (s : List ℕ) (room : ℕ) where
   by-list : (d : Document) (u : List ℕ) → document.run s ≡ done d u → (l : List Element) → l ≡ whole_nodes s → read_text room s ≡ list_reading room l
-      → judged_of (read_text room s) ≡ Ok tt → Sound s room
+      → checked_of (read_text room s) ≡ Ok tt → Sound s room
   unfolding list_reading Lists.verdict
   by-list d u e l n t j =
       let v : read_text room s ≡ list_reading room (whole_nodes s) = t ∙ ap (list_reading room) n in
-      let a = verdict-accepted (whole_nodes s) (Lists.verdict room (whole_nodes s)) (ap judged_of (sym v) ∙ j) in
+      let a = verdict-accepted (whole_nodes s) (Lists.verdict room (whole_nodes s)) (ap checked_of (sym v) ∙ j) in
       let f : Fine room (bare (whole_nodes s)) = accepted-fine room (bare (whole_nodes s)) a.1 in
       record { reading = v ∙ a.0; few = omega (arith, f.few, bare-length (whole_nodes s)); fits = f.holds; text = d; behind = u; found = e }
 
-  sound : judged_of (read_text room s) ≡ Ok tt → Sound s room
+  sound : checked_of (read_text room s) ≡ Ok tt → Sound s room
   unfolding read_text
   sound j = by (document.run s) refl j
     where
-      by : (o : Out Document) → document.run s ≡ o → judged_of (text_reading room s o) ≡ Ok tt → Sound s room
+      by : (o : Out Document) → document.run s ≡ o → checked_of (text_reading room s o) ≡ Ok tt → Sound s room
       by (done d u) e z = behind (tail u) refl z
         where
-          behind : (t : Out (Unit {0})) → tail u ≡ t → judged_of (tail_reading room s d t) ≡ Ok tt → Sound s room
+          behind : (t : Out (Unit {0})) → tail u ≡ t → checked_of (tail_reading room s d t) ≡ Ok tt → Sound s room
           behind (done x q) w y =
               by-list d u e (nodes_among d.parts) (document-whole s d u e).nodes (ap (text_reading room s) e ∙ ap (tail_reading room s d) w) j
           behind (fault k q) w y = nope cc
@@ -165,15 +166,15 @@ filled-from xs m h =
     slice : (ys t : List ℤ) → length ys ≤ room_length m → room_length m ≤ length t → SliceFrom (room_length m) 0 t (filled (room_length m) (pos 0) ys t)
     slice ys t u v = record { size = filled-length (room_length m) (pos 0) ys t u v; front = refl; behind = filled-behind (room_length m) (pos 0) ys t u }
 
--- a refused reading: an empty list
-refusal-answer : (why : Refused) (x : Reading) → judged_of x ≡ Err why → (refused_answer why ≡ reading_answer x) × (all_numbers (nodes_in x) ≡ [])
-unfolding reading_answer Lists.placed Lists.place_from all_numbers
+-- a refused reading has no numbers
+refusal-answer : (why : Refused) (x : Reading) → checked_of x ≡ Err why → (Err why ≡ reading_answer x) × (all_numbers (nodes_in x) ≡ [])
+unfolding reading_answer all_numbers
 refusal-answer why (accepted l) q = nope cc
-refusal-answer why (faulty j i) q = let e : why ≡ record { number = j; place = i } = cc in (ap refused_answer e, refl)
-refusal-answer why (unfit j i) q = let e : why ≡ record { number = j; place = i } = cc in (ap refused_answer e, refl)
+refusal-answer why (faulty j i) q = let e : why ≡ record { number = j; place = i } = cc in (ap (λ (w : Refused). Err w) e, refl)
+refusal-answer why (unfit j i) q = let e : why ≡ record { number = j; place = i } = cc in (ap (λ (w : Refused). Err w) e, refl)
 
 -- and the whole room cleared, whatever it held
-pub list-refused : (x : Reading) (why : Refused) (m₀ m₁ m₂ : Room) (n : ℕ) → ListIn x (Err why) m₀ m₁ → n ≡ room_length m₁ → m₂ ≡ cleared_in 0 n m₁ → ReadsInto x (refused_answer why) m₀ m₂
+pub list-refused : (x : Reading) (why : Refused) (m₀ m₁ m₂ : Room) (n : ℕ) → ListIn x (Err why) m₀ m₁ → n ≡ room_length m₁ → m₂ ≡ cleared_in 0 n m₁ → ReadsInto x (Err why) m₀ m₂
 list-refused x why m₀ m₁ m₂ n h e z =
     let a = refusal-answer why x h.0 in
     record {
@@ -185,8 +186,8 @@ fitting-less : (n : ℕ) (xs : List Decimal) → length (fitting_numbers n xs) �
 fitting-less n xs = simp length-take (omega arith)
 
 module _ (s : List ℕ) (r : ListStep) (m₀ m₁ : Room) (h : ListReads 0 s r m₀ m₁) (n : ℕ) (e : n ≡ room_length m₀) where
-  text-judged : (j : Judged) → judged_step (length s) r n ≡ j → judged_of (read_text (room_length m₀) s) ≡ j
-  text-judged j q = ap (λ (k : ℕ). judged_of (read_text k s)) (sym e) ∙ sym (judged-is 0 s r m₀ m₁ h n) ∙ q
+  text-judged : (j : Checked) → judged_step (length s) r n ≡ j → checked_of (read_text (room_length m₀) s) ≡ j
+  text-judged j q = ap (λ (k : ℕ). checked_of (read_text k s)) (sym e) ∙ sym (judged-is 0 s r m₀ m₁ h n) ∙ q
 
   -- a refused text
   text-refused : (why : Refused) → judged_step (length s) r n ≡ Err why → ListIn (read_text (room_length m₀) s) (Err why) m₀ m₁
@@ -206,15 +207,17 @@ module _ (s : List ℕ) (r : ListStep) (m₀ m₁ : Room) (h : ListReads 0 s r m
     held : m₁ ≡ filled_with (all_numbers (whole_nodes s)) m₀
     held = h.room ∙ ap (λ (xs : List Decimal). filled_with xs m₀) (take_all (min (room_length m₀) Lists.most_numbers) (all_numbers (whole_nodes s)) all_fit)
 
-    answer-go : accepted_answer (Lists.placed_list r.state.list) ≡ reading_answer (accepted (whole_nodes s))
+    abbrev placed : Answer
+    placed = Ok (Lists.placed_list r.state.list)
+
+    answer-go : placed ≡ reading_answer (accepted (whole_nodes s))
     unfolding reading_answer
     answer-go =
-        ap (λ (l : _). record { number = 0; place = 0; list = Lists.placed_list l }) (state-list 0 s r.state h.state)
-        ∙ ap (λ (l : _). record { number = 0; place = 0; list = l })
-        (list-placed (whole_nodes s) (omega (arith, well.few)) (omega (arith, well.fits)))
+        ap (λ (l : ProcessList). Ok (Lists.placed_list l)) (state-list 0 s r.state h.state)
+        ∙ ap (λ (l : ProcessList). Ok l) (list-placed (whole_nodes s) (omega (arith, well.few)) (omega (arith, well.fits)))
 
-    text-accepted : ListIn (read_text (room_length m₀) s) (Ok (Lists.placed_list r.state.list)) m₀ m₁
-    text-accepted = subst (λ (x : Reading). ReadsInto x (accepted_answer (Lists.placed_list r.state.list)) m₀ m₁) (sym well.reading) (record { answer = answer-go; room = held })
+    text-accepted : ListIn (read_text (room_length m₀) s) placed m₀ m₁
+    text-accepted = subst (λ (x : Reading). ReadsInto x placed m₀ m₁) (sym well.reading) (record { answer = answer-go; room = held })
 
 -- ---- the limit of 16 MiB
 
@@ -241,8 +244,8 @@ unfolding read
 read_small room s h = ap (λ (b : Bool). cond b (faulty 4 0) (read_text room s)) (le-ltb most_bytes (length s) h)
 
 -- a file over 16 MiB
-pub judged-large : (room : ℕ) (s : List ℕ) (why : Refused) → judged_length (length s) ≡ Err why → Err why ≡ judged_of (read room s)
-judged-large room s why q = let b = large s why q in ap Err b.0 ∙ ap judged_of (sym (read-large room s b.1))
+pub judged-large : (room : ℕ) (s : List ℕ) (why : Refused) → judged_length (length s) ≡ Err why → Err why ≡ checked_of (read room s)
+judged-large room s why q = let b = large s why q in ap Err b.0 ∙ ap checked_of (sym (read-large room s b.1))
 
 pub list-large : (s : List ℕ) (why : Refused) (m : Room) → judged_length (length s) ≡ Err why → ListIn (read (room_length m) s) (Err why) m m
 list-large s why m q = (sym (judged-large (room_length m) s why q), from-refl 0 m)
@@ -257,14 +260,9 @@ module _ (s : List ℕ) (r : ListStep) (m₀ m₁ : Room) (q : judged_length (le
 
 -- ---- without room
 
-pub checked-is : (x : Reading) → checked_by (judged_of x) ≡ checked_of x
-checked-is (accepted l) = refl
-checked-is (faulty k p) = refl
-checked-is (unfit k p) = refl
-
 module _ (wanted : ℕ) (s : List ℕ) (r : ListStep) (t : TextAlone wanted s r) (g : judged_length (length s) ≡ Ok tt) where
-  pub judged-alone : (room : ℕ) → judged_step (length s) r room ≡ judged_of (read room s)
-  judged-alone room = judged-is wanted s r t.m₀ t.m₁ t.reads room ∙ ap judged_of (sym (read_small room s (small s g)))
+  pub judged-alone : (room : ℕ) → judged_step (length s) r room ≡ checked_of (read room s)
+  judged-alone room = judged-is wanted s r t.m₀ t.m₁ t.reads room ∙ ap checked_of (sym (read_small room s (small s g)))
 
   -- the nodes of an accepted file
   sound-alone : judged_step (length s) r 262144 ≡ Ok tt → Sound s 262144
@@ -274,43 +272,43 @@ module _ (wanted : ℕ) (s : List ℕ) (r : ListStep) (t : TextAlone wanted s r)
   count-is h =
       ap (λ (l : _). l.count) (state-list wanted s r.state t.reads.state) ∙ list_count (bare (whole_nodes s)) (omega (arith, bare-length (whole_nodes s))) ∙ bare-length (whole_nodes s)
 
-  asked-go : (k : ℕ) (j : Judged) → judged_step (length s) r 262144 ≡ j → asked_by j k r.state.list.count ≡ judged_of (description_asked k s)
+  asked-go : (k : ℕ) (j : Checked) → judged_step (length s) r 262144 ≡ j → asked_by j k r.state.list.count ≡ checked_of (description_asked k s)
   unfolding description_asked
   asked-go k (Ok u) q =
       let v : Sound s 262144 = sound-alone q in
       let a : read_alone s ≡ accepted (whole_nodes s) = read_small Lists.most_numbers s (small s g) ∙ v.reading in
       ap (λ (x : ℕ). cond (ltb 0 k && leb k x) (Ok tt) (refused_at 19 0)) (count-is v.few) ∙ by (ltb 0 k && leb k (length (whole_nodes s)))
-      ∙ sym (ap (λ (x : Reading). judged_of (asked_for k x)) a)
+      ∙ sym (ap (λ (x : Reading). checked_of (asked_for k x)) a)
     where
-      by : (b : Bool) → cond b (Ok tt) (refused_at 19 0) ≡ judged_of (cond b (accepted (whole_nodes s)) (faulty 19 0))
+      by : (b : Bool) → cond b (Ok tt) (refused_at 19 0) ≡ checked_of (cond b (accepted (whole_nodes s)) (faulty 19 0))
       by true = refl
       by false = refl
-  asked-go k (Err why) q = let e : Err why ≡ judged_of (read_alone s) = sym q ∙ judged-alone Lists.most_numbers in by (read_alone s) e
+  asked-go k (Err why) q = let e : Err why ≡ checked_of (read_alone s) = sym q ∙ judged-alone Lists.most_numbers in by (read_alone s) e
     where
-      by : (x : Reading) → Err why ≡ judged_of x → Err why ≡ judged_of (asked_for k x)
+      by : (x : Reading) → Err why ≡ checked_of x → Err why ≡ checked_of (asked_for k x)
       by (accepted l) e = nope cc
       by (faulty j i) e = e
       by (unfit j i) e = e
 
-  asked_is : (k : ℕ) → asked_by (judged_step (length s) r 262144) k r.state.list.count ≡ judged_of (description_asked k s)
+  asked_is : (k : ℕ) → asked_by (judged_step (length s) r 262144) k r.state.list.count ≡ checked_of (description_asked k s)
   asked_is k = asked-go k (judged_step (length s) r 262144) refl
 
 -- ---- where a node begins
 
 pub node-large : (k : ℕ) (s : List ℕ) (why : Refused) → judged_length (length s) ≡ Err why → NodeAt k s (Err why)
 unfolding description_asked
-node-large k s why q = let b = large s why q in ap (λ (x : Reading). judged_of (asked_for k x)) (read-large Lists.most_numbers s b.1) ∙ ap Err (sym b.0)
+node-large k s why q = let b = large s why q in ap (λ (x : Reading). checked_of (asked_for k x)) (read-large Lists.most_numbers s b.1) ∙ ap Err (sym b.0)
 
 module _ (k : ℕ) (s : List ℕ) (r : ListStep) (t : TextAlone k s r) (g : judged_length (length s) ≡ Ok tt) where
-  asked : (j : Judged) → asked_by (judged_step (length s) r 262144) k r.state.list.count ≡ j → judged_of (description_asked k s) ≡ j
+  asked : (j : Checked) → asked_by (judged_step (length s) r 262144) k r.state.list.count ≡ j → checked_of (description_asked k s) ≡ j
   asked j q = sym (asked_is k s r t g k) ∙ q
 
   pub node-ill : (why : Refused) → judged_step (length s) r 262144 ≡ Err why → NodeAt k s (Err why)
-  node-ill why q = asked (Err why) (ap (λ (j : Judged). asked_by j k r.state.list.count) q)
+  node-ill why q = asked (Err why) (ap (λ (j : Checked). asked_by j k r.state.list.count) q)
 
   module _ (q : judged_step (length s) r 262144 ≡ Ok tt) where
     by-number : (b : Bool) → (ltb 0 k && leb k r.state.list.count) ≡ b → asked_by (judged_step (length s) r 262144) k r.state.list.count ≡ cond b (Ok tt) (refused_at 19 0)
-    by-number b e = ap (λ (j : Judged). asked_by j k r.state.list.count) q ∙ ap (λ (c : Bool). cond c (Ok tt) (refused_at 19 0)) e
+    by-number b e = ap (λ (j : Checked). asked_by j k r.state.list.count) q ∙ ap (λ (c : Bool). cond c (Ok tt) (refused_at 19 0)) e
 
     pub node-zero : k ≡ 0 → NodeAt k s (refused_at 19 0)
     node-zero z = asked (refused_at 19 0) (by-number false (ap (λ (n : ℕ). ltb 0 n && leb n r.state.list.count) z))
@@ -332,19 +330,14 @@ module _ (k : ℕ) (s : List ℕ) (r : ListStep) (t : TextAlone k s r) (g : judg
           state-start k s r.state t.reads.state ∙ place-whole s v.text v.behind k v.found i (omega (arith, h)) (omega (arith, v.few)),
         )
 
--- the answer for one who asks for it
-pub node-checked : (k : ℕ) (s : List ℕ) (r : Result ℕ Refused) → NodeAt k s r → checked_by r ≡ checked_of (description_asked k s)
-node-checked k s (Ok a) h = ap checked_by (sym h.0) ∙ checked-is (description_asked k s)
-node-checked k s (Err why) h = ap checked_by (sym h) ∙ checked-is (description_asked k s)
-
 -- ---- where a Description stands
 
-refused-part : (k : ℕ) (s : List ℕ) (x : Reading) (why : Refused) → judged_of x ≡ Err why → part_asked k s x ≡ no_part
+refused-part : (k : ℕ) (s : List ℕ) (x : Reading) (why : Refused) → checked_of x ≡ Err why → part_asked k s x ≡ no_part
 refused-part k s (accepted l) why q = nope cc
 refused-part k s (faulty j i) why q = refl
 refused-part k s (unfit j i) why q = refl
 
-accepted-part : (k : ℕ) (s : List ℕ) (x : Reading) → judged_of x ≡ Ok tt → part_asked k s x ≡ part_from (node_span s (k - 1)).0 s
+accepted-part : (k : ℕ) (s : List ℕ) (x : Reading) → checked_of x ≡ Ok tt → part_asked k s x ≡ part_from (node_span s (k - 1)).0 s
 accepted-part k s (accepted l) q = refl
 accepted-part k s (faulty j i) q = nope cc
 accepted-part k s (unfit j i) q = nope cc

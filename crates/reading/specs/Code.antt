@@ -1,6 +1,6 @@
 -- What reading, the file check and the Description answer, for the code's records.
 use Rattle.process_list.specs.List.{Verdict, all_numbers}
-use Rattle.std.specs.Prelude.{◌≡◌, ◌⊎◌, cond, ◌&&◌, List, [], ℕ, ◌-◌, ltb, leb}
+use Rattle.std.specs.Prelude.{◌≡◌, ◌⊎◌, cond, ◌&&◌, List, ℕ, ◌-◌, ltb, leb}
 use Rattle.process_list.specs.declared.Unfit.TheVariants as Unfits
 use Rattle.process_list.specs.List as Lists
 use Rattle.process_list.specs.declared.ProcessList.{ProcessList}
@@ -12,23 +12,45 @@ use Rattle.std.specs.Prelude.{Result, Ok, Err}
 use Rattle.xml.specs.declared.Stop.{Stop}
 use Rattle.xml.specs.declared.Stop.TheVariants as Stops
 use Rattle.clf.specs.Places.{node_span}
-use Rattle.clf.specs.Reading.{Reading, accepted, faulty, unfit, reading_number, reading_place, nodes_in, most_bytes, description_asked}
+use Rattle.clf.specs.Reading.{Reading, accepted, faulty, unfit, nodes_in, most_bytes, description_asked}
 use Rattle.file_text.specs.declared.ListStep.{ListStep}
 use Rattle.file_text.specs.Code.{ListReads}
-use Rattle.reading.specs.declared.Answer.{Answer}
-use Rattle.reading.specs.declared.Checked.{Checked}
 use Rattle.reading.specs.declared.Refused.{Refused}
 use Rattle.refusals.specs.Refusals as Refusal
 
 -- ---- what reading answers
 
--- the refusal number and its place
-abbrev pub checked_of : Reading → Checked
-checked_of r = record { number = reading_number r; place = reading_place r }
+-- a refusal of this number at this place
+abbrev pub refused_at : {A : Type 0} → ℕ → ℕ → Result A Refused
+refused_at k p = Err (record { number = k; place = p })
 
--- and the list: its nodes in file order, their numbers without gaps
+-- the refusal number of an answer, 0 where nothing is refused, and its place
+abbrev pub number_of : {A : Type 0} → Result A Refused → ℕ
+number_of (Ok a) = 0
+number_of (Err why) = why.number
+
+abbrev pub place_of : {A : Type 0} → Result A Refused → ℕ
+place_of (Ok a) = 0
+place_of (Err why) = why.place
+
+-- whether a file is accepted, or why it is refused
+abbrev pub Checked : Type 0
+Checked = Result (Unit {0}) Refused
+
+abbrev pub checked_of : Reading → Checked
+checked_of (accepted l) = Ok tt
+checked_of (faulty k p) = refused_at k p
+checked_of (unfit k p) = refused_at k p
+
+-- the list, or why the file is refused
+abbrev pub Answer : Type 0
+Answer = Result ProcessList Refused
+
+-- an accepted reading answers its list: its nodes in file order, their numbers without gaps
 unfoldable pub reading_answer : Reading → Answer
-reading_answer r = record { number = reading_number r; place = reading_place r; list = Lists.list_of (Lists.placed (nodes_in r)) }
+reading_answer (accepted l) = Ok (Lists.list_of (Lists.placed l))
+reading_answer (faulty k p) = refused_at k p
+reading_answer (unfit k p) = refused_at k p
 
 -- the answer of a reading, and the whole of the lent room after it: the numbers in node order, 'the unused rest of the room is zero'; all of it where the reading is refused
 pub record ReadsInto (reading : Reading) (r : Answer) (m₀ m₁ : Room) : Type 0 where
@@ -37,61 +59,38 @@ pub record ReadsInto (reading : Reading) (r : Answer) (m₀ m₁ : Room) : Type 
 
 -- ---- what the small steps of the code do
 
--- whether a file is accepted, or why it is refused
-abbrev pub Judged : Type 0
-Judged = Result (Unit {0}) Refused
-
-abbrev pub refused_at : {A : Type 0} → ℕ → ℕ → Result A Refused
-refused_at k p = Err (record { number = k; place = p })
-
 -- bytes of this length that do not read
 abbrev pub refused_stop : ℕ → Stop → Refused
 refused_stop length (Stops.Fault k p) = record { number = k; place = p }
 refused_stop length Stops.Cut = record { number = Refusal.cut_short; place = length }
 
 -- 'over 16 MiB'
-abbrev pub judged_length : ℕ → Judged
+abbrev pub judged_length : ℕ → Checked
 judged_length n = cond (ltb most_bytes n) (refused_at Refusal.too_long 0) (Ok tt)
 
-abbrev pub judged_by : Verdict → Judged
+abbrev pub judged_by : Verdict → Checked
 judged_by = Lists.by_verdict (Ok tt) refused_at
 
-abbrev pub judged_scan : ℕ → Scan → Judged → Judged
+abbrev pub judged_scan : ℕ → Scan → Checked → Checked
 judged_scan length (Ok e) j = j
 judged_scan length (Err x) j = Err (refused_stop length x)
 
-unfoldable pub judged_step : ℕ → ListStep → ℕ → Judged
+unfoldable pub judged_step : ℕ → ListStep → ℕ → Checked
 judged_step length r room =
     judged_scan length r.scan (judged_by (cond r.state.over (Err Unfits.TooManyNodes) (Lists.judged room (Lists.nodes_of r.state.list))))
 
-abbrev pub refused_answer : Refused → Answer
-refused_answer why = record { number = why.number; place = why.place; list = Lists.list_of [] }
-
-abbrev pub accepted_answer : ProcessList → Answer
-accepted_answer list = record { number = 0; place = 0; list = list }
-
--- what a reading says, without its list
-abbrev pub judged_of : Reading → Judged
-judged_of (accepted l) = Ok tt
-judged_of (faulty k p) = refused_at k p
-judged_of (unfit k p) = refused_at k p
-
 -- the list of a reading, and the room after it: where it is refused, only the lengths of its slices are said
-abbrev pub ListIn : Reading → Result ProcessList Refused → Room → Room → Type 0
-ListIn x (Ok list) m₀ m₁ = ReadsInto x (accepted_answer list) m₀ m₁
-ListIn x (Err why) m₀ m₁ = (judged_of x ≡ Err why) × RoomFrom 0 m₀ m₁
+abbrev pub ListIn : Reading → Answer → Room → Room → Type 0
+ListIn x (Ok list) m₀ m₁ = ReadsInto x (Ok list) m₀ m₁
+ListIn x (Err why) m₀ m₁ = (checked_of x ≡ Err why) × RoomFrom 0 m₀ m₁
 
 -- where the node begins whose Description is asked for
 abbrev pub NodeAt : ℕ → List ℕ → Result ℕ Refused → Type 0
-NodeAt k s (Ok start) = (judged_of (description_asked k s) ≡ Ok tt) × (start ≡ (node_span s (k - 1)).0)
-NodeAt k s (Err why) = judged_of (description_asked k s) ≡ Err why
-
-abbrev pub checked_by : {A : Type 0} → Result A Refused → Checked
-checked_by (Ok a) = record { number = 0; place = 0 }
-checked_by (Err why) = record { number = why.number; place = why.place }
+NodeAt k s (Ok start) = (checked_of (description_asked k s) ≡ Ok tt) × (start ≡ (node_span s (k - 1)).0)
+NodeAt k s (Err why) = checked_of (description_asked k s) ≡ Err why
 
 -- the node of the number k is asked for, of so many
-abbrev pub asked_by : Judged → ℕ → ℕ → Judged
+abbrev pub asked_by : Checked → ℕ → ℕ → Checked
 asked_by (Ok u) k count = cond (ltb 0 k && leb k count) (Ok tt) (refused_at Refusal.no_such_node 0)
 asked_by (Err why) k count = Err why
 

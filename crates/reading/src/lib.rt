@@ -7,27 +7,12 @@ ghost use Rattle.process_list.specs.List.{unfit_number, unfit_place};
 ghost use Rattle.clf.specs.Reading as Reading;
 ghost use Rattle.clf.specs.Description.{description_part};
 ghost use Rattle.describing.specs.Code.{IsPlace, IsPart};
-ghost use Rattle.reading.specs.Code.{ReadsInto, checked_of, TextAlone, judged_length, judged_step, refused_stop, refused_answer, checked_by, judged_of, ListIn, NodeAt};
+ghost use Rattle.reading.specs.Code.{ReadsInto, checked_of, TextAlone, judged_length, judged_step, refused_stop, ListIn, NodeAt};
 
 use describing::Part;
 use file_text::ListStep;
 use process_list::{ProcessList, Unfit};
 use xml::Stop;
-
-// What reading answers, and what a replacing call does: the refusal number with its place, 0 and 0 where there is none, and the list. This is no `Result`: a refused call of `replacing` answers its list, too.
-#[derive(Clone, Copy, Debug, PartialEq, Eq)]
-pub struct Answer {
-    pub number: u8,
-    pub place: usize,
-    pub list: ProcessList,
-}
-
-// What the file check answers: the refusal number with its place, 0 and 0 where there is none, as C hosts are answered (`clf_check_file`).
-#[derive(Clone, Copy, Debug, PartialEq, Eq)]
-pub struct Checked {
-    pub number: u8,
-    pub place: usize,
-}
 
 // Why a file or an element is refused: the refusal number with its place.
 #[derive(Clone, Copy, Debug, PartialEq, Eq)]
@@ -35,6 +20,12 @@ pub struct Refused {
     pub number: u8,
     pub place: usize,
 }
+
+// What reading answers: the list, or why the file is refused.
+pub type Answer = Result<ProcessList, Refused>;
+
+// What the file check answers: that the file is accepted, or why it is refused.
+pub type Checked = Result<(), Refused>;
 
 impl From<Unfit> for Refused {
     ghost from_gives = { λ why r. r ≡ record { number = unfit_number why; place = unfit_place why } };
@@ -61,7 +52,7 @@ pub fn refused_by(stop: Stop, length: usize) -> Refused
 }
 
 // A file, or an element, of over 16 MiB is 4.
-pub fn judge_length(bytes: &[u8]) -> Result<(), Refused>
+pub fn judge_length(bytes: &[u8]) -> Checked
     ensures { result ≡ judged_length (length bytes.now) }
 {
     if process_list::MOST_BYTES < bytes.len() {
@@ -74,7 +65,7 @@ pub fn judge_length(bytes: &[u8]) -> Result<(), Refused>
 }
 
 // What is to be said of a text that reads so, for a room of this length.
-fn judge_text(s: &[u8], step: ListStep, room: usize) -> Result<(), Refused>
+fn judge_text(s: &[u8], step: ListStep, room: usize) -> Checked
     ensures { result ≡ judged_step (length s.now) step room }
 {
     if let Err(stop) = step.scan {
@@ -85,11 +76,7 @@ fn judge_text(s: &[u8], step: ListStep, room: usize) -> Result<(), Refused>
 }
 
 // Reads a file into the table room, which is not cleared where the file is refused.
-fn read_list(
-    file: &[u8],
-    coefficients: &mut [i64],
-    powers: &mut [i8],
-) -> Result<ProcessList, Refused>
+fn read_list(file: &[u8], coefficients: &mut [i64], powers: &mut [i8]) -> Answer
     ensures { ListIn (Reading.read (room_length (lent coefficients.old powers.old)) file.now) result (lent coefficients.old powers.old)
         (lent coefficients.new powers.new) }
 {
@@ -106,19 +93,11 @@ pub fn read(file: &[u8], coefficients: &mut [i64], powers: &mut [i8]) -> Answer
         (lent coefficients.new powers.new) }
 {
     match read_list(file, coefficients, powers) {
-        Ok(list) => Answer {
-            number: 0,
-            place: 0,
-            list,
-        },
+        Ok(list) => Ok(list),
         Err(why) => {
             let length = room::length(coefficients, powers);
             room::clear(coefficients, powers, 0, length);
-            Answer {
-                number: why.number,
-                place: why.place,
-                list: process_list::empty(),
-            }
+            Err(why)
         }
     }
 }
@@ -132,35 +111,12 @@ fn text_alone(file: &[u8], wanted: usize) -> ListStep
     file_text::file_list(file, wanted, &mut coefficients, &mut powers)
 }
 
-// What a host is answered.
-fn to_checked<T: Copy>(judged: Result<T, Refused>) -> Checked
-    ensures { result ≡ checked_by judged }
-{
-    match judged {
-        Ok(_) => Checked {
-            number: 0,
-            place: 0,
-        },
-        Err(why) => Checked {
-            number: why.number,
-            place: why.place,
-        },
-    }
-}
-
-// A file for a room of this length, without the room.
-fn judge_file(file: &[u8], room: usize) -> Result<(), Refused>
-    ensures { result ≡ judged_of (Reading.read room file.now) }
-{
-    judge_length(file)?;
-    judge_text(file, text_alone(file, 0), room)
-}
-
 // Checks a file for a room of this length, without the room.
 pub fn check_within(file: &[u8], room: usize) -> Checked
     ensures { result ≡ checked_of (Reading.read room file.now) }
 {
-    to_checked(judge_file(file, room))
+    judge_length(file)?;
+    judge_text(file, text_alone(file, 0), room)
 }
 
 // Checks a file without room: 13 means over 262,144 numbers.
@@ -190,7 +146,8 @@ fn node_start(file: &[u8], k: usize) -> Result<usize, Refused>
 pub fn description_number(file: &[u8], k: usize) -> Checked
     ensures { result ≡ checked_of (Reading.description_asked k file.now) }
 {
-    to_checked(node_start(file, k))
+    node_start(file, k)?;
+    Ok(())
 }
 
 // Where the first Description inside node k stands.

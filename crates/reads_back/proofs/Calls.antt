@@ -1,5 +1,6 @@
 -- From what the functions ensure to what is promised of them: reading back, and refusal 16 both ways. Assumes nothing.
 use mathlib.Core.Path.{◌≡◌, refl, sym, ap, subst, ◌∙◌}
+use Rattle.std.specs.Prelude.{Ok, Err}
 use mathlib.Core.Bool.{Bool, true, false, cond, not}
 use mathlib.Core.List.{List, [], ◌∷◌, map}
 use Prim.Native.Nat.{ℕ, ◌-◌, ◌≤◌}
@@ -12,8 +13,8 @@ use lib.Seq.{take_at}
 use Rattle.grammar.specs.Laws.{nope}
 use Rattle.process_list.specs.declared.ProcessList.{ProcessList}
 use Rattle.process_list.specs.declared.Node.{Node}
-use Rattle.process_list.specs.File.{file_node, keeping}
-use Rattle.process_list.specs.List.{Element, nodes_of, most_numbers}
+use Rattle.process_list.specs.File.{file_node, file_list, keeping}
+use Rattle.process_list.specs.List.{Element, list_of, placed, nodes_of, most_numbers}
 use Rattle.process_list.proofs.Files.{file-nodes, file-keeping}
 use Rattle.room.specs.Room.{Room, room_length}
 use Rattle.ids.specs.Ids.{id_right}
@@ -21,29 +22,25 @@ use Rattle.valid.specs.Valid.{is_valid, elements_of}
 use Rattle.valid.proofs.Readings.{valid-file, elements-file}
 use Rattle.tags.specs.Code.{part_in}
 use Rattle.clf.specs.Description.{bytes_of, part_asked, description_part}
-use Rattle.clf.specs.Reading.{Reading, accepted, faulty, unfit, reading_number, reading_place, read_alone, is_numbered, asked_for, description_asked, read}
-use Rattle.reading.specs.declared.Answer.{Answer}
-use Rattle.reading.specs.declared.Checked.{Checked}
-use Rattle.reading.specs.Code.{checked_of, ReadsInto}
+use Rattle.clf.specs.Reading.{Reading, nodes_in, accepted, faulty, unfit, reading_number, reading_place, read_alone, is_numbered, asked_for, description_asked, read}
+use Rattle.reading.specs.Code.{Answer, Checked, number_of, place_of, checked_of, ReadsInto}
 use Rattle.reading.specs.Code as Reads
-use Rattle.look.specs.Look.{Look, as_read, kept_of, call_in}
+use Rattle.look.specs.Look.{Look, as_read, holding, kept_of, call_in}
 use Rattle.look.specs.Replacing.{Call, call}
 use Rattle.look.specs.Replacing as Replacing
-use Rattle.replacing.specs.Code.{look_of, Replaced}
+use Rattle.replacing.specs.Code.{Outcome, look_of, Replaced}
 use Rattle.replacing.specs.Code as Replaces
-use Rattle.claims.specs.LookRuns.{read_into}
 use Rattle.claims.specs.Refusals.{ToldApart}
 use Rattle.claims.proofs.Blamed.{elsewhere}
 use Rattle.claims.proofs.Calls.{is_call_fault, call-number}
 use Rattle.claims.proofs.Told.{told-reading, told-call}
 use Rattle.pixel_run.specs.Finite.{first_not_finite}
-use Rattle.running.specs.declared.Ran.{Ran}
-use Rattle.running.specs.Running.{prepared_of, rows_of, run_node, run_nodes, not_threes, not_finite, ran, ran_of, pixels_of}
+use Rattle.running.specs.declared.RunFault.TheVariants as Fault
+use Rattle.running.specs.Running.{Ran, ran_number, prepared_of, rows_of, run_node, run_nodes, not_threes, not_finite, ran_of, pixels_of}
 use Rattle.written_form.specs.Written.{joined, list_lines, most_id_bytes, Writing, refused, written, fitting, write_of, output_of}
 use Rattle.written_form.specs.Written as Text
-use Rattle.writing.specs.declared.Written.{Written}
-use Rattle.writing.specs.Writing.{writing_answer}
-use Rattle.demand3.proofs.Whole.{read-look}
+use Rattle.writing.specs.Writing.{Written, written_number, written_length, writing_answer}
+use Rattle.writing.specs.WritingLaws.{answer-number, answer-length}
 use Rattle.reads_back.specs.Back.{HasPlaces, SomeReading, ReadingLeaves, ReadingLeavesIn, writing}
 use Rattle.reads_back.specs.Calls.{ReadBack, ReadIn, WroteAndRead, IsReading, Refuses16, WriteRefuses, RunRefuses, ReplaceRefuses, CheckedAndRead, Describes}
 use Rattle.reads_back.proofs.Back.{written-reads-back, written-reads-in, refusal-16}
@@ -74,31 +71,33 @@ text-front : (w : Writing) (text out : List ℕ) → w ≡ written text → take
 text-front w text out e =
     subst (λ (v : Writing). take (Text.writing_length v) (output_of v out) ≡ text) (sym e) (take_at text (drop (length text) out) (length text) refl)
 
+-- the answer of an accepted reading is the list that it leaves
+lists : (y : Look) (d : Reading) (es : List Element) (l : ProcessList) (r : Answer) → d ≡ accepted es → r ≡ Reads.reading_answer d → (holding y (nodes_in d)).list ≡ l → r ≡ Ok l
+unfolding Reads.reading_answer holding
+lists y d es l r a e q =
+    let k : (holding y (nodes_in d)).list ≡ list_of (placed es) = ap (λ (z : Reading). (holding y (nodes_in z)).list) a in
+    e ∙ ap Reads.reading_answer a ∙ ap Ok (sym k ∙ q)
+
 reads-text : (x : Look) (m₀ m₁ : Room) (text : List ℕ) (r : Answer) → ReadingLeaves (look_of x.list m₀) text x → ReadsInto (read (room_length m₀) text) r m₀ m₁ → ReadBack x r m₁
-unfolding Reads.reading_answer
+unfolding Reads.reading_answer holding
 reads-text x m₀ m₁ text r l h =
-    let y : Look = look_of x.list m₀ in
-    let q : look_of r.list m₁ ≡ as_read x = read-look y text r m₁ h ∙ l.look in
     record {
-      number = ap (λ (a : Answer). a.number) h.answer ∙ ap reading_number l.accepted;
-      list = ap (λ (z : Look). z.list) q;
-      room = ap (λ (z : Look). z.room) q;
+      answer = lists (look_of x.list m₀) (read (room_length m₀) text) l.nodes (file_list x.list) r l.accepted h.answer (ap (λ (z : Look). z.list) l.look);
+      room = h.room ∙ ap (λ (z : Look). z.room) l.look;
     }
 
 -- the same in a room that holds the numbers
 reads-text-in : (x : Look) (m₀ m₁ : Room) (text : List ℕ) (r : Answer) → ReadingLeavesIn (look_of x.list m₀) text x → ReadsInto (read (room_length m₀) text) r m₀ m₁ → ReadIn x r m₀ m₁
-unfolding Reads.reading_answer
+unfolding Reads.reading_answer holding
 reads-text-in x m₀ m₁ text r l h =
-    let q : look_of r.list m₁ ≡ read_into (look_of x.list m₀) text = read-look (look_of x.list m₀) text r m₁ h in
     record {
-      number = ap (λ (a : Answer). a.number) h.answer ∙ ap reading_number l.accepted;
-      list = ap (λ (z : Look). z.list) q ∙ l.list;
-      room = ap (λ (z : Look). z.room) q ∙ l.room;
+      answer = lists (look_of x.list m₀) (read (room_length m₀) text) l.nodes (file_list x.list) r l.accepted h.answer l.list;
+      room = h.room ∙ l.room;
     }
 
 pub wrote-read : (x : Look) → HasPlaces x → (id : List ℕ) (w : Written) (r : Answer) (out₀ out₁ : List ℕ) (m₀ m₁ : Room) → w ≡ writing_answer (writing x id (length out₀))
     → out₁ ≡ output_of (writing x id (length out₀)) out₀
-    → ReadsInto (read (room_length m₀) (take w.length out₁)) r m₀ m₁ → WroteAndRead x id (record { wrote = w; answer = r }) out₀ out₁ m₀ m₁
+    → ReadsInto (read (room_length m₀) (take (written_length w) out₁)) r m₀ m₁ → WroteAndRead x id (record { wrote = w; answer = r }) out₀ out₁ m₀ m₁
 wrote-read x p id w r out₀ out₁ m₀ m₁ e o h =
     record {
       wrote = e;
@@ -108,13 +107,13 @@ wrote-read x p id w r out₀ out₁ m₀ m₁ e o h =
       back = λ z room. let k = said z in reads-text x m₀ m₁ k.text r (written-reads-back x p id (length out₀) k.text k.is (look_of x.list m₀) room) (from k);
     }
   where
-    said : w.number ≡ 0 → Zero (writing x id (length out₀))
-    said z = zero-written x id (length out₀) (sym (ap (λ (v : Written). v.number) e) ∙ z)
+    said : written_number w ≡ 0 → Zero (writing x id (length out₀))
+    said z = zero-written x id (length out₀) (sym (ap written_number e ∙ answer-number x.list x.room id (length out₀)) ∙ z)
 
     from : (k : Zero (writing x id (length out₀))) → ReadsInto (read (room_length m₀) k.text) r m₀ m₁
     from k =
         subst (λ (s : List ℕ). ReadsInto (read (room_length m₀) s) r m₀ m₁)
-        (ap (λ (v : Written). take v.length out₁) e ∙ ap (take (Text.writing_length (writing x id (length out₀)))) o ∙ text-front (writing x id (length out₀)) k.text out₀ k.is) h
+        (ap (λ (v : Written). take (written_length v) out₁) e ∙ ap (λ (n : ℕ). take n out₁) (answer-length (writing x id (length out₀))) ∙ ap (take (Text.writing_length (writing x id (length out₀)))) o ∙ text-front (writing x id (length out₀)) k.text out₀ k.is) h
 
 -- as the code goes: the part of the output that was written is read
 written-fits : (x : Look) (id : List ℕ) (n : ℕ) → Text.writing_length (writing x id n) ≤ n
@@ -136,11 +135,11 @@ part-front s n h = let z : n - 0 ≡ n = omega arith in rw (le-leb n (length s) 
 
 pub wrote-part-read : (x : Look) → HasPlaces x → (id : List ℕ) (w : Written) (r : Answer) (out₀ out₁ : List ℕ) (m₀ m₁ : Room) → w ≡ writing_answer (writing x id (length out₀))
     → out₁ ≡ output_of (writing x id (length out₀)) out₀
-    → length out₁ ≡ length out₀ → (t : List ℕ) → t ≡ part_in out₁ 0 w.length → ReadsInto (read (room_length m₀) t) r m₀ m₁ → WroteAndRead x id (record { wrote = w; answer = r }) out₀ out₁ m₀ m₁
+    → length out₁ ≡ length out₀ → (t : List ℕ) → t ≡ part_in out₁ 0 (written_length w) → ReadsInto (read (room_length m₀) t) r m₀ m₁ → WroteAndRead x id (record { wrote = w; answer = r }) out₀ out₁ m₀ m₁
 wrote-part-read x p id w r out₀ out₁ m₀ m₁ e o l t q h =
-    let n : w.length ≡ Text.writing_length (writing x id (length out₀)) = ap (λ (v : Written). v.length) e in
-    let k : w.length ≤ length out₁ = omega (arith, written-fits x id (length out₀)) in
-    wrote-read x p id w r out₀ out₁ m₀ m₁ e o (subst (λ (s : List ℕ). ReadsInto (read (room_length m₀) s) r m₀ m₁) (q ∙ part-front out₁ w.length k) h)
+    let n : written_length w ≡ Text.writing_length (writing x id (length out₀)) = ap written_length e ∙ answer-length (writing x id (length out₀)) in
+    let k : written_length w ≤ length out₁ = omega (arith, written-fits x id (length out₀)) in
+    wrote-read x p id w r out₀ out₁ m₀ m₁ e o (subst (λ (s : List ℕ). ReadsInto (read (room_length m₀) s) r m₀ m₁) (q ∙ part-front out₁ (written_length w) k) h)
 
 -- ---- refusal 16
 
@@ -185,14 +184,17 @@ write-refuses x p id r out₀ out₁ e o = record {
   answer = e;
   output = o;
   unseen = write-unseen x id (length out₀);
-  refuses = refuses x p r.number
-      (λ v z. valid (is_valid x.list x.room) (id_right most_id_bytes id) (ltb (length out₀) (length text)) v (sym (ap (λ (w : Written). w.number) e) ∙ z))
-      (λ v. ap (λ (w : Written). w.number) e ∙ ap (λ (b : Bool). Text.writing_number
+  refuses = refuses x p (written_number r)
+      (λ v z. valid (is_valid x.list x.room) (id_right most_id_bytes id) (ltb (length out₀) (length text)) v (sym said ∙ z))
+      (λ v. said ∙ ap (λ (b : Bool). Text.writing_number
       (cond b (cond (id_right most_id_bytes id) (cond (ltb (length out₀) (length text)) (refused 17) (written text)) (refused 18)) (refused 16))) v);
 }
   where
     text : List ℕ
     text = joined (list_lines id (elements_of x.list x.room))
+
+    said : written_number r ≡ Text.writing_number (writing x id (length out₀))
+    said = ap written_number e ∙ answer-number x.list x.room id (length out₀)
 
     valid : (a b c : Bool) → a ≡ true → Text.writing_number (cond a (cond b (cond c (refused 17) (written text)) (refused 18)) (refused 16)) ≡ 16 → ⊥
     valid true true true v z = omega arith
@@ -207,15 +209,15 @@ run-refuses x p r xs ys e o = record {
   pixels = o;
   unseen = ran-unseen x xs;
   unseen_pixels = run-unseen x xs;
-  refuses = refuses x p r.number
-      (λ v z. valid (is_valid x.list x.room) (not_threes xs) (not_finite xs) v (sym (ap (λ (w : Ran). w.number) e) ∙ z))
-      (λ v. ap (λ (w : Ran). w.number) e ∙ ap (λ (b : Bool). (cond (not b) (ran 16 0) rest).number) v);
+  refuses = refuses x p (ran_number r)
+      (λ v z. valid (is_valid x.list x.room) (not_threes xs) (not_finite xs) v (sym (ap ran_number e) ∙ z))
+      (λ v. ap ran_number e ∙ ap (λ (b : Bool). ran_number (cond (not b) (Err Fault.NoReading) rest)) v);
 }
   where
     rest : Ran
-    rest = cond (not_threes xs) (ran 14 0) (cond (not_finite xs) (ran 15 (first_not_finite xs)) (ran 0 0))
+    rest = cond (not_threes xs) (Err Fault.NotThrees) (cond (not_finite xs) (Err (Fault.NotFinite (first_not_finite xs))) (Ok tt))
 
-    valid : (a b c : Bool) → a ≡ true → (cond (not a) (ran 16 0) (cond b (ran 14 0) (cond c (ran 15 (first_not_finite xs)) (ran 0 0)))).number ≡ 16 → ⊥
+    valid : (a b c : Bool) → a ≡ true → ran_number (cond (not a) (Err Fault.NoReading) (cond b (Err Fault.NotThrees) (cond c (Err (Fault.NotFinite (first_not_finite xs))) (Ok tt)))) ≡ 16 → ⊥
     valid true true c v z = omega arith
     valid true false true v z = omega arith
     valid true false false v z = omega arith
@@ -242,31 +244,54 @@ told_in x c = by-valid (is_valid x.list x.room)
     by-valid true = by_call a refl
     by-valid false = elsewhere (eqb 16) refl refl 16 refl (drop 0 c.element)
 
-pub replace-refuses : (l : ProcessList) (m₀ : Room) → HasPlaces (look_of l m₀) → (c : Call) (r : Answer) (m₁ : Room) → Replaced l m₀ c r m₁ → ReplaceRefuses l m₀ c r m₁
-unfolding Replaces.replacing_answer call_in
-replace-refuses l m₀ p c r m₁ h =
+call-says : (a : Replacing.Replacing) → (number_of (Replaces.replacing_answer a) ≡ Replaces.replacing_number a) × (place_of (Replaces.replacing_answer a) ≡ Replaces.replacing_place a)
+unfolding Replaces.replacing_answer
+call-says (Replacing.replaced es) = (refl, refl)
+call-says (Replacing.refused n p) = (refl, refl)
+
+-- what is told of equal numbers and places
+told-as : {n n' p p' : ℕ} (s : List ℕ) → n ≡ n' → p ≡ p' → ToldApart n' (drop p' s) → ToldApart n (drop p s)
+told-as s e q t = rw (e, q) t
+
+pub replace-refuses : (l : ProcessList) (m₀ : Room) → HasPlaces (look_of l m₀) → (c : Call) (r : Outcome) (l₁ : ProcessList) (m₁ : Room) → Replaced l m₀ c r l₁ m₁ → ReplaceRefuses l m₀ c r l₁ m₁
+unfolding call_in
+replace-refuses l m₀ p c r l₁ m₁ h =
     let x : Look = look_of l m₀ in
     let a : Replacing.Replacing = call (room_length m₀) (kept_of x) (elements_of l m₀) c in
-    let q : r.number ≡ Replaces.replacing_number (call_in x c) = ap (λ (y : Answer). y.number) h.answer in
+    let q : number_of r ≡ Replaces.replacing_number (call_in x c) = ap number_of h.answer ∙ (call-says (call_in x c)).0 in
+    let o : place_of r ≡ Replaces.replacing_place (call_in x c) = ap place_of h.answer ∙ (call-says (call_in x c)).1 in
     record {
       leaves = h;
-      refuses = refuses x p r.number
+      refuses = refuses x p (number_of r)
           (λ v z. call-not (room_length m₀) (kept_of x) (elements_of l m₀) c a refl (ap (λ (b : Bool). Replaces.replacing_number (cond b a (Replacing.refused 16 0))) (sym v) ∙ sym q ∙ z))
           (λ v. q ∙ ap (λ (b : Bool). Replaces.replacing_number (cond b a (Replacing.refused 16 0))) v);
-      told = subst (λ (y : Answer). ToldApart y.number (drop y.place c.element)) (sym h.answer) (told_in x c);
+      told = told-as c.element q o (told_in x c);
     }
 
 -- ---- the file check beside reading
+check-says : (x : Reading) → (number_of (checked_of x) ≡ reading_number x) × (place_of (checked_of x) ≡ reading_place x)
+check-says (accepted l) = (refl, refl)
+check-says (faulty k p) = (refl, refl)
+check-says (unfit k p) = (refl, refl)
+
+read-says : (x : Reading) → (number_of (Reads.reading_answer x) ≡ reading_number x) × (place_of (Reads.reading_answer x) ≡ reading_place x)
+unfolding Reads.reading_answer
+read-says (accepted l) = (refl, refl)
+read-says (faulty k p) = (refl, refl)
+read-says (unfit k p) = (refl, refl)
+
 pub checked-read : (file : List ℕ) (n : ℕ) (c : Checked) (a : Answer) (m₀ m₁ : Room) → n ≡ room_length m₀ → c ≡ checked_of (read n file) → ReadsInto (read (room_length m₀) file) a m₀ m₁
     → CheckedAndRead file (record { checked = c; answer = a }) m₀ m₁
-unfolding Reads.reading_answer
 checked-read file n c a m₀ m₁ e q h =
     let k : c ≡ checked_of (read (room_length m₀) file) = q ∙ ap (λ (m : ℕ). checked_of (read m file)) e in
+    let d : Reading = read (room_length m₀) file in
+    let number : number_of a ≡ reading_number d = ap number_of h.answer ∙ (read-says d).0 in
+    let place : place_of a ≡ reading_place d = ap place_of h.answer ∙ (read-says d).1 in
     record {
       read = h;
-      number = ap (λ (x : Checked). x.number) k ∙ sym (ap (λ (x : Answer). x.number) h.answer);
-      place = ap (λ (x : Checked). x.place) k ∙ sym (ap (λ (x : Answer). x.place) h.answer);
-      told = subst (λ (x : Answer). ToldApart x.number (drop x.place file)) (sym h.answer) (told-reading (room_length m₀) file);
+      number = ap number_of k ∙ (check-says d).0 ∙ sym number;
+      place = ap place_of k ∙ (check-says d).1 ∙ sym place;
+      told = told-as file number place (told-reading (room_length m₀) file);
     }
 
 -- ---- a Description beside its number
@@ -293,9 +318,11 @@ pub describes : (file : List ℕ) (k : ℕ) (c : Checked) (n : ℕ) → c ≡ ch
     → Describes file k (record { checked = c; length = n })
 unfolding description_part
 describes file k c n e q =
+    let d : Reading = description_asked k file in
+    let number : number_of c ≡ reading_number d = ap number_of e ∙ (check-says d).0 in
     record {
       checked = e;
       bytes = q;
-      none = λ z. q ∙ none-asked k file (description_asked k file) (λ y. z (ap (λ (x : Checked). x.number) e ∙ y));
-      told = subst (λ (x : Checked). ToldApart x.number (drop x.place file)) (sym e) (told-description k file);
+      none = λ z. q ∙ none-asked k file d (λ y. z (number ∙ y));
+      told = told-as file number (ap place_of e ∙ (check-says d).1) (told-description k file);
     }

@@ -9,7 +9,7 @@ use lib.ListN.{length, length-append}
 use borrow.Author.Tests.{lt-ltb, ne_eqb}
 use Rattle.valid.specs.Valid.{every}
 use Rattle.valid.proofs.Elements.{both_true}
-use Rattle.grammar.specs.Parse.{Out, done, fault, cut, Parser, Turn, then_out, ret_p, judge_out, strict_out}
+use Rattle.grammar.specs.Parse.{Out, done, cut, Parser, Turn, then_out, ret_p, judge_out, strict_out}
 use Rattle.grammar.specs.Laws.{nope, loop-again, loop-last}
 use Rattle.grammar.specs.Grammar.{G}
 use Rattle.xml.specs.Bytes.{is_space, is_letter, is_name_byte}

@@ -8,14 +8,14 @@ ghost use Rattle.replacing.specs.Code.{look_of};
 ghost use Rattle.reads_back.specs.Calls as Calls;
 
 use process_list::ProcessList;
-use reading::{Answer, Checked};
-use running::Ran;
-use writing::Written;
+use reading::{Answer, Checked, Refused};
+use running::RunFault;
+use writing::WriteFault;
 
 // What writing answered, and what reading the text answered.
 #[derive(Clone, Copy)]
 pub struct WrittenRead {
-    pub wrote: Written,
+    pub wrote: Result<usize, WriteFault>,
     pub answer: Answer,
 }
 
@@ -33,7 +33,7 @@ pub fn write_and_read(
         (lent new_coefficients.old new_powers.old) (lent new_coefficients.new new_powers.new) }
 {
     let wrote = writing::write(list, coefficients, powers, id, out);
-    let end = wrote.length;
+    let end = wrote.unwrap_or(0);
     let answer = reading::read(tags::part(out, 0, end), new_coefficients, new_powers);
     WrittenRead { wrote, answer }
 }
@@ -52,7 +52,7 @@ pub fn write_reading(
     powers: &[i8],
     id: &[u8],
     out: &mut [u8],
-) -> Written
+) -> Result<usize, WriteFault>
     ensures { Calls.WriteRefuses (look_of list (lent coefficients.now powers.now)) id.now result out.old out.new }
 {
     writing::write(list, coefficients, powers, id, out)
@@ -64,39 +64,48 @@ pub fn run_reading(
     coefficients: &[i64],
     powers: &[i8],
     pixels: &mut [f64],
-) -> Ran
+) -> Result<(), RunFault>
     ensures { Calls.RunRefuses (look_of list (lent coefficients.now powers.now)) result pixels.old pixels.new }
 {
     running::run(list, coefficients, powers, pixels)
 }
 
+// What a replacing call answered, and the list after it.
+#[derive(Clone, Copy)]
+pub struct Replacement {
+    pub answer: Result<(), Refused>,
+    pub list: ProcessList,
+}
+
 // `replacing::replace` likewise.
 pub fn replace_reading(
-    list: ProcessList,
+    mut list: ProcessList,
     coefficients: &mut [i64],
     powers: &mut [i8],
     k: usize,
     element: &[u8],
-) -> Answer
-    ensures { Calls.ReplaceRefuses list (lent coefficients.old powers.old) (plain_call k element.now) result
-        (lent coefficients.new powers.new) }
+) -> Replacement
+    ensures { Calls.ReplaceRefuses list (lent coefficients.old powers.old) (plain_call k element.now) result.answer
+        result.list (lent coefficients.new powers.new) }
 {
-    replacing::replace(list, coefficients, powers, k, element)
+    let answer = replacing::replace(&mut list, coefficients, powers, k, element);
+    Replacement { answer, list }
 }
 
 // `replacing::replace_numbered` likewise.
 pub fn replace_numbered_reading(
-    list: ProcessList,
+    mut list: ProcessList,
     coefficients: &mut [i64],
     powers: &mut [i8],
     k: usize,
     number: u32,
     element: &[u8],
-) -> Answer
-    ensures { Calls.ReplaceRefuses list (lent coefficients.old powers.old) (numbered_call k number element.now) result
-        (lent coefficients.new powers.new) }
+) -> Replacement
+    ensures { Calls.ReplaceRefuses list (lent coefficients.old powers.old) (numbered_call k number element.now) result.answer
+        result.list (lent coefficients.new powers.new) }
 {
-    replacing::replace_numbered(list, coefficients, powers, k, number, element)
+    let answer = replacing::replace_numbered(&mut list, coefficients, powers, k, number, element);
+    Replacement { answer, list }
 }
 
 // What the file check said, and what reading then answered.

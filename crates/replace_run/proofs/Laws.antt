@@ -13,14 +13,14 @@ use lib.Seq.{drop-cons, take-suc-set, drop-set-lt, append_snoc, take_all, take-n
 use Rattle.process_list.specs.declared.ProcessList.{ProcessList}
 use Rattle.process_list.specs.File.{number_limit}
 use Rattle.room.specs.Room.{Room}
-use Rattle.reading.specs.declared.Answer.{Answer}
+use Rattle.reading.specs.Code.{number_of, place_of}
 use Rattle.look.specs.Look.{Look, call_in, look_after}
 use Rattle.look.specs.Replacing.{Numbering, unnumbered, numbered, Call, plain_call, numbered_call}
 use Rattle.look.specs.Replacing as Replacing
-use Rattle.replacing.specs.Code.{CallAnswers, Replaced, look_of}
+use Rattle.replacing.specs.Code.{Outcome, CallAnswers, Replaced, look_of}
 use Rattle.replacing.specs.Code as Replaces
 use Rattle.claims.specs.LookRuns.{look_run}
-use Rattle.replace_run.specs.Runs.{call_part, numbering_of, marked_call, calls_from, CallsRun}
+use Rattle.replace_run.specs.Runs.{call_part, marked_call, calls_from, CallsRun}
 
 -- ---- the bytes of an element
 data Order (m : ℕ) (n : ℕ) : Type 0 where
@@ -80,13 +80,17 @@ pub record Going (x : Look) (cs : Calls) (n₀ p₀ : List ℕ) (y : Look) (ds :
 pub going_start : (x : Look) (cs : Calls) (n p : List ℕ) → Going x cs n p x cs 0 n p
 going_start x cs n p = record { left = refl; numbers = refl; places = refl }
 
-pub look_is : (y : Look) (c : Call) (r : Answer) (m : Room) → CallAnswers y c r m → look_after y c (call_in y c) ≡ look_of r.list m
-unfolding Replaces.replacing_answer
-look_is y c r m h = sym (ap (λ (z : Answer). look_of z.list m) h.answer ∙ ap (look_of (look_after y c (call_in y c)).list) h.room)
+pub look_is : (y : Look) (c : Call) (r : Outcome) (l : ProcessList) (m : Room) → CallAnswers y c r l m → look_after y c (call_in y c) ≡ look_of l m
+look_is y c r l m h = sym (ap (λ (z : ProcessList). look_of z m) h.list ∙ ap (look_of (look_after y c (call_in y c)).list) h.room)
 
-pub number_is : (y : Look) (c : Call) (r : Answer) (m : Room) → CallAnswers y c r m → (Replaces.replacing_number (call_in y c) ≡ r.number) × (Replaces.replacing_place (call_in y c) ≡ r.place)
+told : (a : Replacing.Replacing) → (Replaces.replacing_number a ≡ number_of (Replaces.replacing_answer a)) × (Replaces.replacing_place a ≡ place_of (Replaces.replacing_answer a))
 unfolding Replaces.replacing_answer
-number_is y c r m h = (sym (ap (λ (z : Answer). z.number) h.answer), sym (ap (λ (z : Answer). z.place) h.answer))
+told (Replacing.replaced es) = (refl, refl)
+told (Replacing.refused n p) = (refl, refl)
+
+pub number_is : (y : Look) (c : Call) (r : Outcome) (l : ProcessList) (m : Room) → CallAnswers y c r l m
+    → (Replaces.replacing_number (call_in y c) ≡ number_of r) × (Replaces.replacing_place (call_in y c) ≡ place_of r)
+number_is y c r l m h = let t = told (call_in y c) in (t.0 ∙ ap number_of (sym h.answer), t.1 ∙ ap place_of (sym h.answer))
 
 stored-turn : (f : Replacing.Replacing → ℕ) (x : Look) (cs : Calls) (a₀ : List ℕ) (y : Look) (ds : Calls) (i : ℕ) (a : List ℕ) → Stored f x cs a₀ y ds i a
     → (c : Call) (es : Calls) → ds ≡ c ∷ es → i < length a → (z : Look) → look_after y c (call_in y c) ≡ z → (n : ℕ) → f (call_in y c) ≡ n
@@ -98,15 +102,15 @@ stored-turn f x cs a₀ y ds i a g c es p h z u n v =
     ∙ wrote-turn i n (map f (look_run z es).0) a h
 
 going-turn : (x : Look) (cs : Calls) (n₀ p₀ : List ℕ) (y : Look) (ds : Calls) (i : ℕ) (n p : List ℕ) → Going x cs n₀ p₀ y ds i n p → (c : Call) (es : Calls) → ds ≡ c ∷ es
-    → i < length n → i < length p → (r : Answer) (m : Room) → CallAnswers y c r m
-    → Going x cs n₀ p₀ (look_of r.list m) es (i + 1) (set n i r.number) (set p i r.place)
-going-turn x cs n₀ p₀ y ds i n p g c es q h k r m t =
-    let u : look_after y c (call_in y c) ≡ look_of r.list m = look_is y c r m t in
-    let v = number_is y c r m t in
+    → i < length n → i < length p → (r : Outcome) (l : ProcessList) (m : Room) → CallAnswers y c r l m
+    → Going x cs n₀ p₀ (look_of l m) es (i + 1) (set n i (number_of r)) (set p i (place_of r))
+going-turn x cs n₀ p₀ y ds i n p g c es q h k r l m t =
+    let u : look_after y c (call_in y c) ≡ look_of l m = look_is y c r l m t in
+    let v = number_is y c r l m t in
     record {
-      left = g.left ∙ ap (λ (l : Calls). (look_run y l).1) q ∙ ap (λ (z : Look). (look_run z es).1) u;
-      numbers = stored-turn Replaces.replacing_number x cs n₀ y ds i n g.numbers c es q h (look_of r.list m) u r.number v.0;
-      places = stored-turn Replaces.replacing_place x cs p₀ y ds i p g.places c es q k (look_of r.list m) u r.place v.1;
+      left = g.left ∙ ap (λ (ds : Calls). (look_run y ds).1) q ∙ ap (λ (z : Look). (look_run z es).1) u;
+      numbers = stored-turn Replaces.replacing_number x cs n₀ y ds i n g.numbers c es q h (look_of l m) u (number_of r) v.0;
+      places = stored-turn Replaces.replacing_place x cs p₀ y ds i p g.places c es q k (look_of l m) u (place_of r) v.1;
     }
 
 -- ---- the end of the loop
@@ -131,15 +135,15 @@ going_end x cs n₀ p₀ y ds i n p g e = record {
 }
 
 -- ---- one call, by its mark
-pub marked-numbered : (l : ProcessList) (m₀ : Room) (k mark : ℕ) (e : List ℕ) (r : Answer) (m₁ : Room) → mark < number_limit → Replaced l m₀ (numbered_call k mark e) r m₁
-    → Replaced l m₀ (marked_call k mark e) r m₁
-marked-numbered l m₀ k mark e r m₁ h t =
-    subst (λ (n : Numbering). Replaced l m₀ (record { node = k; numbering = n; element = e }) r m₁) (ap (λ (b : Bool). cond b (numbered mark) unnumbered) (sym (lt-ltb mark number_limit h))) t
+pub marked-numbered : (l : ProcessList) (m₀ : Room) (k mark : ℕ) (e : List ℕ) (r : Outcome) (l₁ : ProcessList) (m₁ : Room) → mark < number_limit → Replaced l m₀ (numbered_call k mark e) r l₁ m₁
+    → Replaced l m₀ (marked_call k mark e) r l₁ m₁
+marked-numbered l m₀ k mark e r l₁ m₁ h t =
+    subst (λ (n : Numbering). Replaced l m₀ (record { node = k; numbering = n; element = e }) r l₁ m₁) (ap (λ (b : Bool). cond b (numbered mark) unnumbered) (sym (lt-ltb mark number_limit h))) t
 
-pub marked-plain : (l : ProcessList) (m₀ : Room) (k mark : ℕ) (e : List ℕ) (r : Answer) (m₁ : Room) → number_limit ≤ mark → Replaced l m₀ (plain_call k e) r m₁
-    → Replaced l m₀ (marked_call k mark e) r m₁
-marked-plain l m₀ k mark e r m₁ h t =
-    subst (λ (n : Numbering). Replaced l m₀ (record { node = k; numbering = n; element = e }) r m₁) (ap (λ (b : Bool). cond b (numbered mark) unnumbered) (sym (le-ltb mark number_limit h))) t
+pub marked-plain : (l : ProcessList) (m₀ : Room) (k mark : ℕ) (e : List ℕ) (r : Outcome) (l₁ : ProcessList) (m₁ : Room) → number_limit ≤ mark → Replaced l m₀ (plain_call k e) r l₁ m₁
+    → Replaced l m₀ (marked_call k mark e) r l₁ m₁
+marked-plain l m₀ k mark e r l₁ m₁ h t =
+    subst (λ (n : Numbering). Replaced l m₀ (record { node = k; numbering = n; element = e }) r l₁ m₁) (ap (λ (b : Bool). cond b (numbered mark) unnumbered) (sym (le-ltb mark number_limit h))) t
 
 -- ---- the calls that are left
 module _ (a i : ℕ) (ks ms bs ns ps s : List ℕ) where
@@ -188,8 +192,8 @@ module _ (a i : ℕ) (ks ms bs ns ps s : List ℕ) where
   -- a turn of the loop, whose call has the bytes e
   pub turn : (x : Look) (cs : Calls) (n₀ p₀ : List ℕ) (l : ProcessList) (m : Room) (n p : List ℕ) → Going x cs n₀ p₀ (look_of l m) calls i n p
       → i < length ks → i < length ms → i < length bs → i < length ns → i < length ps → i < length n → i < length p → (e : List ℕ) → e ≡ call_part s a (get_or bs i 0)
-      → (r : Answer) (m₁ : Room) → Replaced l m (marked_call (get_or ks i 0) (get_or ms i 0) e) r m₁
-      → Going x cs n₀ p₀ (look_of r.list m₁) later (i + 1) (set n i r.number) (set p i r.place)
-  turn x cs n₀ p₀ l m n p g hk hm hb hn hp jn jp e z r m₁ v =
-      going-turn x cs n₀ p₀ (look_of l m) calls i n p g _ _ (next hk hm hb hn hp) jn jp r m₁
-      (subst (λ (b : List ℕ). Replaced l m (marked_call (get_or ks i 0) (get_or ms i 0) b) r m₁) z v)
+      → (r : Outcome) (l₁ : ProcessList) (m₁ : Room) → Replaced l m (marked_call (get_or ks i 0) (get_or ms i 0) e) r l₁ m₁
+      → (t : ℕ × ℕ) → t ≡ (number_of r, place_of r) → Going x cs n₀ p₀ (look_of l₁ m₁) later (i + 1) (set n i t.0) (set p i t.1)
+  turn x cs n₀ p₀ l m n p g hk hm hb hn hp jn jp e z r l₁ m₁ v t q =
+      rw q (going-turn x cs n₀ p₀ (look_of l m) calls i n p g _ _ (next hk hm hb hn hp) jn jp r l₁ m₁
+      (subst (λ (b : List ℕ). Replaced l m (marked_call (get_or ks i 0) (get_or ms i 0) b) r l₁ m₁) z v))

@@ -5,11 +5,11 @@ use mathlib.Core.List.{List, [], ◌∷◌, ◌++◌, map, append_assoc}
 use Prim.Native.Nat.{ℕ, ◌+◌, ◌-◌}
 use native.Mathlib.Omega.{arith}
 use borrow.Author.Tests.{lt-ltb}
-use lib.ListN.{length, take, drop, length-append}
+use lib.ListN.{length, length-append}
 use lib.Seq.{take_at, drop_at}
 use Rattle.process_list.specs.File.{number_limit}
 use Rattle.look.specs.Replacing.{Numbering, unnumbered, numbered, Call}
-use Rattle.replace_run.specs.Runs.{call_part, numbering_of, marked_call, calls_from, Below, AllBelow, Said, EveryRunSaid}
+use Rattle.replace_run.specs.Runs.{call_part, numbering_of, marked_call, calls_from, Below, AllBelow, EveryRunSaid}
 
 -- ---- the slices
 

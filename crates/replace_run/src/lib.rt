@@ -4,11 +4,12 @@
 // files and for the order of arrival are the contracts of the crates above.
 ghost use Rattle.std.specs.Prelude.{◌≡◌};
 ghost use Rattle.room.specs.Room.{lent};
+ghost use Rattle.reading.specs.Code.{number_of, place_of};
 ghost use Rattle.replacing.specs.Code.{look_of, Replaced};
 ghost use Rattle.replace_run.specs.Runs as Runs;
 
 use process_list::ProcessList;
-use reading::Answer;
+use reading::Refused;
 
 // The bytes from a up to b, as far as there are any.
 fn part(s: &[u8], a: usize, b: usize) -> &[u8]
@@ -19,16 +20,26 @@ fn part(s: &[u8], a: usize, b: usize) -> &[u8]
     &s[start..end]
 }
 
+// The number of a call's answer, 0 where it is accepted, and its place.
+fn told(outcome: Result<(), Refused>) -> (u8, usize)
+    ensures { result ≡ (number_of outcome, place_of outcome) }
+{
+    match outcome {
+        Ok(()) => (0, 0),
+        Err(why) => (why.number, why.place),
+    }
+}
+
 // One replacing call: a numbered one if its mark is below 2^32, and else an unnumbered one.
 fn replace_marked(
-    list: ProcessList,
+    list: &mut ProcessList,
     coefficients: &mut [i64],
     powers: &mut [i8],
     k: usize,
     mark: usize,
     element: &[u8],
-) -> Answer
-    ensures { Replaced list (lent coefficients.old powers.old) (Runs.marked_call k mark element.now) result (lent coefficients.new powers.new) }
+) -> Result<(), Refused>
+    ensures { Replaced list.old (lent coefficients.old powers.old) (Runs.marked_call k mark element.now) result list.new (lent coefficients.new powers.new) }
 {
     if mark < process_list::NUMBER_LIMIT {
         return replacing::replace_numbered(list, coefficients, powers, k, mark as u32, element);
@@ -63,17 +74,17 @@ pub fn replace_all(
         .min(places.len());
     for i in 0..calls {
         let end = ends[i];
-        let r = replace_marked(
-            l,
+        let outcome = replace_marked(
+            &mut l,
             coefficients,
             powers,
             ks[i],
             marks[i],
             part(elements, start, end),
         );
-        numbers[i] = r.number;
-        places[i] = r.place;
-        l = r.list;
+        let (number, place) = told(outcome);
+        numbers[i] = number;
+        places[i] = place;
         start = end;
     }
     l

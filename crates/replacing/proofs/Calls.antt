@@ -7,7 +7,7 @@ use native.Mathlib.Omega.{arith}
 use lib.Dec.{ltb, leb}
 use lib.ListN.{length, drop, length-drop, length-map}
 use lib.Seq.{set-get_or}
-use borrow.Author.Tests.{lt-ltb, le-ltb, ltb-true, ltb-false, le-leb, lt-leb, leb-true}
+use borrow.Author.Tests.{lt-ltb, le-ltb, ltb-false, le-leb, lt-leb}
 use Rattle.grammar.specs.Parse.{done}
 use Rattle.grammar.specs.Laws.{nope}
 use Rattle.process_list.specs.declared.Node.{Node}
@@ -19,26 +19,24 @@ use Rattle.process_list.proofs.Files.{kept-at}
 use Rattle.room.specs.Room.{Room, room_length}
 use Rattle.valid.specs.Valid.{is_valid}
 use Rattle.valid.specs.Valid as Valid
-use Rattle.valid.proofs.Elements.{both_true}
-use Rattle.std.specs.Prelude.{Result, Ok, Err}
+use Rattle.std.specs.Prelude.{Ok, Err}
 use Rattle.xml.specs.declared.Stop.{Stop}
 use Rattle.xml.specs.declared.Stop.TheVariants as Stops
 use Rattle.clf.specs.Reading.{most_bytes, place_in, is_numbered}
 use Rattle.node_parts.specs.declared.NodeRead.{NodeRead}
-use Rattle.reading.specs.declared.Answer.{Answer}
 use Rattle.reading.specs.declared.Refused.{Refused}
 use Rattle.reading.specs.Code.{refused_at, refused_stop, judged_length}
 use Rattle.look.specs.Replacing.{element, by_element, replace, Call, plain_call, numbered_call, is_late, call}
 use Rattle.look.specs.Replacing as Replacing
 use Rattle.look.specs.Look.{Look, with_kept, holding, call_in, look_after}
-use Rattle.replacing.specs.Code.{replacing_answer, AnswersWith, look_of, Replaced, ReplacedKeeping, refused_answer, node_refusal}
-use Rattle.replacing.specs.Code.{KeptAt, answer_of, kept_with, OnNode, ElementAlone, ElementJudged, Callable}
+use Rattle.replacing.specs.Code.{replacing_answer, Outcome, AnswersWith, look_of, Replaced, ReplacedKeeping, node_refusal}
+use Rattle.replacing.specs.Code.{KeptAt, kept_with, OnNode, ElementAlone, ElementJudged, Callable}
 
 -- 'Any other refusal changes nothing'
-pub leaves-refused : (l : ProcessList) (m : Room) (c : Call) (a : Replacing.Replacing) (n i : ℕ) → a ≡ Replacing.refused n i → AnswersWith a (look_after (look_of l m) c a) (refused_answer n i l) m
+pub leaves-refused : (l : ProcessList) (m : Room) (c : Call) (a : Replacing.Replacing) (n i : ℕ) → a ≡ Replacing.refused n i → AnswersWith a (look_after (look_of l m) c a) (refused_at n i) l m
 unfolding replacing_answer
 leaves-refused l m c a n i e =
-    subst (λ (b : Replacing.Replacing). AnswersWith b (look_after (look_of l m) c b) (refused_answer n i l) m) (sym e) (record { answer = refl; room = refl })
+    subst (λ (b : Replacing.Replacing). AnswersWith b (look_after (look_of l m) c b) (refused_at n i) l m) (sym e) (record { answer = refl; list = refl; room = refl })
 
 -- ---- 16, 19
 
@@ -103,7 +101,7 @@ module _ (l : ProcessList) (m : Room) where
     said-is = ap (λ (n : ℕ). said (is_valid l m) Y (is_numbered c.node n) G) elements-length
 
     -- one that is refused before its number and its element are looked at
-    pub call-refused : (why : Refused) → KeptAt l m c.node (Err why) → Replaced l m c (answer_of l (Err why)) m
+    pub call-refused : (why : Refused) → KeptAt l m c.node (Err why) → Replaced l m c (Err why) l m
     unfolding node_refusal
     call-refused why h = rw h.0 (leaves-refused l m c (call_in x c) R 0 (said-is ∙ by R h.1 (is_valid l m) Y N refl))
       where
@@ -148,7 +146,7 @@ module _ (l : ProcessList) (m : Room) where
 
     -- ---- 28, 'late exactly if that is not larger'
 
-    pub call-late : (n : ℕ) → n ≤ kept_with l k → Replaced l m (numbered_call k n e) (refused_answer 28 0 l) m
+    pub call-late : (n : ℕ) → n ≤ kept_with l k → Replaced l m (numbered_call k n e) (refused_at 28 0) l m
     call-late n h =
         let c : Call = numbered_call k n e in
         leaves-refused l m c (call_in x c) 28 0 (said-on c refl ∙ ap (λ (y : Bool). said c true y true (G c)) (le-leb n (kept_with l k) h))
@@ -159,25 +157,25 @@ module _ (l : ProcessList) (m : Room) where
         let c : Call = numbered_call k n e in
         said-on (plain_call k e) refl ∙ sym (said-on c refl ∙ ap (λ (y : Bool). said c true y true (G c)) (lt-leb n (kept_with l k) h))
 
-    pub call-newer : (n : ℕ) → kept_with l k < n → (r : Answer) (m₁ : Room) → ReplacedKeeping n l m k e r m₁ → Replaced l m (numbered_call k n e) r m₁
-    call-newer n h r m₁ t = subst (λ (a : Replacing.Replacing). AnswersWith a (look_after x (numbered_call k n e) a) r m₁) (newer n h) t
+    pub call-newer : (n : ℕ) → kept_with l k < n → (r : Outcome) (l₁ : ProcessList) (m₁ : Room) → ReplacedKeeping n l m k e r l₁ m₁ → Replaced l m (numbered_call k n e) r l₁ m₁
+    call-newer n h r l₁ m₁ t = subst (λ (a : Replacing.Replacing). AnswersWith a (look_after x (numbered_call k n e) a) r l₁ m₁) (newer n h) t
 
     -- 'Unnumbered replacing leaves the kept number'
     stays : (a : Replacing.Replacing) → look_after x (numbered_call k (kept_with l k) e) a ≡ look_after x (plain_call k e) a
     stays (Replacing.replaced new) = ap (λ (ks : List ℕ). with_kept ks (holding x new)) (set-get_or (kept_numbers l) (k - 1) 0)
     stays (Replacing.refused n p) = refl
 
-    pub call-plain : (w : ℕ) → w ≡ kept_with l k → (r : Answer) (m₁ : Room) → ReplacedKeeping w l m k e r m₁ → Replaced l m (plain_call k e) r m₁
-    call-plain w q r m₁ t =
-        subst (λ (y : Look). AnswersWith (call_in x (plain_call k e)) y r m₁)
+    pub call-plain : (w : ℕ) → w ≡ kept_with l k → (r : Outcome) (l₁ : ProcessList) (m₁ : Room) → ReplacedKeeping w l m k e r l₁ m₁ → Replaced l m (plain_call k e) r l₁ m₁
+    call-plain w q r l₁ m₁ t =
+        subst (λ (y : Look). AnswersWith (call_in x (plain_call k e)) y r l₁ m₁)
         (ap (λ (v : ℕ). look_after x (numbered_call k v e) (call_in x (plain_call k e))) q ∙ stays (call_in x (plain_call k e))) t
 
     -- ---- 4
 
-    pub call-large : (w : ℕ) (why : Refused) → judged_length (length e) ≡ Err why → ReplacedKeeping w l m k e (answer_of l (Err why)) m
+    pub call-large : (w : ℕ) (why : Refused) → judged_length (length e) ≡ Err why → ReplacedKeeping w l m k e (Err why) l m
     call-large w why q = by (ltb most_bytes (length e)) refl q
       where
-        by : (b : Bool) → ltb most_bytes (length e) ≡ b → cond b (refused_at {A = Unit {0}} 4 0) (Ok (tt {0})) ≡ Err why → ReplacedKeeping w l m k e (answer_of l (Err why)) m
+        by : (b : Bool) → ltb most_bytes (length e) ≡ b → cond b (refused_at {A = Unit {0}} 4 0) (Ok (tt {0})) ≡ Err why → ReplacedKeeping w l m k e (Err why) l m
         by true h q =
             let c : Call = plain_call k e in
             let z : why ≡ record { number = 4; place = 0 } = cc in
@@ -200,7 +198,7 @@ module _ (l : ProcessList) (m : Room) where
 
     -- ---- the element's own fault
 
-    pub call-judged : (w : ℕ) → Callable l m k e → (why : Refused) → ElementJudged e (Err why) → ReplacedKeeping w l m k e (answer_of l (Err why)) m
+    pub call-judged : (w : ℕ) → Callable l m k e → (why : Refused) → ElementJudged e (Err why) → ReplacedKeeping w l m k e (Err why) l m
     call-judged w h why j = leaves-refused l m (numbered_call k w e) (call_in x (plain_call k e)) why.number why.place (by-element h ∙ j room es k)
 
 -- ---- the element by its reading

@@ -32,10 +32,11 @@ use Rattle.xml.specs.Code.{scan_out}
 use Rattle.node_parts.specs.declared.NodeRead.{NodeRead}
 use Rattle.values.specs.Code.{room_after}
 use Rattle.node_parts.specs.Code.{end_of, NodeReads}
+use Rattle.reading.specs.Code.{refused_at}
 use Rattle.look.specs.Replacing.{element, by_element, replacing_by, listed, plain_call, numbered_call}
 use Rattle.look.specs.Replacing as Replacing
 use Rattle.look.specs.Look.{Look, holding, call_in, look_after}
-use Rattle.replacing.specs.Code.{replacing_answer, AnswersWith, look_of, ReplacedKeeping, refused_answer, made_way, answer_of, Stores, Fits}
+use Rattle.replacing.specs.Code.{replacing_answer, AnswersWith, look_of, ReplacedKeeping, made_way, Stores, Fits}
 use Rattle.replacing.proofs.Calls.{leaves-refused, elements-length, by-element}
 
 -- ---- nodes of elements
@@ -120,7 +121,7 @@ module _ (w : ℕ) (l : ProcessList) (m₀ : Room) (k : ℕ) (node : Node) (e : 
   unfolding listed
   answer-is = by-element l m₀ k e f.callable ∙ ap (by_element room es k e) f.element.out
 
-  node-refused : (why : Unfit) → Err why ≡ judged room (nodes_of next) → ReplacedKeeping w l m₀ k e (refused_answer (unfit_number why) (unfit_place why) l) m₀
+  node-refused : (why : Unfit) → Err why ≡ judged room (nodes_of next) → ReplacedKeeping w l m₀ k e (refused_at (unfit_number why) (unfit_place why)) l m₀
   node-refused why q =
       leaves-refused l m₀ (numbered_call k w e) (call_in x (plain_call k e)) (unfit_number why) (unfit_place why) (answer-is ∙ ap (replacing_by new) (sym (q ∙ verdict-is)))
 
@@ -190,16 +191,16 @@ module _ (w : ℕ) (l : ProcessList) (m₀ : Room) (k : ℕ) (node : Node) (e : 
           ∙ room-done e (node_at l i).at h.reads.value.numbers h.reads.value f.element.value (end_of h.step) [] (made_way l i node m₀) (h.reads.out ∙ f.element.out)
           ∙ ap (λ (xs : List Decimal). laid_in (node_at l i).at xs (made_way l i node m₀)) numbers-are
 
-      held : AnswersWith (Replacing.replaced new) (look_after x (numbered_call k w e) (Replacing.replaced new)) (record { number = 0; place = 0; list = placed_list next }) m₁
+      held : AnswersWith (Replacing.replaced new) (look_after x (numbered_call k w e) (Replacing.replaced new)) (Ok tt) (placed_list next) m₁
       unfolding replacing_answer holding
-      held = record { answer = ap (λ (a : ProcessList). record { number = 0; place = 0; list = a }) list-is; room = room-is m₁ laid_as }
+      held = record { answer = refl; list = list-is; room = room-is m₁ laid_as }
 
   node-replaced : Ok tt ≡ judged room (nodes_of next) → (m₁ : Room) → Stores l i node e m₀ m₁ → (r : ProcessList) → r ≡ placed_list next
-      → ReplacedKeeping w l m₀ k e (answer_of l (Ok r)) m₁
+      → ReplacedKeeping w l m₀ k e (Ok tt) r m₁
   node-replaced q m₁ h r t =
       let a : verdict room new ≡ Ok tt = sym (q ∙ verdict-is) in
       let b : call_in x (plain_call k e) ≡ Replacing.replaced new = answer-is ∙ ap (replacing_by new) a in
-      rw t (subst (λ (y : Replacing.Replacing). AnswersWith y (look_after x (numbered_call k w e) y) (record { number = 0; place = 0; list = placed_list next }) m₁) (sym b) (held a m₁ h))
+      rw t (subst (λ (y : Replacing.Replacing). AnswersWith y (look_after x (numbered_call k w e) y) (Ok tt) (placed_list next) m₁) (sym b) (held a m₁ h))
 
 -- ---- as the code goes
 
@@ -219,8 +220,8 @@ module _ (w : ℕ) (l : ProcessList) (m₀ : Room) (k : ℕ) (node : Node) (e : 
   judged-so : (v : Verdict) → v ≡ judged n (nodes_of l₁) → v ≡ judged (room_length m₀) (nodes_of (replaced_at l (k - 1) (with_newest w node)))
   judged-so v qv = qv ∙ ap (λ (m : ℕ). judged m (nodes_of l₁)) qn ∙ ap (λ (a : ProcessList). judged (room_length m₀) (nodes_of a)) next-so
 
-  pub code-refused : (why : Unfit) → Err why ≡ judged n (nodes_of l₁) → ReplacedKeeping w l m₀ k e (refused_answer (unfit_number why) (unfit_place why) l) m₀
+  pub code-refused : (why : Unfit) → Err why ≡ judged n (nodes_of l₁) → ReplacedKeeping w l m₀ k e (refused_at (unfit_number why) (unfit_place why)) l m₀
   code-refused why q = node-refused w l m₀ k node e f why (judged-so (Err why) q)
 
-  pub code-replaced : Ok tt ≡ judged n (nodes_of l₁) → (m₁ : Room) → Stores l (k - 1) node e m₀ m₁ → (r : ProcessList) → r ≡ placed_list l₁ → ReplacedKeeping w l m₀ k e (answer_of l (Ok r)) m₁
+  pub code-replaced : Ok tt ≡ judged n (nodes_of l₁) → (m₁ : Room) → Stores l (k - 1) node e m₀ m₁ → (r : ProcessList) → r ≡ placed_list l₁ → ReplacedKeeping w l m₀ k e (Ok tt) r m₁
   code-replaced q m₁ h r t = node-replaced w l m₀ k node e f (judged-so (Ok tt) q) m₁ h r (t ∙ ap placed_list next-so)

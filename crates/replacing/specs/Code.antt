@@ -12,7 +12,6 @@ use Rattle.xml.specs.declared.Stop.{Stop}
 use Rattle.clf.specs.Reading.{most_bytes, is_numbered}
 use Rattle.node_parts.specs.declared.NodeRead.{NodeRead}
 use Rattle.node_parts.specs.Code.{NodeReads}
-use Rattle.reading.specs.declared.Answer.{Answer}
 use Rattle.reading.specs.declared.Refused.{Refused}
 use Rattle.look.specs.Replacing.{element, by_element, Call, plain_call, numbered_call, kept_at}
 use Rattle.look.specs.Replacing as Replacing
@@ -30,30 +29,32 @@ abbrev pub replacing_place : Replacing.Replacing → ℕ
 replacing_place (Replacing.replaced es) = 0
 replacing_place (Replacing.refused n p) = p
 
--- and the list of the look y that the call leaves
-unfoldable pub replacing_answer : Replacing.Replacing → Look → Answer
-replacing_answer a y = record { number = replacing_number a; place = replacing_place a; list = y.list }
+-- why the code refuses it, if it does
+abbrev pub Outcome : Type 0
+Outcome = Result (Unit {0}) Refused
 
--- the answer r of a call that answers a and leaves the look y, and the whole room after it
-pub record AnswersWith (a : Replacing.Replacing) (y : Look) (r : Answer) (m₁ : Room) : Type 0 where
-  pub answer : r ≡ replacing_answer a y
+unfoldable pub replacing_answer : Replacing.Replacing → Outcome
+replacing_answer (Replacing.replaced es) = Ok tt
+replacing_answer (Replacing.refused n p) = Err (record { number = n; place = p })
+
+-- the answer r of a call that answers a and leaves the look y, and the list and the whole room after it
+pub record AnswersWith (a : Replacing.Replacing) (y : Look) (r : Outcome) (l₁ : ProcessList) (m₁ : Room) : Type 0 where
+  pub answer : r ≡ replacing_answer a
+  pub list : l₁ ≡ y.list
   pub room : m₁ ≡ y.room
 
 abbrev pub look_of : ProcessList → Room → Look
 look_of l m = record { list = l; room = m }
 
 -- the call c on the look x
-abbrev pub CallAnswers : Look → Call → Answer → Room → Type 0
-CallAnswers x c r m₁ = AnswersWith (call_in x c) (look_after x c (call_in x c)) r m₁
+abbrev pub CallAnswers : Look → Call → Outcome → ProcessList → Room → Type 0
+CallAnswers x c r l₁ m₁ = AnswersWith (call_in x c) (look_after x c (call_in x c)) r l₁ m₁
 
 -- the call c on this list and this room
-abbrev pub Replaced : ProcessList → Room → Call → Answer → Room → Type 0
-Replaced l m₀ c r m₁ = CallAnswers (look_of l m₀) c r m₁
+abbrev pub Replaced : ProcessList → Room → Call → Outcome → ProcessList → Room → Type 0
+Replaced l m₀ c r l₁ m₁ = CallAnswers (look_of l m₀) c r l₁ m₁
 
 -- ---- what the small steps of the code do
-
-abbrev pub refused_answer : ℕ → ℕ → ProcessList → Answer
-refused_answer n p l = record { number = n; place = p; list = l }
 
 -- '16, 19', of node k; 0 where neither is given
 unfoldable pub node_refusal : Bool → ℕ → ℕ → ℕ
@@ -80,14 +81,10 @@ KeptAt l m k (Ok n) = OnNode l m k × (n ≡ kept_with l k)
 KeptAt l m k (Err why) =
     (why ≡ record { number = node_refusal (is_valid l m) (length (Lists.nodes_of l)) k; place = 0 }) × (node_refusal (is_valid l m) (length (Lists.nodes_of l)) k ≡ 0 → ⊥)
 
--- the answer of a call on this list
-abbrev pub answer_of : ProcessList → Result ProcessList Refused → Answer
-answer_of l (Ok next) = record { number = 0; place = 0; list = next }
-answer_of l (Err why) = refused_answer why.number why.place l
-
 -- a call that answers as an unnumbered one does, and leaves the number w with node k if it is accepted
-abbrev pub ReplacedKeeping : ℕ → ProcessList → Room → ℕ → List ℕ → Answer → Room → Type 0
-ReplacedKeeping w l m₀ k e r m₁ = AnswersWith (call_in (look_of l m₀) (plain_call k e)) (look_after (look_of l m₀) (numbered_call k w e) (call_in (look_of l m₀) (plain_call k e))) r m₁
+abbrev pub ReplacedKeeping : ℕ → ProcessList → Room → ℕ → List ℕ → Outcome → ProcessList → Room → Type 0
+ReplacedKeeping w l m₀ k e r l₁ m₁ =
+    AnswersWith (call_in (look_of l m₀) (plain_call k e)) (look_after (look_of l m₀) (numbered_call k w e) (call_in (look_of l m₀) (plain_call k e))) r l₁ m₁
 
 -- an element read without room: some room of one number was lent
 pub record ElementAlone (s : List ℕ) (r : Result NodeRead Stop) : Type 0 where

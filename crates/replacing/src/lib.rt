@@ -10,26 +10,8 @@ ghost use Rattle.replacing.specs.Code as Code;
 
 use node_parts::NodeRead;
 use process_list::{Node, ProcessList};
-use reading::{Answer, Refused};
+use reading::Refused;
 use xml::Stop;
-
-// The answer of a call on this list, which stays what it is where the call is refused.
-fn answer(list: ProcessList, replaced: Result<ProcessList, Refused>) -> Answer
-    ensures { result ≡ Code.answer_of list replaced }
-{
-    match replaced {
-        Ok(next) => Answer {
-            number: 0,
-            place: 0,
-            list: next,
-        },
-        Err(why) => Answer {
-            number: why.number,
-            place: why.place,
-            list,
-        },
-    }
-}
 
 // The number kept with node k, from 1; 16, then 19.
 fn kept_at(list: ProcessList, coefficients: &[i64], powers: &[i8], k: usize) -> Result<u32, Refused>
@@ -100,70 +82,71 @@ fn store_element(
 
 // The element, which has this node and no fault, in the place of node k, from 1, with this number kept where it is accepted: 10, 23 or 13, or it is there.
 fn replace_node(
-    list: ProcessList,
+    list: &mut ProcessList,
     coefficients: &mut [i64],
     powers: &mut [i8],
     k: usize,
     kept: u32,
     node: Node,
     element: &[u8],
-) -> Result<ProcessList, Refused>
-    requires { Code.Fits list (lent coefficients.old powers.old) k node element.now }
-    ensures { Code.ReplacedKeeping kept list (lent coefficients.old powers.old) k element.now (Code.answer_of list result) (lent coefficients.new powers.new) }
+) -> Result<(), Refused>
+    requires { Code.Fits list.old (lent coefficients.old powers.old) k node element.now }
+    ensures { Code.ReplacedKeeping kept list.old (lent coefficients.old powers.old) k element.now result list.new (lent coefficients.new powers.new) }
 {
     let i = k - 1;
     let numbered = process_list::with_newest(kept, node);
-    let next = process_list::replaced(list, i, numbered);
+    let next = process_list::replaced(*list, i, numbered);
     let room = room::length(coefficients, powers);
     process_list::judge(false, next, room)?;
-    store_element(list, coefficients, powers, i, node, element);
-    Ok(process_list::placed(next))
+    store_element(*list, coefficients, powers, i, node, element);
+    *list = process_list::placed(next);
+    Ok(())
 }
 
-// What is left behind 16, 19 and 28: 4, then the element's own fault, then the list with it, with this number kept where it is accepted.
+// What is left behind 16, 19 and 28: 4, then the element's own fault, then the element in its place, with this number kept where it is accepted.
 fn replace_there(
-    list: ProcessList,
+    list: &mut ProcessList,
     coefficients: &mut [i64],
     powers: &mut [i8],
     k: usize,
     kept: u32,
     element: &[u8],
-) -> Result<ProcessList, Refused>
-    requires { Code.OnNode list (lent coefficients.old powers.old) k }
-    ensures { Code.ReplacedKeeping kept list (lent coefficients.old powers.old) k element.now (Code.answer_of list result) (lent coefficients.new powers.new) }
+) -> Result<(), Refused>
+    requires { Code.OnNode list.old (lent coefficients.old powers.old) k }
+    ensures { Code.ReplacedKeeping kept list.old (lent coefficients.old powers.old) k element.now result list.new (lent coefficients.new powers.new) }
 {
     reading::judge_length(element)?;
     let node = judge_element(element)?;
     replace_node(list, coefficients, powers, k, kept, node, element)
 }
 
-// The list with the element in the place of node k, from 1.
-fn replaced(
-    list: ProcessList,
+// Puts the element in the place of node k, from 1, in list and room; the number kept with the node stays. Refused, nothing changes.
+pub fn replace(
+    list: &mut ProcessList,
     coefficients: &mut [i64],
     powers: &mut [i8],
     k: usize,
     element: &[u8],
-) -> Result<ProcessList, Refused>
-    ensures { Code.Replaced list (lent coefficients.old powers.old) (plain_call k element.now) (Code.answer_of list result) (lent coefficients.new powers.new) }
+) -> Result<(), Refused>
+    ensures { Code.Replaced list.old (lent coefficients.old powers.old) (plain_call k element.now) result list.new (lent coefficients.new powers.new) }
 {
-    let kept = kept_at(list, coefficients, powers, k)?;
+    let kept = kept_at(*list, coefficients, powers, k)?;
     replace_there(list, coefficients, powers, k, kept, element)
 }
 
-// The same for a numbered replacement.
-fn replaced_numbered(
-    list: ProcessList,
+// The same for a numbered replacement: 28 where its number is not larger than the one kept with the node; accepted, its number is kept.
+pub fn replace_numbered(
+    list: &mut ProcessList,
     coefficients: &mut [i64],
     powers: &mut [i8],
     k: usize,
     number: u32,
     element: &[u8],
-) -> Result<ProcessList, Refused>
-    ensures { Code.Replaced list (lent coefficients.old powers.old) (numbered_call k number element.now) (Code.answer_of list result)
+) -> Result<(), Refused>
+    ensures { Code.Replaced list.old (lent coefficients.old powers.old) (numbered_call k number element.now) result list.new
         (lent coefficients.new powers.new) }
 {
-    let kept = kept_at(list, coefficients, powers, k)?;
+    let kept = kept_at(*list, coefficients, powers, k)?;
     if number <= kept {
         return Err(Refused {
             number: refusals::LATE,
@@ -171,35 +154,4 @@ fn replaced_numbered(
         });
     }
     replace_there(list, coefficients, powers, k, number, element)
-}
-
-// Puts the element in the place of node k, from 1, in list and room; the number kept with the node stays. Refused, nothing changes, and the answer has the list as it was given.
-pub fn replace(
-    list: ProcessList,
-    coefficients: &mut [i64],
-    powers: &mut [i8],
-    k: usize,
-    element: &[u8],
-) -> Answer
-    ensures { Code.Replaced list (lent coefficients.old powers.old) (plain_call k element.now) result (lent coefficients.new powers.new) }
-{
-    answer(list, replaced(list, coefficients, powers, k, element))
-}
-
-// The same for a numbered replacement: 28 where its number is not larger than the one kept with the node; accepted, its number is kept.
-pub fn replace_numbered(
-    list: ProcessList,
-    coefficients: &mut [i64],
-    powers: &mut [i8],
-    k: usize,
-    number: u32,
-    element: &[u8],
-) -> Answer
-    ensures { Code.Replaced list (lent coefficients.old powers.old) (numbered_call k number element.now) result
-        (lent coefficients.new powers.new) }
-{
-    answer(
-        list,
-        replaced_numbered(list, coefficients, powers, k, number, element),
-    )
 }

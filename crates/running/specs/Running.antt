@@ -1,5 +1,5 @@
 -- Running pixels through a list (document 01, 'What a pixel goes through', and 'Running: 16, 14, 15 (lowest index)'). Definitions only.
-use Rattle.std.specs.Prelude.{Bool, true, not, cond, ◌≡◌, List, [], ◌∷◌, ◌++◌, ℕ, ◌%◌, eqb, ltb, length, Float}
+use Rattle.std.specs.Prelude.{Bool, true, not, cond, ◌≡◌, List, [], ◌∷◌, ◌++◌, ℕ, ◌%◌, eqb, ltb, length, Float, Result, Ok, Err}
 use Rattle.process_list.specs.declared.RangeEnd.{RangeEnd}
 use Rattle.process_list.specs.declared.Kind.{Kind}
 use Rattle.process_list.specs.declared.Kind.TheVariants.{Matrix, Lut1d, Range, Cdl, Lut3d, OneEnd}
@@ -18,7 +18,8 @@ use Rattle.room.specs.Room.{Room, room_length}
 use Rattle.pixel_run.specs.Step.{step_pixel}
 use Rattle.pixel_run.specs.Each.{each_pixel, EachInside}
 use Rattle.pixel_run.specs.Finite.{first_not_finite}
-use Rattle.running.specs.declared.Ran.{Ran}
+use Rattle.running.specs.declared.RunFault.{RunFault}
+use Rattle.running.specs.declared.RunFault.TheVariants.{NoReading, NotThrees, NotFinite}
 use Rattle.refusals.specs.Refusals as Refusal
 
 -- ---- one node
@@ -93,21 +94,42 @@ not_threes xs = not (eqb (length xs % 3) 0)
 unfoldable pub not_finite : List Float → Bool
 not_finite xs = ltb (first_not_finite xs) (length xs)
 
--- a refusal number and its place
-abbrev pub ran : ℕ → ℕ → Ran
-ran number place = record { number = number; place = place }
+-- what running answers: that the pixels have been run, or why they have not
+abbrev pub Ran : Type 0
+Ran = Result (Unit {0}) RunFault
 
--- 'Running: 16, 14, 15 (lowest index)', and 0 is accepted; 'The place .. of 15, the index; .. of 0, 4, 14 and 16 to 19, 0'
+-- the refusal number of each
+abbrev pub fault_number : RunFault → ℕ
+fault_number NoReading = Refusal.no_reading
+fault_number NotThrees = Refusal.not_threes
+fault_number (NotFinite index) = Refusal.not_finite
+
+-- 0 is accepted
+abbrev pub ran_number : Ran → ℕ
+ran_number (Ok u) = 0
+ran_number (Err f) = fault_number f
+
+-- 'The place .. of 15, the index; .. of 0, 4, 14 and 16 to 19, 0'
+abbrev pub fault_place : RunFault → ℕ
+fault_place NoReading = 0
+fault_place NotThrees = 0
+fault_place (NotFinite index) = index
+
+abbrev pub ran_place : Ran → ℕ
+ran_place (Ok u) = 0
+ran_place (Err f) = fault_place f
+
+-- 'Running: 16, 14, 15 (lowest index)'
 unfoldable pub ran_of : ProcessList → Room → List Float → Ran
 ran_of list m xs =
-    cond (not (is_valid list m)) (ran Refusal.no_reading 0)
-    (cond (not_threes xs) (ran Refusal.not_threes 0)
-    (cond (not_finite xs) (ran Refusal.not_finite (first_not_finite xs))
-    (ran 0 0)))
+    cond (not (is_valid list m)) (Err NoReading)
+    (cond (not_threes xs) (Err NotThrees)
+    (cond (not_finite xs) (Err (NotFinite (first_not_finite xs)))
+    (Ok tt)))
 
 -- the slice afterwards: 'overwritten' by what the nodes make of it; 'Any other refusal changes nothing'
 unfoldable pub pixels_of : ProcessList → Room → List Float → List Float
 pixels_of list m xs =
-    cond (eqb (ran_of list m xs).number 0)
+    cond (eqb (ran_number (ran_of list m xs)) 0)
     (run_nodes m (nodes_of list) xs)
     xs

@@ -1,9 +1,8 @@
 -- Laws of running: nodes in two parts, the length, and what each way out of a call comes to. Assumes nothing.
-use Rattle.std.specs.Prelude.{◌≡◌, true, false, ℕ, length, Float}
+use Rattle.std.specs.Prelude.{◌≡◌, true, false, length, Float, Ok, Err}
 use Rattle.std.proofs.Math.Path.{refl}
 use Rattle.std.proofs.Common.{◌∙◌}
 use mathlib.Core.List.{List, [], ◌∷◌, ◌++◌}
-use borrow.Author.Tests.{ne_eqb}
 use Rattle.process_list.specs.declared.Node.{Node}
 use Rattle.process_list.specs.declared.ProcessList.{ProcessList}
 use Rattle.process_list.specs.List.{nodes_of}
@@ -11,7 +10,9 @@ use Rattle.room.specs.Room.{Room}
 use Rattle.valid.specs.Valid.{is_valid}
 use Rattle.pixel_run.specs.Finite.{first_not_finite}
 use Rattle.pixel_run.specs.EachLaws.{each-length}
-use Rattle.running.specs.Running.{run_node, run_nodes, not_threes, not_finite, ran, ran_of, pixels_of}
+use Rattle.running.specs.declared.RunFault.{RunFault}
+use Rattle.running.specs.declared.RunFault.TheVariants.{NoReading, NotThrees, NotFinite}
+use Rattle.running.specs.Running.{run_node, run_nodes, not_threes, not_finite, ran_of, pixels_of}
 
 module _ (m : Room) where
   -- the nodes of one part, then those of the other
@@ -31,33 +32,35 @@ module _ (m : Room) where
 
 -- ---- the answer and the slice in each case
 module _ (list : ProcessList) (m : Room) where
-  pub ran-invalid : (xs : List Float) → is_valid list m ≡ false → ran_of list m xs ≡ ran 16 0
+  pub ran-invalid : (xs : List Float) → is_valid list m ≡ false → ran_of list m xs ≡ Err NoReading
   unfolding ran_of
   ran-invalid xs h = simp h
 
   module _ (v : is_valid list m ≡ true) where
-    pub ran-not-threes : (xs : List Float) → not_threes xs ≡ true → ran_of list m xs ≡ ran 14 0
+    pub ran-not-threes : (xs : List Float) → not_threes xs ≡ true → ran_of list m xs ≡ Err NotThrees
     unfolding ran_of
     ran-not-threes xs h = simp (v, h)
 
-    pub ran-not-finite : (xs : List Float) → not_threes xs ≡ false → not_finite xs ≡ true → ran_of list m xs ≡ ran 15 (first_not_finite xs)
+    pub ran-not-finite : (xs : List Float) → not_threes xs ≡ false → not_finite xs ≡ true → ran_of list m xs ≡ Err (NotFinite (first_not_finite xs))
     unfolding ran_of
     ran-not-finite xs h k = simp (v, h, k)
 
-    pub ran-accepted : (xs : List Float) → not_threes xs ≡ false → not_finite xs ≡ false → ran_of list m xs ≡ ran 0 0
+    pub ran-accepted : (xs : List Float) → not_threes xs ≡ false → not_finite xs ≡ false → ran_of list m xs ≡ Ok tt
     unfolding ran_of
     ran-accepted xs h k = simp (v, h, k)
 
     -- 'an empty slice is accepted'
-    pub empty-accepted : ran_of list m [] ≡ ran 0 0
+    pub empty-accepted : ran_of list m [] ≡ Ok tt
     unfolding not_threes not_finite first_not_finite
     empty-accepted = ran-accepted [] refl refl
 
-  pub pixels-accepted : (xs : List Float) → ran_of list m xs ≡ ran 0 0 → pixels_of list m xs ≡ run_nodes m (nodes_of list) xs
+  pub pixels-accepted : (xs : List Float) → ran_of list m xs ≡ Ok tt → pixels_of list m xs ≡ run_nodes m (nodes_of list) xs
   unfolding pixels_of
   pixels-accepted xs h = simp h
 
   -- refused, nothing changes
-  pub pixels-refused : (xs : List Float) (number place : ℕ) → (number ≡ 0 → ⊥) → ran_of list m xs ≡ ran number place → pixels_of list m xs ≡ xs
+  pub pixels-refused : (xs : List Float) (f : RunFault) → ran_of list m xs ≡ Err f → pixels_of list m xs ≡ xs
   unfolding pixels_of
-  pixels-refused xs number place k h = simp (h, ne_eqb number 0 k)
+  pixels-refused xs NoReading h = simp h
+  pixels-refused xs NotThrees h = simp h
+  pixels-refused xs (NotFinite index) h = simp h

@@ -1,7 +1,7 @@
 #![tactic(auto)]
 
 // Running pixels through a list (document 01, 'What a pixel goes through'): refusals 16, 14 and 15, then every node over the lent slice.
-ghost use Rattle.std.specs.Prelude.{◌≡◌, true};
+ghost use Rattle.std.specs.Prelude.{◌≡◌, true, Ok};
 ghost use Rattle.process_list.specs.List as List;
 ghost use Rattle.room.specs.Room.{lent};
 ghost use Rattle.running.specs.Running as Spec;
@@ -9,11 +9,36 @@ ghost use Rattle.running.specs.Running as Spec;
 use pixel_run::Prepared;
 use process_list::{Kind, Node, ProcessList};
 
-// What running answers: a refusal number, 0 for accepted, and its place.
-#[derive(Clone, Copy)]
-pub struct Ran {
-    pub number: u8,
-    pub place: usize,
+// Why pixels are not run: list and room are no reading, the slice is no multiple of three, or the component at this index is NaN or infinite.
+#[derive(Clone, Copy, Debug, PartialEq, Eq)]
+pub enum RunFault {
+    NoReading,
+    NotThrees,
+    NotFinite(usize),
+}
+
+impl RunFault {
+    // The refusal number.
+    pub fn number(self) -> u8
+        ensures { result ≡ Spec.fault_number self }
+    {
+        match self {
+            RunFault::NoReading => refusals::NO_READING,
+            RunFault::NotThrees => refusals::NOT_THREES,
+            RunFault::NotFinite(_) => refusals::NOT_FINITE,
+        }
+    }
+
+    // The place: the index of a component, or 0.
+    pub fn place(self) -> usize
+        ensures { result ≡ Spec.fault_place self }
+    {
+        match self {
+            RunFault::NoReading => 0,
+            RunFault::NotThrees => 0,
+            RunFault::NotFinite(index) => index,
+        }
+    }
 }
 
 // A node of this kind whose numbers stand in the room from at on, prepared.
@@ -83,34 +108,27 @@ fn run_all(list: ProcessList, coefficients: &[i64], powers: &[i8], pixels: &mut 
 
 // Runs the pixels of the slice, three components a pixel, through the list; refused, nothing changes. Where it is accepted, the table of every LUT1D and LUT3D
 // stands in the room; and where the last node is a Range with one end, nothing that comes out is beyond its limit, or a NaN.
-pub fn run(list: ProcessList, coefficients: &[i64], powers: &[i8], pixels: &mut [f64]) -> Ran
+pub fn run(
+    list: ProcessList,
+    coefficients: &[i64],
+    powers: &[i8],
+    pixels: &mut [f64],
+) -> Result<(), RunFault>
     ensures value { result ≡ Spec.ran_of list (lent coefficients.now powers.now) pixels.old }
     ensures pixels_after { pixels.new ≡ Spec.pixels_of list (lent coefficients.now powers.now) pixels.old }
-    ensures list_value { result.number ≡ 0 → Spec.tables_stand (lent coefficients.now powers.now) (List.nodes_of list) ≡ true }
-    ensures last_end_holds { result.number ≡ 0 → Spec.LastEndHolds (lent coefficients.now powers.now) (List.nodes_of list) pixels.new }
+    ensures list_value { result ≡ Ok tt → Spec.tables_stand (lent coefficients.now powers.now) (List.nodes_of list) ≡ true }
+    ensures last_end_holds { result ≡ Ok tt → Spec.LastEndHolds (lent coefficients.now powers.now) (List.nodes_of list) pixels.new }
 {
     if !valid::valid(list, coefficients, powers) {
-        return Ran {
-            number: refusals::NO_READING,
-            place: 0,
-        };
+        return Err(RunFault::NoReading);
     }
     if pixels.len() % 3 != 0 {
-        return Ran {
-            number: refusals::NOT_THREES,
-            place: 0,
-        };
+        return Err(RunFault::NotThrees);
     }
     let first = pixel_run::first_not_finite(pixels);
     if first < pixels.len() {
-        return Ran {
-            number: refusals::NOT_FINITE,
-            place: first,
-        };
+        return Err(RunFault::NotFinite(first));
     }
     run_all(list, coefficients, powers, pixels);
-    Ran {
-        number: 0,
-        place: 0,
-    }
+    Ok(())
 }

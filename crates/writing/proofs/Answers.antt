@@ -1,5 +1,6 @@
 -- What each way out of the call of writing comes to. Assumes nothing.
 use mathlib.Core.Path.{◌≡◌, refl, sym, ap, ◌∙◌}
+use Rattle.std.specs.Prelude.{Ok}
 use mathlib.Core.Bool.{true, false}
 use mathlib.Core.List.{List, []}
 use Prim.Native.Nat.{ℕ, ◌+◌, ◌≤◌, ◌<◌, ◌^◌}
@@ -17,8 +18,7 @@ use Rattle.text_out.proofs.Laws.{counted-in, puts-is}
 use Rattle.written_form.specs.Written.{joined, list_lines, most_id_bytes, Writing, refused, written, fitting, write_of, output_of}
 use Rattle.written_form.proofs.Short.{list-short}
 use Rattle.written_form.proofs.Order.{list-first, id-second, output-last}
-use Rattle.writing.specs.Writing.{writing_answer, Wrote}
-use Rattle.writing.specs.declared.Written.{Written}
+use Rattle.writing.specs.Writing.{writing_answer, Written, Wrote}
 
 -- ---- a text that has been put from the start of an output on
 pub wrote : {f : List ℕ → List ℕ} {s s' : List ℕ} {r : ℕ} → Puts f 0 s s' r → r < 2 ^ 64 → Wrote (f []) s s' r
@@ -55,11 +55,11 @@ module _ (l : ProcessList) (m : Room) (id out : List ℕ) where
           let k : length out < length text = omega (arith, exact) in
           ends_as (refused 17) r out (output-last l m id (length out) v i ∙ simp (lt-ltb (length out) (length text) k)) e refl
 
-      pub ends-written : (n : ℕ) (out' : List ℕ) (k : ℕ) → n ≡ counted (length text) → n ≤ length out → Wrote text out out' k → Ends (record { number = 0; length = n }) out'
+      pub ends-written : (n : ℕ) (out' : List ℕ) (k : ℕ) → n ≡ counted (length text) → n ≤ length out → Wrote text out out' k → Ends (Ok n) out'
       unfolding fitting
       ends-written n out' k c h w =
           let f : length text ≤ length out = omega (arith, exact) in
           let z : 0 + length text ≡ length text = zero-add (length text) in
-          ends_as (written text) (record { number = 0; length = n }) out' (output-last l m id (length out) v i ∙ simp (le-ltb (length out) (length text) f))
-          (ap (λ (x : ℕ). record { number = 0; length = x }) (c ∙ exact))
+          ends_as (written text) (Ok n) out' (output-last l m id (length out) v i ∙ simp (le-ltb (length out) (length text) f))
+          (ap Ok (c ∙ exact))
           (w.bytes ∙ laid-fits (length out) 0 text out (omega arith) (omega arith) ∙ (rw z))

@@ -6,7 +6,7 @@ ghost use Rattle.text_out.specs.Output.{counted};
 ghost use Rattle.room.specs.Room.{lent};
 ghost use Rattle.valid.specs.Valid.{is_valid, elements_of};
 ghost use Rattle.written_form.specs.Written as Text;
-ghost use Rattle.writing.specs.Writing.{writing_answer, Wrote};
+ghost use Rattle.writing.specs.Writing.{fault_number, writing_answer, Wrote};
 
 mod elements;
 mod names;
@@ -14,17 +14,25 @@ mod numbers;
 
 use process_list::ProcessList;
 
-// What writing answers: a refusal number, 0 for accepted, and how many bytes the text has, 0 where it is refused. The place is always 0.
-#[derive(Clone, Copy)]
-pub struct Written {
-    pub number: u8,
-    pub length: usize,
+// Why a list is not written: list and room are no reading, the id is not right, or the output is shorter than the text.
+#[derive(Clone, Copy, Debug, PartialEq, Eq)]
+pub enum WriteFault {
+    NoReading,
+    WrongId,
+    ShortOutput,
 }
 
-fn refused(number: u8) -> Written
-    ensures { result ≡ writing_answer (Text.refused number) }
-{
-    Written { number, length: 0 }
+impl WriteFault {
+    // The refusal number; its place is always 0.
+    pub fn number(self) -> u8
+        ensures { result ≡ fault_number self }
+    {
+        match self {
+            WriteFault::NoReading => refusals::NO_READING,
+            WriteFault::WrongId => refusals::WRONG_ID,
+            WriteFault::ShortOutput => refusals::SHORT_OUTPUT,
+        }
+    }
 }
 
 // The whole text from the start of the output on; the answer is its length.
@@ -58,27 +66,27 @@ fn text_length(list: ProcessList, coefficients: &[i64], powers: &[i8], id: &[u8]
     put_list(&mut none, list, coefficients, powers, id)
 }
 
-// Writes the list under an id; refused, nothing changes.
+// Writes the list under an id, and answers how many bytes the text has; refused, nothing changes.
 pub fn write(
     list: ProcessList,
     coefficients: &[i64],
     powers: &[i8],
     id: &[u8],
     out: &mut [u8],
-) -> Written
+) -> Result<usize, WriteFault>
     ensures value { result ≡ writing_answer (Text.write_of list (lent coefficients.now powers.now) id.now (length out.old)) }
     ensures out_after { out.new ≡ Text.output_of (Text.write_of list (lent coefficients.now powers.now) id.now (length out.old)) out.old }
 {
     if !valid::valid(list, coefficients, powers) {
-        return refused(refusals::NO_READING);
+        return Err(WriteFault::NoReading);
     }
     if !ids::id_right(id, 64) {
-        return refused(refusals::WRONG_ID);
+        return Err(WriteFault::WrongId);
     }
     let length = text_length(list, coefficients, powers, id);
     if out.len() < length {
-        return refused(refusals::SHORT_OUTPUT);
+        return Err(WriteFault::ShortOutput);
     }
     put_list(out, list, coefficients, powers, id);
-    Written { number: 0, length }
+    Ok(length)
 }

@@ -1,5 +1,4 @@
 use Rattle.check_line.proofs.Answers.{long-input, fit-input}
-use borrow.Author.Rules.{rules}
 use Rattle.check_line.proofs.check_line.Goals as goal
 
 -- By the length. Assumes nothing.

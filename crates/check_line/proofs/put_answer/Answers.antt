@@ -1,12 +1,8 @@
 use Rattle.check_line.proofs.Answers.{accepted-answer, refused-answer}
-use borrow.Author.Rules.{rules}
 use Rattle.check_line.proofs.put_answer.Goals as goal
 
--- By the number. Assumes nothing.
-pub returns-then-number-eq0 : goal.returns-then-number-eq0
-returns-then-number-eq0 c =
-    accepted-answer c.args.answer _ c.if-number-eq0.true c.used-numbers.ensures c.put_two.ensures
+pub returns-in-Ok : goal.returns-in-Ok
+returns-in-Ok c = rw c.in-Ok.is (accepted-answer c.in-Ok.list _ c.used-numbers.ensures c.put_two.ensures)
 
-pub returns : goal.returns
-returns c =
-    refused-answer c.args.answer c.if-number-eq0.false c.put_two-2.ensures
+pub returns-in-Err : goal.returns-in-Err
+returns-in-Err c = rw c.in-Err.is (refused-answer c.in-Err.why c.put_two-in-Err.ensures)

@@ -1,5 +1,4 @@
 use Rattle.text_out.proofs.Laws.{puts_then}
-use borrow.Author.Rules.{rules}
 use Rattle.check_line.proofs.put_two.Goals as goal
 
 -- The pieces, one after the other. Assumes nothing.

@@ -2,7 +2,6 @@ use mathlib.Core.Path.{ap, ◌∙◌}
 use Rattle.room.specs.Room.{room_length}
 use Rattle.check_line.specs.Line.{line_from}
 use Rattle.check_line.proofs.Answers.{answer-text}
-use borrow.Author.Rules.{rules}
 use Rattle.check_line.proofs.read_line.Goals as goal
 
 -- The room has 4,096 numbers. Assumes nothing.

@@ -1,8 +1,10 @@
-use borrow.Author.Rules.{rules}
-use Rattle.clf.specs.Reading.{read_alone}
+use mathlib.Core.Path.{sym, ◌∙◌}
+use Rattle.std.proofs.Common.{Ok, Err}
 use Rattle.clf_c.proofs.Laws.{file-check}
 use Rattle.clf_c.proofs.clf_check_file.Goals as goal
 
--- The check's number and place. Assumes nothing.
-pub returns : goal.returns
-returns c = file-check c.check-c.result (read_alone c.args.file.now) c.check-c.ensures
+pub returns-in-Ok : goal.returns-in-Ok
+returns-in-Ok c = file-check (Ok tt) _ (sym c.in-Ok.is ∙ c.check.ensures)
+
+pub returns-in-Err : goal.returns-in-Err
+returns-in-Err c = rw c.from.ensures (file-check (Err c.in-Err.why) _ (sym c.in-Err.is ∙ c.check.ensures))

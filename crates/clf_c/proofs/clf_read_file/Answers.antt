@@ -1,9 +1,14 @@
-use borrow.Author.Rules.{rules}
-use Rattle.clf_c.proofs.Laws.{file-read}
+use mathlib.Core.Path.{sym, ◌∙◌}
+use Rattle.clf_c.proofs.Laws.{accepted-read, refused-read}
 use Rattle.clf_c.proofs.clf_read_file.Goals as goal
 
--- Reading's number and place, and the counts of its list. Assumes nothing.
-pub returns : goal.returns
-returns c =
-    let r = c.read-answer.ensures in
-    record { answer = file-read _ _ _ _ r.answer c.used.ensures; room = r.room }
+-- Reading's number and place, and the counts of its list.
+pub returns-in-Ok : goal.returns-in-Ok
+returns-in-Ok c =
+    let r = c.read.ensures in
+    record { answer = accepted-read _ _ c.in-Ok.list _ (sym c.in-Ok.is ∙ r.answer) c.used.ensures; room = r.room }
+
+pub returns-in-Err : goal.returns-in-Err
+returns-in-Err c =
+    let r = c.read.ensures in
+    record { answer = refused-read _ _ c.in-Err.why (sym c.in-Err.is ∙ r.answer); room = r.room }

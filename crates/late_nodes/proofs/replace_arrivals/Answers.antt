@@ -1,4 +1,3 @@
-use borrow.Author.Rules.{rules}
 use Rattle.late_nodes.proofs.Whole.{promise}
 use Rattle.late_nodes.proofs.replace_arrivals.Goals as goal
 

@@ -1,5 +1,4 @@
 use Rattle.reading.proofs.Laws.{part-refused, part-found}
-use borrow.Author.Rules.{rules}
 use Rattle.reading.proofs.description_part.Goals as goal
 
 pub returns-in-Ok : goal.returns-in-Ok

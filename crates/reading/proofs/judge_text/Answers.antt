@@ -1,6 +1,5 @@
 use Rattle.std.proofs.lemmas.Result.{err_from_is_err_and}
 use Rattle.reading.specs.Code.{judged_step}
-use borrow.Author.Rules.{rules}
 use Rattle.reading.proofs.judge_text.Goals as goal
 
 pub returns-in-Err : goal.returns-in-Err

@@ -1,7 +1,6 @@
 use mathlib.Core.Path.{sym}
 use Rattle.std.proofs.lemmas.Result.{err_from_is_err_and}
 use Rattle.reading.proofs.Laws.{node-large, node-ill, node-zero, node-beyond, node-well}
-use borrow.Author.Rules.{rules}
 use Rattle.reading.proofs.node_start.Goals as goal
 use Rattle.reading.proofs.node_start.Goals.{then-k-eq0-via-then-k-eq0, then-k-eq0-via-else-k-eq0+then-step-k}
 

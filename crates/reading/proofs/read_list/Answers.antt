@@ -1,7 +1,6 @@
 use mathlib.Core.Path.{sym}
 use Rattle.std.proofs.lemmas.Result.{err_from_is_err_and}
 use Rattle.reading.proofs.Laws.{list-large, list-ill, list-well}
-use borrow.Author.Rules.{rules}
 use Rattle.reading.proofs.read_list.Goals as goal
 
 pub returns-in_err-judge_length : goal.returns-in_err-judge_length

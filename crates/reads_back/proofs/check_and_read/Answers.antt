@@ -1,4 +1,3 @@
-use borrow.Author.Rules.{rules}
 use Rattle.reads_back.proofs.Calls.{checked-read}
 use Rattle.reads_back.proofs.check_and_read.Goals as goal
 

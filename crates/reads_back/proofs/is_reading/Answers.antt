@@ -1,4 +1,3 @@
-use borrow.Author.Rules.{rules}
 use Rattle.reads_back.proofs.Calls.{valid-both}
 use Rattle.reads_back.proofs.is_reading.Goals as goal
 

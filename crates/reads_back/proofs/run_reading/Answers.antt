@@ -1,4 +1,3 @@
-use borrow.Author.Rules.{rules}
 use Rattle.reads_back.proofs.Calls.{run-refuses}
 use Rattle.reads_back.proofs.run_reading.Goals as goal
 

@@ -1,4 +1,3 @@
-use borrow.Author.Rules.{rules}
 use Rattle.reads_back.proofs.Calls.{write-refuses}
 use Rattle.reads_back.proofs.write_reading.Goals as goal
 

@@ -8,7 +8,7 @@ pub loop-i-preserved : goal.loop-i-preserved
 loop-i-preserved c =
     let z = c.loop-i in
     let s = c.args in
-    let t = c.replace_marked-r in
+    let t = c.replace_marked-outcome in
     let least : c.loop-i.i < min (min (min (min (length s.ks.now) (length s.marks.now)) (length s.ends.now)) (length s.numbers.now)) (length s.places.now) =
     omega (arith, c.loop-i-test.true, c.min.ensures, c.min-2.ensures, c.min-3.ensures, c.min-calls.ensures) in (
       simp length-set z.invariant.0,
@@ -17,7 +17,7 @@ loop-i-preserved c =
       omega (arith, t.auto.powers, z.invariant.3),
       turn _ _ s.ks.now s.marks.now s.ends.now s.numbers.now s.places.now s.elements.now _ _ _ _ _ _ _ _ z.invariant.4 (omega (arith, least)) (omega (arith, least))
           (omega (arith, least)) (omega (arith, least)) (omega (arith, least)) (omega (arith, least, z.invariant.0)) (omega (arith, least, z.invariant.1)) _
-          c.part.ensures t.result _ t.ensures,
+          c.part.ensures t.result _ _ t.ensures _ c.told-number.ensures,
     )
 
 pub returns : goal.returns

@@ -1,6 +1,5 @@
 use Rattle.std.proofs.lemmas.Result.{err_from_is_err_and}
 use Rattle.replacing.proofs.Rooms.{code-refused, code-replaced}
-use borrow.Author.Rules.{rules}
 use Rattle.replacing.proofs.replace_node.Goals as goal
 
 pub returns-in_err-judge : goal.returns-in_err-judge

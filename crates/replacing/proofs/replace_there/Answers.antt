@@ -1,7 +1,6 @@
 use mathlib.Core.Path.{sym}
 use Rattle.std.proofs.lemmas.Result.{err_from_is_err_and}
 use Rattle.replacing.proofs.Calls.{call-large, call-small, call-judged}
-use borrow.Author.Rules.{rules}
 use Rattle.replacing.proofs.replace_there.Goals as goal
 
 pub returns-in_err-judge_length : goal.returns-in_err-judge_length

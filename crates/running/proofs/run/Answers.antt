@@ -1,8 +1,8 @@
 use mathlib.Core.Path.{◌≡◌, sym, ◌∙◌}
 use mathlib.Core.Bool.{true, false}
 use mathlib.Core.List.{List}
+use Rattle.std.specs.Prelude.{Ok, Err}
 use Prim.Native.Nat.{ℕ, ◌%◌, ◌≤◌, ◌<◌}
-use native.Mathlib.Omega.{arith}
 use borrow.Author.Tests.{eq-eqb, ne_eqb, lt-ltb, le-ltb}
 use lib.ListN.{length}
 use lib.Ieee.{Float}
@@ -11,8 +11,9 @@ use Rattle.process_list.specs.List.{nodes_of}
 use Rattle.room.specs.Room.{Room, lent}
 use Rattle.valid.specs.Valid.{is_valid}
 use Rattle.pixel_run.specs.Finite.{first_not_finite}
-use Rattle.running.specs.declared.Ran.{Ran}
-use Rattle.running.specs.Running.{tables_stand, LastEndHolds, run_nodes, not_threes, not_finite, ran, ran_of, pixels_of}
+use Rattle.running.specs.declared.RunFault.{RunFault}
+use Rattle.running.specs.declared.RunFault.TheVariants.{NoReading, NotThrees, NotFinite}
+use Rattle.running.specs.Running.{tables_stand, LastEndHolds, run_nodes, not_threes, not_finite, Ran, ran_of, pixels_of}
 use Rattle.running.specs.RunningLaws.{ran-invalid, ran-not-threes, ran-not-finite, ran-accepted, pixels-accepted, pixels-refused}
 use Rattle.running.proofs.Tables.{valid-stand}
 use Rattle.running.proofs.LastEnd.{last_end}
@@ -40,26 +41,26 @@ module _ (l : ProcessList) (m : Room) (xs : List Float) where
   abbrev Answers : Ran → List Float → Type 0
   Answers r ys =
       (r ≡ ran_of l m xs)
-      × ((ys ≡ pixels_of l m xs) × ((r.number ≡ 0 → tables_stand m (nodes_of l) ≡ true) × (r.number ≡ 0 → LastEndHolds m (nodes_of l) ys)))
+      × ((ys ≡ pixels_of l m xs) × ((r ≡ Ok tt → tables_stand m (nodes_of l) ≡ true) × (r ≡ Ok tt → LastEndHolds m (nodes_of l) ys)))
 
-  refused : (number place : ℕ) → (number ≡ 0 → ⊥) → ran_of l m xs ≡ ran number place → Answers (ran number place) xs
-  refused number place k e = (sym e, (sym (pixels-refused l m xs number place k e), (λ z. absurd (k z), λ z. absurd (k z))))
+  refused : (f : RunFault) → ran_of l m xs ≡ Err f → Answers (Err f) xs
+  refused f e = (sym e, (sym (pixels-refused l m xs f e), (λ z. cc, λ z. cc)))
 
-  accepted : is_valid l m ≡ true → (ys : List Float) → ran_of l m xs ≡ ran 0 0 → ys ≡ run_nodes m (nodes_of l) xs → Answers (ran 0 0) ys
+  accepted : is_valid l m ≡ true → (ys : List Float) → ran_of l m xs ≡ Ok tt → ys ≡ run_nodes m (nodes_of l) xs → Answers (Ok tt) ys
   accepted v ys e f = (sym e, (f ∙ sym (pixels-accepted l m xs e), (λ z. valid-stand l m v, λ z. last_end m (nodes_of l) xs ys f)))
 
-  not_valid : is_valid l m ≡ false → Answers (ran 16 0) xs
-  not_valid v = refused 16 0 (λ e. omega arith) (ran-invalid l m xs v)
+  not_valid : is_valid l m ≡ false → Answers (Err NoReading) xs
+  not_valid v = refused NoReading (ran-invalid l m xs v)
 
   module _ (v : is_valid l m ≡ true) where
-    no-threes : (length xs % 3 ≡ 0 → ⊥) → Answers (ran 14 0) xs
-    no-threes h = refused 14 0 (λ e. omega arith) (ran-not-threes l m v xs (some_left xs h))
+    no-threes : (length xs % 3 ≡ 0 → ⊥) → Answers (Err NotThrees) xs
+    no-threes h = refused NotThrees (ran-not-threes l m v xs (some_left xs h))
 
     module _ (h : length xs % 3 ≡ 0) (k : ℕ) (e : k ≡ first_not_finite xs) where
-      first : k < length xs → Answers (ran 15 k) xs
-      first i = refused 15 k (λ e. omega arith) (rw e (ran-not-finite l m v xs (none_left xs h) (found xs k e i)))
+      first : k < length xs → Answers (Err (NotFinite k)) xs
+      first i = refused (NotFinite k) (rw e (ran-not-finite l m v xs (none_left xs h) (found xs k e i)))
 
-      all : (ys : List Float) → length xs ≤ k → ys ≡ run_nodes m (nodes_of l) xs → Answers (ran 0 0) ys
+      all : (ys : List Float) → length xs ≤ k → ys ≡ run_nodes m (nodes_of l) xs → Answers (Ok tt) ys
       all ys i f = accepted v ys (ran-accepted l m v xs (none_left xs h) (not_found xs k e i)) f
 
 pub returns-then-not-valid : goal.returns-then-not-valid

@@ -1,8 +1,7 @@
 use mathlib.Core.Path.{sym, ◌∙◌}
 use Rattle.std.proofs.lemmas.Result.{err_from_is_err_and}
 use Rattle.reading.proofs.Laws.{judged-large, judged-alone}
-use borrow.Author.Rules.{rules}
-use Rattle.reading.proofs.judge_file.Goals as goal
+use Rattle.reading.proofs.check_within.Goals as goal
 
 pub returns-in_err-judge_length : goal.returns-in_err-judge_length
 returns-in_err-judge_length c =

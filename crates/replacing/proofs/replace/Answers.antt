@@ -1,7 +1,6 @@
 use Rattle.std.proofs.lemmas.Result.{err_from_is_err_and}
 use Rattle.replacing.proofs.Calls.{call-refused, call-plain}
-use borrow.Author.Rules.{rules}
-use Rattle.replacing.proofs.replaced.Goals as goal
+use Rattle.replacing.proofs.replace.Goals as goal
 
 pub returns-in_err-kept : goal.returns-in_err-kept
 returns-in_err-kept c =
@@ -9,4 +8,4 @@ returns-in_err-kept c =
     rw (p.1, p.2) (call-refused _ _ _ _ c.in_err-kept.ensures)
 
 pub returns : goal.returns
-returns c = call-plain _ _ _ _ c.in_ok-kept.ensures.0 _ c.in_ok-kept.ensures.1 _ _ c.replace_there.ensures
+returns c = call-plain _ _ _ _ c.in_ok-kept.ensures.0 _ c.in_ok-kept.ensures.1 _ _ _ c.replace_there.ensures

@@ -1,8 +1,7 @@
 use native.Mathlib.Omega.{arith}
 use Rattle.std.proofs.lemmas.Result.{err_from_is_err_and}
 use Rattle.replacing.proofs.Calls.{call-refused, call-late, call-newer}
-use borrow.Author.Rules.{rules}
-use Rattle.replacing.proofs.replaced_numbered.Goals as goal
+use Rattle.replacing.proofs.replace_numbered.Goals as goal
 
 pub returns-in_err-kept : goal.returns-in_err-kept
 returns-in_err-kept c =
@@ -13,4 +12,4 @@ pub returns-then-number-kept : goal.returns-then-number-kept
 returns-then-number-kept c = call-late _ _ _ _ c.in_ok-kept.ensures.0 _ (omega (arith, c.if-number-kept.true, c.in_ok-kept.ensures.1))
 
 pub returns : goal.returns
-returns c = call-newer _ _ _ _ c.in_ok-kept.ensures.0 _ (omega (arith, c.if-number-kept.false, c.in_ok-kept.ensures.1)) _ _ c.replace_there.ensures
+returns c = call-newer _ _ _ _ c.in_ok-kept.ensures.0 _ (omega (arith, c.if-number-kept.false, c.in_ok-kept.ensures.1)) _ _ _ c.replace_there.ensures
