@@ -136,8 +136,10 @@ fn columns_of(text: &[u8]) -> usize
 fn with_digit(n: usize, b: u8) -> usize
     ensures { result ≡ min (n * 10 + (b - 48)) 65537 }
 {
-    let digit = b.saturating_sub(b'0') as usize;
-    n.saturating_mul(10).saturating_add(digit).min(65537)
+    if 65536 < n {
+        return 65537;
+    }
+    (n * 10 + usize::from(b.saturating_sub(b'0'))).min(65537)
 }
 
 // The digits that a text begins with.
@@ -299,9 +301,14 @@ pub fn text_fault(kind: TagKind, name: &[u8], text: &[u8]) -> u8
     match kind {
         TagKind::Plain | TagKind::Value | TagKind::Holder => 0,
         TagKind::MatrixArray => attribute_fault(name, b"dim", either(text, b"3 3", b"3 4")),
-        TagKind::Lut1dArray => attribute_fault(name, b"dim", shape_of(text).is_some()),
+        // An attribute of another name may have a long text, which is not gone over.
+        TagKind::Lut1dArray => {
+            let right = !xml::same(name, b"dim") || shape_of(text).is_some();
+            unless(right, refusals::WRONG_ATTRIBUTE)
+        }
         TagKind::Lut3dArray { interpolation: _ } => {
-            attribute_fault(name, b"dim", points_of(text).is_some())
+            let right = !xml::same(name, b"dim") || points_of(text).is_some();
+            unless(right, refusals::WRONG_ATTRIBUTE)
         }
         TagKind::Matrix => node_text_fault(name, text, 0),
         TagKind::Lut1d => {
