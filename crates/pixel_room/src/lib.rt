@@ -17,7 +17,8 @@ fn number_inside(coefficients: &[i64], powers: &[i8], k: usize) -> f64
     })
 }
 
-// Number k of those that stand from at on.
+// Number k of those that stand from at on. A call of its own: so the two methods of a LUT3D take in what finds an entry's place, and share it.
+#[inline(never)]
 pub fn number_from(coefficients: &[i64], powers: &[i8], at: usize, k: usize) -> f64
     ensures { result ≡ Room.number_at (lent coefficients.now powers.now) (at + k) }
 {
