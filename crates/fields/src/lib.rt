@@ -1,7 +1,7 @@
 #![tactic(auto)]
 
 // Fields of a line of text: words parted by spaces, and the number that a word says.
-ghost use Rattle.std.specs.Prelude.{◌≡◌, ◌≤◌};
+ghost use Rattle.std.specs.Prelude.{◌≡◌, ◌≤◌, eqb};
 ghost use Rattle.fields.specs.Fields.{FirstFrom, field_from, with_digit, word_number};
 
 // Where a field stands in its line: from `start` up to `end`.
@@ -12,7 +12,7 @@ pub struct Field {
 }
 
 // The first place from `at` on whose byte passes the test, or the end of the line.
-pub fn first_from<F: Fn(u8) -> bool>(line: &[u8], at: usize, test: F) -> usize
+fn first_from<F: Fn(u8) -> bool>(line: &[u8], at: usize, test: F) -> usize
     requires { F.IsAlwaysCallable test }
     ensures { FirstFrom (F.post test) line.now at result }
 {
@@ -22,6 +22,13 @@ pub fn first_from<F: Fn(u8) -> bool>(line: &[u8], at: usize, test: F) -> usize
         }
     }
     at.max(line.len())
+}
+
+// The first place from `at` on of this byte, or the end of the line.
+pub fn first_byte(line: &[u8], at: usize, wanted: u8) -> usize
+    ensures { FirstFrom (λ b t. t ≡ eqb b wanted) line.now at result }
+{
+    first_from(line, at, |b| b == wanted)
 }
 
 // The next field from `at` on; an empty one where there is none.

@@ -32,5 +32,5 @@ pub fn last_number(line: &[u8], at: usize) -> Option<usize>
 pub fn line_end(bytes: &[u8], from: usize) -> usize
     ensures { result ≡ Lines.line_end from (drop from bytes.now) }
 {
-    fields::first_from(bytes, from, |b| b == b'\n')
+    fields::first_byte(bytes, from, b'\n')
 }

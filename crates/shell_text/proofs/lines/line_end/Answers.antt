@@ -13,4 +13,4 @@ returns c =
     first-is _ c.args.bytes.now line_end line_end-nil
     (λ at b l t. let e : eqb b 10 ≡ true = grind (arith, common_steps) in rw (line_end-cons, e))
     (λ at b l t. let e : eqb b 10 ≡ false = grind (arith, common_steps) in rw (line_end-cons, e))
-    c.args.from c.first_from.result c.first_from.ensures
+    c.args.from c.first_byte.result c.first_byte.ensures
