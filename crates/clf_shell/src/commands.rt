@@ -3,7 +3,7 @@ use crate::out::{flush, put_answer, put_byte, put_hex};
 use crate::show::put_state;
 use crate::{pixels, writes};
 use process_list::ProcessList;
-use reading::Refused;
+use reading::{list_left, told};
 use shell_text::Command;
 use shell_text::commands::command;
 use std::io;
@@ -20,14 +20,6 @@ pub struct State {
 // Answers a line that is no command.
 fn unknown(rt: &impl Print) -> io::Result<()> {
     rt.write_all(b"?\n")
-}
-
-// The number and the place that are printed for a call: 0 and 0 where it is accepted.
-fn said<T>(answer: &Result<T, Refused>) -> (u8, usize) {
-    match answer {
-        Ok(_) => (0, 0),
-        Err(why) => (why.number, why.place),
-    }
 }
 
 // Answers with the number, the place and the state that a reading or a replacing leaves, in room of this length.
@@ -58,8 +50,8 @@ fn read_file(
 ) -> io::Result<State> {
     let n = room.min(powers.len());
     let answer = reading::read(file, coefficients, &mut powers[..n]);
-    let list = answer.unwrap_or(process_list::empty());
-    print_answer(rt, said(&answer), list, room, coefficients, powers)
+    let list = list_left(&answer);
+    print_answer(rt, told(&answer), list, room, coefficients, powers)
 }
 
 // `P K HEX`: puts the element in the place of node k, in the table room that the list was read into.
@@ -74,7 +66,7 @@ fn replace_by(
     let State { mut list, room } = state;
     let n = room.min(powers.len());
     let answer = replacing::replace(&mut list, coefficients, &mut powers[..n], k, element);
-    print_answer(rt, said(&answer), list, room, coefficients, powers)
+    print_answer(rt, told(&answer), list, room, coefficients, powers)
 }
 
 // `N K NUMBER HEX`: the same by the feed's number.
@@ -91,12 +83,12 @@ fn replace_numbered_by(
     let n = room.min(powers.len());
     let lent = &mut powers[..n];
     let answer = replacing::replace_numbered(&mut list, coefficients, lent, k, number, element);
-    print_answer(rt, said(&answer), list, room, coefficients, powers)
+    print_answer(rt, told(&answer), list, room, coefficients, powers)
 }
 
 // `C HEX`: the file check.
 fn check(rt: &impl Print, file: &[u8]) -> io::Result<()> {
-    let (number, place) = said(&reading::check(file));
+    let (number, place) = told(&reading::check(file));
     let mut buffer = [0u8; 64];
     let a = put_answer(rt, &mut buffer, 0, number, place)?;
     let b = put_byte(rt, &mut buffer, a, b'\n')?;
@@ -106,7 +98,7 @@ fn check(rt: &impl Print, file: &[u8]) -> io::Result<()> {
 // `D K HEX`: the first Description inside node k.
 fn description(rt: &impl Print, file: &[u8], k: usize) -> io::Result<()> {
     let mut buffer = [0u8; 4096];
-    let (number, place) = said(&reading::description_number(file, k));
+    let (number, place) = told(&reading::description_number(file, k));
     let a = put_answer(rt, &mut buffer, 0, number, place)?;
     let b = put_byte(rt, &mut buffer, a, b' ')?;
     let d = put_hex(rt, &mut buffer, b, reading::description(file, k))?;

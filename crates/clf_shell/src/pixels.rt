@@ -52,10 +52,8 @@ fn run_pixels(
     pixels: &mut [f64],
 ) -> io::Result<()> {
     let mut buffer = [0u8; 4096];
-    let a = match running::run(list, coefficients, powers, pixels) {
-        Ok(()) => put_answer(rt, &mut buffer, 0, 0, 0)?,
-        Err(fault) => put_answer(rt, &mut buffer, 0, fault.number(), fault.place())?,
-    };
+    let (number, place) = running::told(running::run(list, coefficients, powers, pixels));
+    let a = put_answer(rt, &mut buffer, 0, number, place)?;
     let b = put_floats(rt, &mut buffer, a, pixels)?;
     let c = put_byte(rt, &mut buffer, b, b'\n')?;
     flush(rt, &buffer, c)

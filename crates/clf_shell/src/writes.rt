@@ -28,15 +28,12 @@ fn write_in(
     powers: &[i8],
 ) -> io::Result<()> {
     let room = length.min(output.len());
-    match writing::write(list, coefficients, powers, id, &mut output[..room]) {
-        Ok(n) => print_text(rt, 0, part(output, 0, n)),
-        Err(fault) => {
-            if is_too_long(fault.number(), room, length) {
-                return rt.write_all(b"too long\n");
-            }
-            print_text(rt, fault.number(), &[])
-        }
+    let wrote = writing::write(list, coefficients, powers, id, &mut output[..room]);
+    let (number, n) = writing::told(wrote);
+    if is_too_long(number, room, length) {
+        return rt.write_all(b"too long\n");
     }
+    print_text(rt, number, part(output, 0, n))
 }
 
 // `W IDHEX OUTLEN`: writes the list under the id into an output of so many bytes.

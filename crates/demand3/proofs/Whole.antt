@@ -11,7 +11,7 @@ use Rattle.process_list.specs.List.{all_numbers, list_of, placed}
 use Rattle.process_list.specs.List as Lists
 use Rattle.room.specs.Room.{Room, room_length, filled_with}
 use Rattle.clf.specs.Reading.{Reading, accepted, faulty, unfit, reading_number, nodes_in, read}
-use Rattle.reading.specs.Code.{Answer, Checked, number_of, checked_of, reading_answer, ReadsInto}
+use Rattle.reading.specs.Code.{Answer, Checked, list_read, number_of, checked_of, reading_answer, ReadsInto}
 use Rattle.look.specs.Look.{Look, room_length_of, as_read, holding}
 use Rattle.look.specs.Replacing.{Call}
 use Rattle.look.specs.Replacing as Replacing
@@ -23,11 +23,6 @@ use Rattle.claims.proofs.Look.{demand3-look}
 use Rattle.replace_run.specs.Runs.{numbers_said, places_said, CallsRun}
 use Rattle.replace_run.proofs.Laws.{length-answers}
 use Rattle.demand3.specs.Demand.{Demand3, ReadAndReplaced}
-
--- the list that a reading leaves: the empty one where it is refused
-abbrev pub list_read : Answer → ProcessList
-list_read (Ok list) = list
-list_read (Err why) = list_of []
 
 -- whether the file was accepted
 abbrev pub said_of : Answer → Checked

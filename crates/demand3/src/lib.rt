@@ -35,7 +35,7 @@ pub fn read_and_replace(
         places.new }
 {
     let answer = reading::read(file, coefficients, powers);
-    let list = answer.unwrap_or(process_list::empty());
+    let list = reading::list_left(&answer);
     let left = replace_run::replace_all(
         list,
         ks,

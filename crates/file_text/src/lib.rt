@@ -107,7 +107,8 @@ fn no_list() -> ListState
     state_by(process_list::empty(), no_progress())
 }
 
-// The content reads so, and has held this.
+// The content reads so, and has held this. A call of its own, so that its copies of the list take no stack while a node is read.
+#[inline(never)]
 fn ended(scan: Scan, list: ProcessList, progress: Progress) -> ListStep
     ensures { result ≡ Code.step scan (Code.state_by list progress) }
 {
@@ -309,11 +310,11 @@ fn text_list(s: &[u8], wanted: usize, coefficients: &mut [i64], powers: &mut [i8
 {
     match around_root::to_root(s) {
         Ok(e) => {
-            let step = root(s, e, wanted, coefficients, powers);
-            match step.scan {
-                Ok(q) => step_of(around_root::epilogue(s, q), step.state),
-                Err(_) => step,
+            let mut step = root(s, e, wanted, coefficients, powers);
+            if let Ok(q) = step.scan {
+                step.scan = around_root::epilogue(s, q);
             }
+            step
         }
         Err(stop) => step_of(Err(stop), no_list()),
     }

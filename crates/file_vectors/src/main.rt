@@ -8,19 +8,12 @@ use std::rt::Files;
 use std::{fs, io, str};
 
 fn print_answer(rt: &impl Print, name: &[u8], answer: Answer) -> io::Result<()> {
+    let (number, place) = reading::told(&answer);
+    let list = reading::list_left(&answer);
+    let nodes = list.count;
+    let numbers = process_list::used(list);
     rt.write_all(name)?;
-    match answer {
-        Ok(list) => {
-            let nodes = list.count;
-            let numbers = process_list::used(list);
-            println!(rt; " 0 0 {nodes} {numbers}")
-        }
-        Err(why) => {
-            let number = why.number;
-            let place = why.place;
-            println!(rt; " {number} {place} 0 0")
-        }
-    }
+    println!(rt; " {number} {place} {nodes} {numbers}")
 }
 
 // Reads a file of at most the buffer's length into the buffer, and answers how many bytes it has; 0 where it cannot be opened, which a line

@@ -24,6 +24,7 @@ use Rattle.room.proofs.Contents.{SliceFrom, filled-length, filled-behind}
 use Rattle.room.proofs.Rooms.{RoomFrom, from-refl, length-at-most, cleared-nothing}
 use Rattle.xml.specs.Code.{Scan}
 use Rattle.std.specs.Prelude.{Ok, Err}
+use Rattle.std.specs.Result.{is_err}
 use Rattle.xml.specs.declared.Stop.TheVariants as Stops
 use Rattle.xml.specs.Code.{scan_out, Inside}
 use Rattle.clf.specs.List.{Document, document, tail}
@@ -182,6 +183,15 @@ list-refused x why m₀ m₁ m₂ n h e z =
       room = z ∙ ap (λ (b : ℕ). cleared_in 0 b m₁) e ∙ cleared-nothing m₀ m₁ h.1 ∙ ap (λ (xs : List Decimal). filled_with xs m₀) (sym a.1);
     }
 
+-- the answer says whether that is to be done
+pub list-cleared : (x : Reading) (r : Answer) (m₀ m₁ m₂ : Room) (n : ℕ) → ListIn x r m₀ m₁ → is_err r ≡ true → n ≡ room_length m₁ → m₂ ≡ cleared_in 0 n m₁ → ReadsInto x r m₀ m₂
+list-cleared x (Ok list) m₀ m₁ m₂ n h q e z = nope cc
+list-cleared x (Err why) m₀ m₁ m₂ n h q e z = list-refused x why m₀ m₁ m₂ n h e z
+
+pub list-kept : (x : Reading) (r : Answer) (m₀ m₁ : Room) → ListIn x r m₀ m₁ → is_err r ≡ false → ReadsInto x r m₀ m₁
+list-kept x (Ok list) m₀ m₁ h q = h
+list-kept x (Err why) m₀ m₁ h q = nope cc
+
 fitting-less : (n : ℕ) (xs : List Decimal) → length (fitting_numbers n xs) ≤ n
 fitting-less n xs = simp length-take (omega arith)
 
@@ -190,7 +200,7 @@ module _ (s : List ℕ) (r : ListStep) (m₀ m₁ : Room) (h : ListReads 0 s r m
   text-judged j q = ap (λ (k : ℕ). checked_of (read_text k s)) (sym e) ∙ sym (judged-is 0 s r m₀ m₁ h n) ∙ q
 
   -- a refused text
-  text-refused : (why : Refused) → judged_step (length s) r n ≡ Err why → ListIn (read_text (room_length m₀) s) (Err why) m₀ m₁
+  pub text-refused : (why : Refused) → judged_step (length s) r n ≡ Err why → ListIn (read_text (room_length m₀) s) (Err why) m₀ m₁
   text-refused why q = (
     text-judged (Err why) q,
     subst (λ (m : Room). RoomFrom 0 m₀ m) (sym h.room) (filled-from (fitting_numbers (room_length m₀) (all_numbers (whole_nodes s))) m₀ (fitting-less (room_length m₀) (all_numbers (whole_nodes s)))),
@@ -216,7 +226,7 @@ module _ (s : List ℕ) (r : ListStep) (m₀ m₁ : Room) (h : ListReads 0 s r m
         ap (λ (l : ProcessList). Ok (Lists.placed_list l)) (state-list 0 s r.state h.state)
         ∙ ap (λ (l : ProcessList). Ok l) (list-placed (whole_nodes s) (omega (arith, well.few)) (omega (arith, well.fits)))
 
-    text-accepted : ListIn (read_text (room_length m₀) s) placed m₀ m₁
+    pub text-accepted : ListIn (read_text (room_length m₀) s) placed m₀ m₁
     text-accepted = subst (λ (x : Reading). ReadsInto x placed m₀ m₁) (sym well.reading) (record { answer = answer-go; room = held })
 
 -- ---- the limit of 16 MiB
@@ -235,11 +245,11 @@ small s q = by (ltb most_bytes (length s)) refl q
     by true e w = nope cc
     by false e w = ltb-false most_bytes (length s) e
 
-read-large : (room : ℕ) (s : List ℕ) → most_bytes < length s → read room s ≡ faulty 4 0
+pub read-large : (room : ℕ) (s : List ℕ) → most_bytes < length s → read room s ≡ faulty 4 0
 unfolding read
 read-large room s h = ap (λ (b : Bool). cond b (faulty 4 0) (read_text room s)) (lt-ltb most_bytes (length s) h)
 
-read_small : (room : ℕ) (s : List ℕ) → length s ≤ most_bytes → read room s ≡ read_text room s
+pub read_small : (room : ℕ) (s : List ℕ) → length s ≤ most_bytes → read room s ≡ read_text room s
 unfolding read
 read_small room s h = ap (λ (b : Bool). cond b (faulty 4 0) (read_text room s)) (le-ltb most_bytes (length s) h)
 

@@ -1,6 +1,6 @@
 -- What reading, the file check and the Description answer, for the code's records.
 use Rattle.process_list.specs.List.{Verdict, all_numbers}
-use Rattle.std.specs.Prelude.{◌≡◌, ◌⊎◌, cond, ◌&&◌, List, ℕ, ◌-◌, ltb, leb}
+use Rattle.std.specs.Prelude.{◌≡◌, ◌⊎◌, cond, ◌&&◌, List, [], ℕ, ◌-◌, ltb, leb}
 use Rattle.process_list.specs.declared.Unfit.TheVariants as Unfits
 use Rattle.process_list.specs.List as Lists
 use Rattle.process_list.specs.declared.ProcessList.{ProcessList}
@@ -51,6 +51,11 @@ unfoldable pub reading_answer : Reading → Answer
 reading_answer (accepted l) = Ok (Lists.list_of (Lists.placed l))
 reading_answer (faulty k p) = refused_at k p
 reading_answer (unfit k p) = refused_at k p
+
+-- the list that a reading leaves: 'A refused reading leaves an empty list'
+abbrev pub list_read : Answer → ProcessList
+list_read (Ok list) = list
+list_read (Err why) = Lists.list_of []
 
 -- the answer of a reading, and the whole of the lent room after it: the numbers in node order, 'the unused rest of the room is zero'; all of it where the reading is refused
 pub record ReadsInto (reading : Reading) (r : Answer) (m₀ m₁ : Room) : Type 0 where

@@ -7,7 +7,7 @@ ghost use Rattle.process_list.specs.List.{unfit_number, unfit_place};
 ghost use Rattle.clf.specs.Reading as Reading;
 ghost use Rattle.clf.specs.Description.{description_part};
 ghost use Rattle.describing.specs.Code.{IsPlace, IsPart};
-ghost use Rattle.reading.specs.Code.{ReadsInto, checked_of, TextAlone, judged_length, judged_step, refused_stop, ListIn, NodeAt};
+ghost use Rattle.reading.specs.Code.{ReadsInto, checked_of, list_read, number_of, place_of, TextAlone, judged_length, judged_step, refused_stop, ListIn, NodeAt};
 
 use describing::Part;
 use file_text::ListStep;
@@ -38,6 +38,26 @@ impl From<Unfit> for Refused {
     }
 }
 
+// The refusal number and the place that an answer says: 0 and 0 where nothing is refused.
+pub fn told<T>(answer: &Result<T, Refused>) -> (u8, usize)
+    ensures { result ≡ (number_of answer.now, place_of answer.now) }
+{
+    match answer {
+        Ok(_) => (0, 0),
+        Err(why) => (why.number, why.place),
+    }
+}
+
+// The list that a reading leaves: where it is refused, the empty one.
+pub fn list_left(answer: &Answer) -> ProcessList
+    ensures { result ≡ list_read answer.now }
+{
+    match answer {
+        Ok(list) => *list,
+        Err(_) => process_list::empty(),
+    }
+}
+
 // Why bytes of this length are refused that do not read.
 pub fn refused_by(stop: Stop, length: usize) -> Refused
     ensures { result ≡ refused_stop length stop }
@@ -64,9 +84,10 @@ pub fn judge_length(bytes: &[u8]) -> Checked
     Ok(())
 }
 
-// What is to be said of a text that reads so, for a room of this length.
-fn judge_text(s: &[u8], step: ListStep, room: usize) -> Checked
-    ensures { result ≡ judged_step (length s.now) step room }
+// What is to be said of a text that reads so, for a room of this length. A call of its own, so that its copies of the list take no stack while the text is read.
+#[inline(never)]
+fn judge_text(s: &[u8], step: &ListStep, room: usize) -> Checked
+    ensures { result ≡ judged_step (length s.now) step.now room }
 {
     if let Err(stop) = step.scan {
         return Err(refused_by(stop, s.len()));
@@ -83,7 +104,7 @@ fn read_list(file: &[u8], coefficients: &mut [i64], powers: &mut [i8]) -> Answer
     judge_length(file)?;
     let length = room::length(coefficients, powers);
     let step = file_text::file_list(file, 0, coefficients, powers);
-    judge_text(file, step, length)?;
+    judge_text(file, &step, length)?;
     Ok(process_list::placed(step.state.list))
 }
 
@@ -92,14 +113,12 @@ pub fn read(file: &[u8], coefficients: &mut [i64], powers: &mut [i8]) -> Answer
     ensures { ReadsInto (Reading.read (room_length (lent coefficients.old powers.old)) file.now) result (lent coefficients.old powers.old)
         (lent coefficients.new powers.new) }
 {
-    match read_list(file, coefficients, powers) {
-        Ok(list) => Ok(list),
-        Err(why) => {
-            let length = room::length(coefficients, powers);
-            room::clear(coefficients, powers, 0, length);
-            Err(why)
-        }
+    let answer = read_list(file, coefficients, powers);
+    if answer.is_err() {
+        let length = room::length(coefficients, powers);
+        room::clear(coefficients, powers, 0, length);
     }
+    answer
 }
 
 // The text of a file without room: how it reads, and what it holds, with the place of the node that is wanted.
@@ -116,7 +135,7 @@ pub fn check_within(file: &[u8], room: usize) -> Checked
     ensures { result ≡ checked_of (Reading.read room file.now) }
 {
     judge_length(file)?;
-    judge_text(file, text_alone(file, 0), room)
+    judge_text(file, &text_alone(file, 0), room)
 }
 
 // Checks a file without room: 13 means over 262,144 numbers.
@@ -132,7 +151,7 @@ fn node_start(file: &[u8], k: usize) -> Result<usize, Refused>
 {
     judge_length(file)?;
     let step = text_alone(file, k);
-    judge_text(file, step, process_list::MOST_NUMBERS)?;
+    judge_text(file, &step, process_list::MOST_NUMBERS)?;
     if k == 0 || step.state.list.count < k {
         return Err(Refused {
             number: refusals::NO_SUCH_NODE,

@@ -4,7 +4,6 @@
 // files and for the order of arrival are the contracts of the crates above.
 ghost use Rattle.std.specs.Prelude.{◌≡◌};
 ghost use Rattle.room.specs.Room.{lent};
-ghost use Rattle.reading.specs.Code.{number_of, place_of};
 ghost use Rattle.replacing.specs.Code.{look_of, Replaced};
 ghost use Rattle.replace_run.specs.Runs as Runs;
 
@@ -18,16 +17,6 @@ fn part(s: &[u8], a: usize, b: usize) -> &[u8]
     let end = b.min(s.len());
     let start = a.min(end);
     &s[start..end]
-}
-
-// The number of a call's answer, 0 where it is accepted, and its place.
-fn told(outcome: Result<(), Refused>) -> (u8, usize)
-    ensures { result ≡ (number_of outcome, place_of outcome) }
-{
-    match outcome {
-        Ok(()) => (0, 0),
-        Err(why) => (why.number, why.place),
-    }
 }
 
 // One replacing call: a numbered one if its mark is below 2^32, and else an unnumbered one.
@@ -82,7 +71,7 @@ pub fn replace_all(
             marks[i],
             part(elements, start, end),
         );
-        let (number, place) = told(outcome);
+        let (number, place) = reading::told(&outcome);
         numbers[i] = number;
         places[i] = place;
         start = end;

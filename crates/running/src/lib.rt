@@ -41,6 +41,16 @@ impl RunFault {
     }
 }
 
+// The refusal number and the place that an answer says: 0 and 0 where the pixels have run.
+pub fn told(ran: Result<(), RunFault>) -> (u8, usize)
+    ensures { result ≡ (Spec.ran_number ran, Spec.ran_place ran) }
+{
+    match ran {
+        Ok(()) => (0, 0),
+        Err(fault) => (fault.number(), fault.place()),
+    }
+}
+
 // A node of this kind whose numbers stand in the room from at on, prepared.
 fn prepared(kind: Kind, at: usize, coefficients: &[i64], powers: &[i8]) -> Prepared
     ensures { result ≡ Spec.prepared_as (lent coefficients.now powers.now) at kind }
@@ -107,7 +117,9 @@ fn run_all(list: ProcessList, coefficients: &[i64], powers: &[i8], pixels: &mut 
 }
 
 // Runs the pixels of the slice, three components a pixel, through the list; refused, nothing changes. Where it is accepted, the table of every LUT1D and LUT3D
-// stands in the room; and where the last node is a Range with one end, nothing that comes out is beyond its limit, or a NaN.
+// stands in the room; and where the last node is a Range with one end, nothing that comes out is beyond its limit, or a NaN. A call of its own: its copies of the list
+// take no stack while a file is read.
+#[inline(never)]
 pub fn run(
     list: ProcessList,
     coefficients: &[i64],

@@ -6,7 +6,7 @@ ghost use Rattle.text_out.specs.Output.{counted};
 ghost use Rattle.room.specs.Room.{lent};
 ghost use Rattle.valid.specs.Valid.{is_valid, elements_of};
 ghost use Rattle.written_form.specs.Written as Text;
-ghost use Rattle.writing.specs.Writing.{fault_number, writing_answer, Wrote};
+ghost use Rattle.writing.specs.Writing.{fault_number, written_number, written_length, writing_answer, Wrote};
 
 mod elements;
 mod names;
@@ -32,6 +32,16 @@ impl WriteFault {
             WriteFault::WrongId => refusals::WRONG_ID,
             WriteFault::ShortOutput => refusals::SHORT_OUTPUT,
         }
+    }
+}
+
+// The refusal number that an answer says, 0 where the list is written, and how many bytes the text has, none where it is refused.
+pub fn told(wrote: Result<usize, WriteFault>) -> (u8, usize)
+    ensures { result ≡ (written_number wrote, written_length wrote) }
+{
+    match wrote {
+        Ok(length) => (0, length),
+        Err(fault) => (fault.number(), 0),
     }
 }
 
