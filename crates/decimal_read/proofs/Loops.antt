@@ -45,7 +45,7 @@ module _ (t : List ℕ) (i : ℕ) (l : i < length t) (b : Bool) (e : b ≡ is_di
       ∙ sym (here t i l)
 
 module _ (t : List ℕ) (at : ℕ) (start h : Held) (i : ℕ) (g : Going t at start h i) where
-  going_more : (b : Bool) → i < length t → b ≡ is_digit (get_or t i 0) → b ≡ true → (n : Held) → n ≡ held_with h (get_or t i 0 - 48) → n.value < 10 ^ 19 → n.dropped ≤ h.dropped + 1
+  pub going_more : (b : Bool) → i < length t → b ≡ is_digit (get_or t i 0) → b ≡ true → (n : Held) → n ≡ held_with h (get_or t i 0 - 48) → n.value < 10 ^ 19 → n.dropped ≤ h.dropped + 1
       → Going t at start n (i + 1)
   going_more b l e q n m s f =
       let d : digits_of (drop i t) ≡ (get_or t i 0 - 48) ∷ digits_of (drop (i + 1) t) = a-digit t i l b e q in
@@ -70,10 +70,10 @@ module _ (t : List ℕ) (at : ℕ) (start h : Held) (i : ℕ) (g : Going t at st
     few = g.few;
   }
 
-  going-stop : (b : Bool) → i < length t → b ≡ is_digit (get_or t i 0) → b ≡ false → RunOf t at start (record { held = h; count = i - at; end = i })
+  pub going-stop : (b : Bool) → i < length t → b ≡ is_digit (get_or t i 0) → b ≡ false → RunOf t at start (record { held = h; count = i - at; end = i })
   going-stop b l e q = ended (no_digit t i l b e q) (behind-none t i l b e q)
 
-  going_end : length t ≤ i → RunOf t at start (record { held = h; count = i - at; end = i })
+  pub going_end : length t ≤ i → RunOf t at start (record { held = h; count = i - at; end = i })
   going_end l = ended (ap digits_of (past t i l) ∙ digits_of-nil) (ap behind_digits (past t i l) ∙ behind_digits-nil ∙ sym (past t i l))
 
 -- what is left to read is the rest of t

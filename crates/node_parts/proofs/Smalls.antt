@@ -1,7 +1,7 @@
 -- The numbers of a small room, one by one. Assumes nothing.
 use mathlib.Core.Path.{◌≡◌, refl, sym, ap, ◌∙◌}
 use mathlib.Core.Bool.{Bool, true, false, cond}
-use mathlib.Core.List.{List, [], ◌∷◌, ◌++◌}
+use mathlib.Core.List.{List, [], ◌∷◌, ◌++◌, map}
 use Prim.Native.Nat.{ℕ, zero, suc, ◌+◌, ◌≤◌, ◌<◌, min}
 use native.Mathlib.Omega.{arith}
 use native.Mathlib.Numerals.{add-one}
@@ -52,6 +52,11 @@ module _ (m : Room) where
 
   pub numbers-at : (k : ℕ) → k < room_length m → get_or (small_numbers m) k Decimals.zero ≡ small_number_at m k
   numbers-at k h = numbers-get k h ∙ number_in m k h
+
+-- a small room that holds these numbers
+pub numbers-map : {A : Type 0} (f : A → Decimal) (l : List A) → numbers_from (map (λ (a : A). (f a).coefficient) l) (map (λ (a : A). (f a).power) l) ≡ map f l
+numbers-map f [] = refl
+numbers-map f (a ∷ l) = ap (λ (m : List Decimal). f a ∷ m) (numbers-map f l)
 
 -- ---- numbers laid in a small room
 

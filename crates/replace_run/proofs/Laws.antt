@@ -157,23 +157,23 @@ module _ (a i : ℕ) (ks ms bs ns ps s : List ℕ) where
   unfolding calls_from
   next p o q t u = rw (drop-cons ks i 0 p, drop-cons ms i 0 o, drop-cons bs i 0 q, drop-cons ns i 0 t, drop-cons ps i 0 u, add-one i) refl
 
-  no_node : length ks ≤ i → calls ≡ []
+  pub no_node : length ks ≤ i → calls ≡ []
   unfolding calls_from
   no_node p = rw (drop_of_length-le ks {i = i} p) refl
 
-  no-mark : i < length ks → length ms ≤ i → calls ≡ []
+  pub no-mark : i < length ks → length ms ≤ i → calls ≡ []
   unfolding calls_from
   no-mark p o = rw (drop-cons ks i 0 p, drop_of_length-le ms {i = i} o) refl
 
-  no_end : i < length ks → i < length ms → length bs ≤ i → calls ≡ []
+  pub no_end : i < length ks → i < length ms → length bs ≤ i → calls ≡ []
   unfolding calls_from
   no_end p o q = rw (drop-cons ks i 0 p, drop-cons ms i 0 o, drop_of_length-le bs {i = i} q) refl
 
-  no_number : i < length ks → i < length ms → i < length bs → length ns ≤ i → calls ≡ []
+  pub no_number : i < length ks → i < length ms → i < length bs → length ns ≤ i → calls ≡ []
   unfolding calls_from
   no_number p o q t = rw (drop-cons ks i 0 p, drop-cons ms i 0 o, drop-cons bs i 0 q, drop_of_length-le ns {i = i} t) refl
 
-  no_place : i < length ks → i < length ms → i < length bs → i < length ns → length ps ≤ i → calls ≡ []
+  pub no_place : i < length ks → i < length ms → i < length bs → i < length ns → length ps ≤ i → calls ≡ []
   unfolding calls_from
   no_place p o q t u = rw (drop-cons ks i 0 p, drop-cons ms i 0 o, drop-cons bs i 0 q, drop-cons ns i 0 t, drop_of_length-le ps {i = i} u) refl
 

@@ -121,7 +121,7 @@ module _ (w : ℕ) (l : ProcessList) (m₀ : Room) (k : ℕ) (node : Node) (e : 
   unfolding listed
   answer-is = by-element l m₀ k e f.callable ∙ ap (by_element room es k e) f.element.out
 
-  node-refused : (why : Unfit) → Err why ≡ judged room (nodes_of next) → ReplacedKeeping w l m₀ k e (refused_at (unfit_number why) (unfit_place why)) l m₀
+  pub node-refused : (why : Unfit) → Err why ≡ judged room (nodes_of next) → ReplacedKeeping w l m₀ k e (refused_at (unfit_number why) (unfit_place why)) l m₀
   node-refused why q =
       leaves-refused l m₀ (numbered_call k w e) (call_in x (plain_call k e)) (unfit_number why) (unfit_place why) (answer-is ∙ ap (replacing_by new) (sym (q ∙ verdict-is)))
 
@@ -195,7 +195,7 @@ module _ (w : ℕ) (l : ProcessList) (m₀ : Room) (k : ℕ) (node : Node) (e : 
       unfolding replacing_answer holding
       held = record { answer = refl; list = list-is; room = room-is m₁ laid_as }
 
-  node-replaced : Ok tt ≡ judged room (nodes_of next) → (m₁ : Room) → Stores l i node e m₀ m₁ → (r : ProcessList) → r ≡ placed_list next
+  pub node-replaced : Ok tt ≡ judged room (nodes_of next) → (m₁ : Room) → Stores l i node e m₀ m₁ → (r : ProcessList) → r ≡ placed_list next
       → ReplacedKeeping w l m₀ k e (Ok tt) r m₁
   node-replaced q m₁ h r t =
       let a : verdict room new ≡ Ok tt = sym (q ∙ verdict-is) in
