@@ -34,6 +34,10 @@ module _ (Tells : ℕ → Bool → Type 0) (s : List ℕ) (place : ℕ → List 
   pub first-is : (at r : ℕ) → FirstFrom Tells s at r → r ≡ place at (drop at s)
   first-is at r f = walk (r - at) at r (omega (arith, f.from)) f
 
+-- the same place by another way to say what the test answers to a byte of s
+pub first-told : {P Q : ℕ → Bool → Type 0} {s : List ℕ} {at r : ℕ} → FirstFrom P s at r → ((k : ℕ) (t : Bool) → k < length s → P (get_or s k 0) t → Q (get_or s k 0) t) → FirstFrom Q s at r
+first-told {r = r} f h = record { from = f.from; within = f.within; before = λ k a b l. h k false l (f.before k a b l); found = λ l. h r true l (f.found l) }
+
 -- a byte that is no digit
 pub digit_none : (s : List ℕ) (n i : ℕ) → i < length s → is_ascii_digit (get_or s i 0) ≡ false → None ≡ number_from n (drop i s)
 digit_none s n i l h = rw (here s i l, number_from-cons) (grind (arith, common_steps))

@@ -1,7 +1,7 @@
 #![tactic(auto)]
 
 // Fields of a line of text: words parted by spaces, and the number that a word says.
-ghost use Rattle.std.specs.Prelude.{◌≡◌, ◌≤◌, eqb};
+ghost use Rattle.std.specs.Prelude.{◌≡◌, ◌≤◌, eqb, false, get_or};
 ghost use Rattle.fields.specs.Fields.{FirstFrom, field_from, with_digit, word_number};
 
 // Where a field stands in its line: from `start` up to `end`.
@@ -12,7 +12,7 @@ pub struct Field {
 }
 
 // The first place from `at` on whose byte passes the test, or the end of the line.
-fn first_from<F: Fn(u8) -> bool>(line: &[u8], at: usize, test: F) -> usize
+fn first_where<F: Fn(u8) -> bool>(line: &[u8], at: usize, test: F) -> usize
     requires { F.IsAlwaysCallable test }
     ensures { FirstFrom (F.post test) line.now at result }
 {
@@ -24,19 +24,27 @@ fn first_from<F: Fn(u8) -> bool>(line: &[u8], at: usize, test: F) -> usize
     at.max(line.len())
 }
 
+// The first place from `at` on of a byte to which a test answers true, or the end of the line. The test is handed in as its answers to the 256 bytes: of a closure
+// a public function would have to ask that it can be called.
+pub fn first_from(line: &[u8], at: usize, answers: &[bool; 256]) -> usize
+    ensures { FirstFrom (λ b t. t ≡ get_or answers.now b false) line.now at result }
+{
+    first_where(line, at, |b| answers[usize::from(b)])
+}
+
 // The first place from `at` on of this byte, or the end of the line.
 pub fn first_byte(line: &[u8], at: usize, wanted: u8) -> usize
     ensures { FirstFrom (λ b t. t ≡ eqb b wanted) line.now at result }
 {
-    first_from(line, at, |b| b == wanted)
+    first_where(line, at, |b| b == wanted)
 }
 
 // The next field from `at` on; an empty one where there is none.
 pub fn next_field(line: &[u8], at: usize) -> Field
     ensures { result ≡ field_from line.now at }
 {
-    let start = first_from(line, at, |b| b != b' ');
-    let end = first_from(line, start, |b| b == b' ');
+    let start = first_where(line, at, |b| b != b' ');
+    let end = first_where(line, start, |b| b == b' ');
     Field { start, end }
 }
 
@@ -63,4 +71,23 @@ pub fn number(word: &[u8]) -> Option<usize>
         n = with_digit(n, b);
     }
     Some(n)
+}
+
+#[cfg(test)]
+mod tests {
+    use super::*;
+
+    #[test]
+    fn first_from_goes_by_the_answers(rt: HostRuntime) {
+        let mut answers = [false; 256];
+        answers[usize::from(b' ')] = true;
+        answers[255] = true;
+        let line = b"red \xFF blue";
+        for (at, place) in [(0, 3), (3, 3), (4, 4), (5, 5), (6, 10), (10, 10), (12, 12)] {
+            assert_eq!(rt; first_from(line, at, &answers), place, "from {at}");
+        }
+        assert_eq!(rt; first_from(b"", 0, &answers), 0);
+        assert_eq!(rt; first_from(line, 0, &[false; 256]), 10);
+        assert_eq!(rt; first_from(line, 0, &[true; 256]), 0);
+    }
 }

@@ -14,10 +14,10 @@ returns c =
     first-is _ c.args.line.now behind_spaces behind_spaces-nil
     (λ at b l t. let e : eqb b 32 ≡ false = grind (arith, common_steps) in rw (behind_spaces-cons, e))
     (λ at b l t. let e : eqb b 32 ≡ true = grind (arith, common_steps) in rw (behind_spaces-cons, e))
-    c.args.at c.first_from-start.result c.first_from-start.ensures in
+    c.args.at c.first_where-start.result c.first_where-start.ensures in
     let z =
     first-is _ c.args.line.now before_space before_space-nil
     (λ at b l t. let e : eqb b 32 ≡ true = grind (arith, common_steps) in rw (before_space-cons, e))
     (λ at b l t. let e : eqb b 32 ≡ false = grind (arith, common_steps) in rw (before_space-cons, e))
-    c.first_from-start.result c.first_from-end.result c.first_from-end.ensures in
+    c.first_where-start.result c.first_where-end.result c.first_where-end.ensures in
     cc
